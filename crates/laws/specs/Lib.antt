@@ -1,0 +1,4 @@
+pub mod Choice
+pub mod Loop
+pub mod Store
+pub mod Lists

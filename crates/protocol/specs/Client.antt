@@ -1,0 +1,98 @@
+-- 01, "Steps" and "Messages received" of a client, and its restart.
+use Prim.Native.Nat.{ℕ, _+_, _-_}
+use mathlib.Core.Bool.{Bool, true, false, cond, not, _&&_, _||_}
+use mathlib.Core.List.{List}
+use lib.Dec.{eqb}
+use lib.ListN.{getD, set}
+use Rattle.laws.specs.Loop.{foldFrom}
+use Rattle.laws.specs.Store.{storeEach, always}
+use Rattle.protocol.specs.declared.message.Message.{Message}
+use Rattle.protocol.specs.declared.message.Payload.{Payload}
+use Rattle.protocol.specs.declared.message.Payload.the-variants.{Same, Value}
+use Rattle.protocol.specs.declared.message.Kind.the-variants.{Renew}
+use Rattle.protocol.specs.declared.records.Copy.{Copy}
+use Rattle.protocol.specs.declared.records.Request.{Request}
+use Rattle.protocol.specs.declared.setup.Setup.{Setup}
+use Rattle.protocol.specs.declared.step.Sweep.{Sweep}
+use Rattle.protocol.specs.declared.step.Sweep.the-variants.{Keep, Expire, Erase}
+use Rattle.protocol.specs.declared.tables.Views.{Views}
+use Rattle.protocol.specs.declared.tables.Tables.{Tables}
+use Rattle.protocol.specs.Setup.{volumeOf}
+use Rattle.protocol.specs.Messages.{message}
+use Rattle.protocol.specs.Tables.{byVolume, viewEpochAt, viewExpiryAt, noCopy}
+use Rattle.protocol.specs.Leases.{clientAlive, clientClock}
+
+-- Step 2: "copy present and both leases alive"
+unfoldable pub showable : Setup → Tables → Copy → ℕ → ℕ → Bool
+showable s t c d o =
+    not (eqb (c .version) 0)
+    && (clientAlive (clientClock t d) (viewExpiryAt t d (volumeOf s o)) && clientAlive (clientClock t d) (c .expiry))
+
+-- Step 3: "take the next number, replace the standing request"
+abbrev pub numbered : Request → ℕ → Request
+numbered r o = record { next = r .next + 1; standing = true; number = r .next; object = o }
+
+-- Step 3: "send RENEW with number, known epoch and held version"
+abbrev pub renewal : Setup → Tables → Copy → Request → ℕ → ℕ → Message
+renewal s t c r d o = message d (Renew o (r .next) (viewEpochAt t d (volumeOf s o)) (c .version))
+
+-- "end the request"
+abbrev pub ended : Request → Request
+ended r = record { next = r .next; standing = false; number = 0; object = 0 }
+
+-- "needs the standing number"
+unfoldable pub stands : Request → ℕ → Bool
+stands r n = r .standing && eqb (r .number) n
+
+-- what the client knows of a volume
+abbrev pub viewed : Views → ℕ → ℕ → ℕ → ℕ → Views
+viewed w d v e x = record { epoch = set (w .epoch) (byVolume d v) e; expiry = set (w .expiry) (byVolume d v) x }
+
+-- ---- GRANT (number n, version w)
+
+-- whether what it says of the value can be stored: "Without a value and with another version held: nothing."
+abbrev pub storable : Copy → ℕ → Payload → Bool
+storable c w Same = eqb (c .version) w
+storable c w (Value x) = true
+
+-- which GRANT is taken: "needs the standing number"
+unfoldable pub grantTaken : Copy → Request → ℕ → ℕ → Payload → Bool
+grantTaken c r n w p = stands r n && storable c w p
+
+abbrev pub payloadOr : ℕ → Payload → ℕ
+payloadOr held Same = held
+payloadOr held (Value x) = x
+
+-- "store its fields": version w and object expiry y
+abbrev pub filled : Copy → ℕ → ℕ → Payload → Copy
+filled c w y p = record { version = w; value = payloadOr (c .value) p; expiry = y }
+
+-- ---- INVALIDATE: "forget a standing request for that object"
+unfoldable pub forgotten : Request → ℕ → Request
+forgotten r o = cond (r .standing && eqb (r .object) o) (ended r) r
+
+-- ---- OFFER, and Step 9: what becomes of each copy of the client, for object o. An OFFER leaves versions and values: "all its object expiries to 0"
+unfoldable pub swept : Setup → Sweep → Copy → ℕ → Copy
+swept s Keep c o = c
+swept s (Expire v) c o = cond (eqb (volumeOf s o) v) (record { version = c .version; value = c .value; expiry = 0 }) c
+swept s Erase c o = noCopy
+
+-- how many copies a sweep goes over
+abbrev pub sweeps : Sweep → ℕ → ℕ
+sweeps Keep n = 0
+sweeps (Expire v) n = n
+sweeps Erase n = n
+
+-- one turn, at place k of a list in which the client's copies begin at `first`
+abbrev pub sweepAt : Setup → Sweep → ℕ → List Copy → ℕ → List Copy
+sweepAt s g first l k = set l k (swept s g (getD l k noCopy) (k - first))
+
+unfoldable pub sweptAll : Setup → Sweep → ℕ → List Copy → List Copy
+sweptAll s g first l = foldFrom (sweepAt s g first) l first (sweeps g (s .objects))
+
+-- Step 9: "only its next request number remains": what the client knows of each volume goes
+unfoldable pub clientRestarted : Setup → Views → ℕ → Views
+clientRestarted s w d = record {
+  epoch = storeEach always (byVolume d) (λ (v : ℕ). 0) (w .epoch) (s .volumes);
+  expiry = storeEach always (byVolume d) (λ (v : ℕ). 0) (w .expiry) (s .volumes);
+}

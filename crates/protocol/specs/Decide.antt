@@ -1,0 +1,128 @@
+-- 01, "Steps" and "Messages received": one step decided, on the tables, the one copy and the one request that it can touch.
+use Prim.Native.Nat.{ℕ, _+_}
+use mathlib.Core.Bool.{Bool, cond}
+use lib.Dec.{eqb}
+use Rattle.protocol.specs.declared.message.Message.{Message}
+use Rattle.protocol.specs.declared.message.Payload.{Payload}
+use Rattle.protocol.specs.declared.message.Kind.{Kind}
+use Rattle.protocol.specs.declared.message.Kind.the-variants.{Renew, Grant, Invalidate, Ack, Offer, Dropped}
+use Rattle.protocol.specs.declared.records.Copy.{Copy}
+use Rattle.protocol.specs.declared.records.Request.{Request}
+use Rattle.protocol.specs.declared.setup.Setup.{Setup}
+use Rattle.protocol.specs.declared.step.Answer.{Answer}
+use Rattle.protocol.specs.declared.step.Answer.the-variants as answer
+use Rattle.protocol.specs.declared.step.Change.{Change}
+use Rattle.protocol.specs.declared.step.Counted.{Counted}
+use Rattle.protocol.specs.declared.step.Decision.{Decision}
+use Rattle.protocol.specs.declared.step.Received.{Received}
+use Rattle.protocol.specs.declared.step.Step.{Step}
+use Rattle.protocol.specs.declared.step.Sweep.the-variants.{Keep, Expire, Erase}
+use Rattle.protocol.specs.declared.tables.Tables.{Tables}
+use Rattle.protocol.specs.Setup.{volumeOf}
+use Rattle.protocol.specs.Messages.{message, messageAt, removed, doubled}
+use Rattle.protocol.specs.Tables.{withViews, withQueue, noCopy}
+use Rattle.protocol.specs.Writes.{settled, writeStaged, clockStaged}
+use Rattle.protocol.specs.Server.{sent, renewed, ackStaged, dropStaged, serverRestarted}
+use Rattle.protocol.specs.Client.{showable, numbered, renewal, ended, stands, viewed, grantTaken, filled, forgotten, clientRestarted}
+use Rattle.protocol.specs.Answers.{completedAnswer}
+use Rattle.protocol.specs.Gate.{isClock, isRead, isAsk, isWrite, isDeliver, isLose, isDouble, isRestartServer, refusal}
+
+abbrev pub kept : Copy → Request → Change
+kept c r = record { copy = c; request = r; sweep = Keep }
+
+abbrev pub uncounted : Tables → Counted
+uncounted t = record { count = 0; tables = t }
+
+-- ---- a message received
+
+-- the server receives: the client's records stay
+abbrev pub byServer : Copy → Request → Counted → Received
+byServer c r n = record { change = kept c r; counted = n }
+
+-- the client receives: no write completes
+abbrev pub byClient : Change → Tables → Received
+byClient g t = record { change = g; counted = uncounted t }
+
+-- GRANT: "store its fields, epoch too, and end the request"
+unfoldable pub grantReceived : Setup → Tables → Copy → Request → ℕ → ℕ → ℕ → ℕ → ℕ → ℕ → ℕ → Payload → Received
+grantReceived s t c r d o n x e w y p =
+    cond (grantTaken c r n w p)
+    (byClient (record { copy = filled c w y p; request = ended r; sweep = Keep }) (withViews t (viewed (t .views) d (volumeOf s o) e x)))
+    (byClient (kept c r) t)
+
+-- INVALIDATE: "erase the copy, forget a standing request for that object, send ACK with the same epoch and new version"
+unfoldable pub invalidateReceived : Tables → Request → ℕ → ℕ → ℕ → ℕ → Received
+invalidateReceived t r d o e w = byClient (record { copy = noCopy; request = forgotten r o; sweep = Keep }) (sent t (message d (Ack o e w)))
+
+-- OFFER: "Take its epoch, set that volume's expiry and all its object expiries to 0, end the request, send DROPPED with that number and epoch."
+unfoldable pub offerReceived : Tables → Copy → Request → ℕ → ℕ → ℕ → ℕ → Received
+offerReceived t c r d v n e =
+    cond (stands r n)
+    (byClient (record { copy = c; request = ended r; sweep = Expire v }) (sent (withViews t (viewed (t .views) d v e 0)) (message d (Dropped v n e))))
+    (byClient (kept c r) t)
+
+unfoldable pub received : Setup → Tables → Copy → Request → ℕ → Kind → Received
+received s t c r d (Renew o n e w) = byServer c r (uncounted (renewed s t d o n e w))
+received s t c r d (Grant o n x e w y p) = grantReceived s t c r d o n x e w y p
+received s t c r d (Invalidate o e w) = invalidateReceived t r d o e w
+received s t c r d (Ack o e w) = byServer c r (settled s (ackStaged s t d o e w))
+received s t c r d (Offer v n e) = offerReceived t c r d v n e
+received s t c r d (Dropped v n e) = byServer c r (settled s (dropStaged s t d v n e))
+
+-- ---- the nine steps
+
+abbrev pub answered : Change → Tables → Answer → Decision
+answered g t a = record { change = g; outcome = record { answer = a; tables = t } }
+
+-- Steps 1 and 4
+abbrev pub counting : Copy → Request → Counted → Decision
+counting c r n = answered (kept c r) (n .tables) (completedAnswer (n .count))
+
+-- Step 2: "shown with its value; else "ask first"" and no table changes
+unfoldable pub readDecided : Setup → Tables → Copy → Request → ℕ → ℕ → Decision
+readDecided s t c r d o =
+    cond (showable s t c d o) (answered (kept c r) t (answer.Shown (c .value))) (answered (kept c r) t answer.AskFirst)
+
+-- Step 3
+unfoldable pub askDecided : Setup → Tables → Copy → Request → ℕ → ℕ → Decision
+askDecided s t c r d o = answered (kept c (numbered r o)) (sent t (renewal s t c r d o)) answer.Done
+
+-- Step 5: "remove the message, then receive it"
+abbrev pub delivered : Message → Received → Decision
+delivered m g = answered (g .change) (g .counted .tables) (answer.Delivered m (g .counted .count))
+
+abbrev pub taken : Tables → ℕ → Tables
+taken t i = withQueue t (removed (t .queue) i)
+
+unfoldable pub deliverDecided : Setup → Tables → Copy → Request → ℕ → Decision
+deliverDecided s t c r i =
+    delivered (messageAt (t .queue) i) (received s (taken t i) c r (messageAt (t .queue) i .client) (messageAt (t .queue) i .kind))
+
+-- Step 9
+unfoldable pub restartDecided : Setup → Tables → Copy → Request → ℕ → Decision
+restartDecided s t c r d =
+    answered (record { copy = c; request = ended r; sweep = Erase }) (withViews t (clientRestarted s (t .views) d)) answer.Done
+
+-- an accepted step, by its kind
+unfoldable pub performed : Setup → Tables → Copy → Request → Step → Decision
+performed s t c r x =
+    cond (isClock x) (counting c r (settled s (clockStaged s t (x .clock))))
+    (cond (isRead x) (readDecided s t c r (x .client) (x .object))
+    (cond (isAsk x) (askDecided s t c r (x .client) (x .object))
+    (cond (isWrite x) (counting c r (settled s (writeStaged s t (x .object) (x .value))))
+    (cond (isDeliver x) (deliverDecided s t c r (x .place))
+    (cond (isLose x) (answered (kept c r) (taken t (x .place)) answer.Done)
+    (cond (isDouble x) (answered (kept c r) (withQueue t (doubled (t .queue) (x .place))) answer.Done)
+    (cond (isRestartServer x) (answered (kept c r) (serverRestarted s t) answer.Done)
+    (restartDecided s t c r (x .client)))))))))
+
+-- "the first "no" gives its number, nothing else, and every lent table and buffer is unchanged"
+abbrev pub refusedWith : Tables → Copy → Request → ℕ → Decision
+refusedWith t c r k = answered (kept c r) t (answer.Refused k)
+
+abbrev pub decidedBy : ℕ → Setup → Tables → Copy → Request → Step → Decision
+decidedBy k s t c r x = cond (eqb k 0) (performed s t c r x) (refusedWith t c r k)
+
+-- one step, on any input whatever; `records` says whether all lent records are sound
+unfoldable pub decided : Setup → Tables → Bool → Copy → Request → Step → Decision
+decided s t records c r x = decidedBy (refusal s t records r x) s t c r x

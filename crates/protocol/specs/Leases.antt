@@ -1,0 +1,26 @@
+-- The tests of time. Whoever proves something about leases uses these names and their laws alone.
+use Prim.Native.Nat.{ℕ}
+use mathlib.Core.Bool.{Bool, not}
+use lib.Dec.{ltb}
+use Rattle.protocol.specs.declared.tables.Tables.{Tables}
+use Rattle.protocol.specs.Tables.{guardAt}
+
+-- "A lease is alive when its expiry is greater than the clock.": by the server's clock
+unfoldable pub serverAlive : ℕ → ℕ → Bool
+serverAlive clock expiry = ltb clock expiry
+
+-- the same by the client's clock
+unfoldable pub clientAlive : ℕ → ℕ → Bool
+clientAlive clock expiry = ltb clock expiry
+
+-- the clock that a client goes by: all share one
+unfoldable pub clientClock : Tables → ℕ → ℕ
+clientClock t d = t .clock
+
+-- "clock at or past guard": no lease from before the last restart is alive
+unfoldable pub guardPassed : Tables → ℕ → Bool
+guardPassed t v = not (serverAlive (t .clock) (guardAt t v))
+
+-- "whose latest end is below the clock"
+unfoldable pub endOver : ℕ → ℕ → Bool
+endOver clock end = ltb end clock

@@ -1,0 +1,15 @@
+pub mod Setup
+pub mod Messages
+pub mod Tables
+pub mod Leases
+pub mod Writes
+pub mod Server
+pub mod Client
+pub mod Sound
+pub mod Answers
+pub mod Gate
+pub mod Decide
+pub mod World
+pub mod Ledger
+pub mod Agreement
+pub mod Edges

@@ -1,0 +1,183 @@
+-- 01, "Messages received" by the server, and its restart.
+use Prim.Native.Nat.{ℕ, _+_}
+use mathlib.Core.Bool.{Bool, true, false, cond, not, _&&_, _||_}
+use lib.Dec.{ltb, leb, eqb}
+use lib.ListN.{getD, set, replicate}
+use Rattle.laws.specs.Loop.{firstFrom}
+use Rattle.laws.specs.Store.{storeEach, always}
+use Rattle.protocol.specs.declared.message.Message.{Message}
+use Rattle.protocol.specs.declared.message.Payload.{Payload}
+use Rattle.protocol.specs.declared.message.Payload.the-variants.{Same, Value}
+use Rattle.protocol.specs.declared.message.Kind.the-variants.{Grant, Offer}
+use Rattle.protocol.specs.declared.setup.Setup.{Setup}
+use Rattle.protocol.specs.declared.tables.Volumes.{Volumes}
+use Rattle.protocol.specs.declared.tables.Sessions.{Sessions}
+use Rattle.protocol.specs.declared.tables.Objects.{Objects}
+use Rattle.protocol.specs.declared.tables.Holders.{Holders}
+use Rattle.protocol.specs.declared.tables.Tables.{Tables}
+use Rattle.protocol.specs.Setup.{volumeOf}
+use Rattle.protocol.specs.Messages.{message, pushed}
+use Rattle.protocol.specs.Tables.{byVolume, byObject, epochAt, seenAt, unreachableAt, offerAt, valueAt, versionAt, standingAt, waitingAt, withVolumes, withSessions, withObjects, withHolders, withQueue, freshSessions, freshHolders}
+use Rattle.protocol.specs.Writes.{Staged, unstaged, invalidation, ready, marked}
+
+-- one message sent
+abbrev pub sent : Tables → Message → Tables
+sent t m = withQueue t (pushed (t .queue) m)
+
+-- ---- RENEW (object o, number n, known epoch e, held version w) of client d
+
+-- "Otherwise note it"
+unfoldable pub noted : Tables → ℕ → ℕ → Tables
+noted t d n = withSessions t (record {
+  seen = set (t .sessions .seen) d n;
+  expiry = t .sessions .expiry;
+  unreachable = t .sessions .unreachable;
+  offer = t .sessions .offer;
+})
+
+-- "mark unreachable, offer number := number"
+unfoldable pub offered : Tables → ℕ → ℕ → ℕ → Tables
+offered t d v n = withSessions t (record {
+  seen = t .sessions .seen;
+  expiry = t .sessions .expiry;
+  unreachable = marked (t .sessions .unreachable) d v;
+  offer = set (t .sessions .offer) (byVolume d v) n;
+})
+
+-- ".. send OFFER"
+abbrev pub offering : Tables → ℕ → ℕ → ℕ → Message
+offering t d v n = message d (Offer v n (epochAt t v))
+
+-- "Dash waited for in this volume": whether o is of volume v, and its standing write waits for d
+abbrev pub waitedIn : Setup → Tables → ℕ → ℕ → ℕ → Bool
+waitedIn s t d v o = eqb (volumeOf s o) v && (standingAt t o && waitingAt t d o)
+
+-- "its lowest such object", or the number of objects where there is none
+unfoldable pub lowestWaited : Setup → Tables → ℕ → ℕ → ℕ
+lowestWaited s t d v = firstFrom (waitedIn s t d v) 0 (s .objects)
+
+-- "volume expiry and VE := clock + tv"
+unfoldable pub volumeRenewed : Setup → Tables → ℕ → ℕ → Tables
+volumeRenewed s t d v =
+    withVolumes
+    (withSessions t (record {
+      seen = t .sessions .seen;
+      expiry = set (t .sessions .expiry) (byVolume d v) (t .clock + s .tv);
+      unreachable = t .sessions .unreachable;
+      offer = t .sessions .offer;
+    }))
+    (record { epoch = t .volumes .epoch; expiry = set (t .volumes .expiry) v (t .clock + s .tv); guard = t .volumes .guard })
+
+-- "object expiry and OE := clock + t"
+unfoldable pub objectRenewed : Setup → Tables → ℕ → ℕ → Tables
+objectRenewed s t d o =
+    withObjects
+    (withHolders t (record { lease = set (t .holders .lease) (byObject d o) (t .clock + s .t); waiting = t .holders .waiting }))
+    (record {
+      value = t .objects .value;
+      version = t .objects .version;
+      expiry = set (t .objects .expiry) o (t .clock + s .t);
+      standing = t .objects .standing;
+      pending = t .objects .pending;
+      end = t .objects .end;
+    })
+
+-- "with value unless versions are equal"
+abbrev pub payloadFor : Tables → ℕ → ℕ → Payload
+payloadFor t o w = cond (eqb (versionAt t o) w) Same (Value (valueAt t o))
+
+-- "send GRANT"
+abbrev pub granting : Setup → Tables → ℕ → ℕ → ℕ → ℕ → Message
+granting s t d o n w =
+    message d (Grant o n (t .clock + s .tv) (epochAt t (volumeOf s o)) (versionAt t o) (t .clock + s .t) (payloadFor t o w))
+
+unfoldable pub granted : Setup → Tables → ℕ → ℕ → ℕ → ℕ → Tables
+granted s t d o n w = sent (objectRenewed s (volumeRenewed s t d (volumeOf s o)) d o) (granting s t d o n w)
+
+-- "Epoch differs or dash unreachable": no lease before the client has dropped what it holds
+unfoldable pub mustDrop : Tables → ℕ → ℕ → ℕ → Bool
+mustDrop t d v e = not (eqb e (epochAt t v)) || unreachableAt t d v
+
+-- "take the first rule that fits"
+unfoldable pub renewedBy : Setup → Tables → ℕ → ℕ → ℕ → ℕ → ℕ → Tables
+renewedBy s t d o n e w =
+    cond (mustDrop t d (volumeOf s o) e) (sent (offered t d (volumeOf s o) n) (offering t d (volumeOf s o) n))
+    (cond (ltb (lowestWaited s t d (volumeOf s o)) (s .objects)) (sent t (invalidation s t (lowestWaited s t d (volumeOf s o)) d))
+    (cond (standingAt t o) t (granted s t d o n w)))
+
+-- "number not above the highest seen: nothing"
+unfoldable pub renewed : Setup → Tables → ℕ → ℕ → ℕ → ℕ → ℕ → Tables
+renewed s t d o n e w = cond (leb n (seenAt t d)) t (renewedBy s (noted t d n) d o n e w)
+
+-- ---- ACK (object o, epoch e, new version w) of client d
+
+-- "needs a standing write, its epoch and its new version"
+unfoldable pub ackTaken : Setup → Tables → ℕ → ℕ → ℕ → Bool
+ackTaken s t o e w = standingAt t o && (eqb e (epochAt t (volumeOf s o)) && eqb w (versionAt t o + 1))
+
+-- "Clear that dash's object lease and its waiting"
+unfoldable pub acked : Tables → ℕ → ℕ → Tables
+acked t d o = withHolders t (record { lease = set (t .holders .lease) (byObject d o) 0; waiting = set (t .holders .waiting) (byObject d o) false })
+
+-- "complete if none waits and the clock is at or past guard"
+unfoldable pub ackStaged : Setup → Tables → ℕ → ℕ → ℕ → ℕ → Staged
+ackStaged s t d o e w = cond (ackTaken s t o e w) (record { tables = acked t d o; test = ready s; from = o; many = 1 }) (unstaged t)
+
+-- ---- DROPPED (volume v, number n, epoch e) of client d
+
+-- "needs the epoch and a nonzero equal offer number"
+unfoldable pub dropTaken : Tables → ℕ → ℕ → ℕ → ℕ → Bool
+dropTaken t d v n e = eqb e (epochAt t v) && (not (eqb n 0) && eqb n (offerAt t d v))
+
+abbrev pub ofVolume : Setup → ℕ → ℕ → Bool
+ofVolume s v o = eqb (volumeOf s o) v
+
+-- what a DROPPED leaves of the client's object leases in the volume, and of its waiting there: none
+unfoldable pub disowned : Setup → Tables → ℕ → ℕ → Holders
+disowned s t d v = record {
+  lease = storeEach (ofVolume s v) (byObject d) (λ (o : ℕ). 0) (t .holders .lease) (s .objects);
+  waiting = storeEach (ofVolume s v) (byObject d) (λ (o : ℕ). false) (t .holders .waiting) (s .objects);
+}
+
+-- "Clear the dash's leases in the volume, mark, offer and waiting there"
+unfoldable pub dropped : Setup → Tables → ℕ → ℕ → Tables
+dropped s t d v =
+    withHolders
+    (withSessions t (record {
+      seen = t .sessions .seen;
+      expiry = set (t .sessions .expiry) (byVolume d v) 0;
+      unreachable = set (t .sessions .unreachable) (byVolume d v) false;
+      offer = set (t .sessions .offer) (byVolume d v) 0;
+    }))
+    (disowned s t d v)
+
+abbrev pub readyIn : Setup → ℕ → Tables → ℕ → Bool
+readyIn s v t o = ofVolume s v o && ready s t o
+
+-- "then, in object order, complete each standing write of the volume on ACK's condition"
+unfoldable pub dropStaged : Setup → Tables → ℕ → ℕ → ℕ → ℕ → Staged
+dropStaged s t d v n e =
+    cond (dropTaken t d v n e) (record { tables = dropped s t d v; test = readyIn s v; from = 0; many = s .objects }) (unstaged t)
+
+-- ---- Step 8: "values, versions, VE remain; every epoch grows by 1; guard becomes VE; its other fields become fresh. Messages remain."
+-- The slots past the counts: guard becomes VE there too, and epochs stay
+unfoldable pub serverRestarted : Setup → Tables → Tables
+serverRestarted s t =
+    withHolders
+    (withObjects
+    (withSessions
+    (withVolumes t (record {
+      epoch = storeEach always (λ (v : ℕ). v) (λ (v : ℕ). epochAt t v + 1) (t .volumes .epoch) (s .volumes);
+      expiry = t .volumes .expiry;
+      guard = t .volumes .expiry;
+    }))
+    freshSessions)
+    (record {
+      value = t .objects .value;
+      version = t .objects .version;
+      expiry = replicate 32 0;
+      standing = replicate 32 false;
+      pending = replicate 32 0;
+      end = replicate 32 0;
+    }))
+    freshHolders

@@ -1,0 +1,30 @@
+-- 01, "Tables", Setup: what is in range.
+use Prim.Native.Nat.{ℕ}
+use mathlib.Core.Bool.{Bool, cond, _&&_}
+use lib.Dec.{ltb, leb, eqb}
+use lib.ListN.{getD}
+use Rattle.laws.specs.Loop.{allFrom}
+use Rattle.protocol.specs.declared.setup.Setup.{Setup}
+
+-- low ≤ n ≤ high
+abbrev pub between : ℕ → ℕ → ℕ → Bool
+between low high n = leb low n && leb n high
+
+-- "each object's volume"
+abbrev pub volumeOf : Setup → ℕ → ℕ
+volumeOf s o = getD (s .volume) o 0
+
+-- an object's volume exists, and a slot past the objects holds 0
+abbrev pub volumeFits : Setup → ℕ → Bool
+volumeFits s o = cond (ltb o (s .objects)) (ltb (volumeOf s o) (s .volumes)) (eqb (volumeOf s o) 0)
+
+-- "1 to 16 dashes, 1 to 8 volumes, 1 to 32 objects; each object's volume (0 past the count); tv 1 to 3,600; t 1 to 1,000,000; m 1 to 60"
+unfoldable pub inRange : Setup → Bool
+inRange s =
+    between 1 16 (s .clients)
+    && between 1 8 (s .volumes)
+    && between 1 32 (s .objects)
+    && between 1 3600 (s .tv)
+    && between 1 1000000 (s .t)
+    && between 1 60 (s .m)
+    && allFrom (volumeFits s) 0 32

@@ -1,0 +1,147 @@
+-- 01, "Steps": accepting a write, completing it, and which writes a step completes.
+use Prim.Native.Nat.{ℕ, zero, suc, _+_, min, max}
+use mathlib.Core.Bool.{Bool, true, false, cond, not, _&&_, _||_}
+use mathlib.Core.List.{List, [], _∷_}
+use lib.ListN.{getD, set}
+use Rattle.laws.specs.Loop.{foldFrom, anyFrom}
+use Rattle.laws.specs.Store.{storeEach, always}
+use Rattle.protocol.specs.declared.message.Message.{Message}
+use Rattle.protocol.specs.declared.message.Queue.{Queue}
+use Rattle.protocol.specs.declared.message.Kind.the-variants.{Invalidate}
+use Rattle.protocol.specs.declared.setup.Setup.{Setup}
+use Rattle.protocol.specs.declared.step.Counted.{Counted}
+use Rattle.protocol.specs.declared.tables.Objects.{Objects}
+use Rattle.protocol.specs.declared.tables.Sessions.{Sessions}
+use Rattle.protocol.specs.declared.tables.Holders.{Holders}
+use Rattle.protocol.specs.declared.tables.Tables.{Tables}
+use Rattle.protocol.specs.Setup.{volumeOf}
+use Rattle.protocol.specs.Messages.{message, pushed}
+use Rattle.protocol.specs.Tables.{byVolume, byObject, epochAt, volumeExpiryAt, guardAt, sessionExpiryAt, unreachableAt, versionAt, objectExpiryAt, standingAt, pendingAt, endAt, leaseAt, waitingAt, withClock, withSessions, withObjects, withHolders, withQueue}
+use Rattle.protocol.specs.Leases.{serverAlive, guardPassed, endOver}
+
+-- Step 4: "Waiting are the dashes whose object lease is alive and which either are not marked unreachable or have a live volume lease."
+unfoldable pub waits : Setup → Tables → ℕ → ℕ → Bool
+waits s t o d =
+    serverAlive (t .clock) (leaseAt t d o)
+    && (not (unreachableAt t d (volumeOf s o)) || serverAlive (t .clock) (sessionExpiryAt t d (volumeOf s o)))
+
+-- Step 4: "latest end is the greatest of clock + m, the lesser of VE and OE, and guard"
+unfoldable pub latestEnd : Setup → Tables → ℕ → ℕ
+latestEnd s t o = max (max (t .clock + s .m) (min (volumeExpiryAt t (volumeOf s o)) (objectExpiryAt t o))) (guardAt t (volumeOf s o))
+
+-- the write of x stands, with its latest end and its waiting clients
+unfoldable pub opened : Setup → Tables → ℕ → ℕ → Objects
+opened s t o x = record {
+  value = t .objects .value;
+  version = t .objects .version;
+  expiry = t .objects .expiry;
+  standing = set (t .objects .standing) o true;
+  pending = set (t .objects .pending) o x;
+  end = set (t .objects .end) o (latestEnd s t o);
+}
+
+unfoldable pub awaited : Setup → Tables → ℕ → Holders
+awaited s t o = record {
+  lease = t .holders .lease;
+  waiting = storeEach always (λ (d : ℕ). byObject d o) (waits s t o) (t .holders .waiting) (s .clients);
+}
+
+abbrev pub begun : Setup → Tables → ℕ → ℕ → Tables
+begun s t o x = withHolders (withObjects t (opened s t o x)) (awaited s t o)
+
+-- an INVALIDATE carries the epoch and the new version
+abbrev pub invalidation : Setup → Tables → ℕ → ℕ → Message
+invalidation s t o d = message d (Invalidate o (epochAt t (volumeOf s o)) (versionAt t o + 1))
+
+-- Step 4: "Send each INVALIDATE in dash order."
+abbrev pub notify : Setup → Tables → ℕ → Queue → ℕ → Queue
+notify s t o q d = cond (waitingAt t d o) (pushed q (invalidation s t o d)) q
+
+unfoldable pub notified : Setup → Tables → ℕ → Queue
+notified s t o = foldFrom (notify s t o) (t .queue) 0 (s .clients)
+
+-- whether the write of o waits for a client
+unfoldable pub waited : Setup → Tables → ℕ → Bool
+waited s t o = anyFrom (λ (d : ℕ). waitingAt t d o) 0 (s .clients)
+
+-- Step 4: "Complete if none waits and the clock is at or past guard."
+unfoldable pub ready : Setup → Tables → ℕ → Bool
+ready s t o = standingAt t o && (not (waited s t o) && guardPassed t (volumeOf s o))
+
+-- Step 1: "no waiting dash and clock at or past guard, or whose latest end is below the clock"
+unfoldable pub due : Setup → Tables → ℕ → Bool
+due s t o = standingAt t o && (not (waited s t o) && guardPassed t (volumeOf s o) || endOver (t .clock) (endAt t o))
+
+-- a client marked unreachable in a volume
+abbrev pub marked : List Bool → ℕ → ℕ → List Bool
+marked l d v = set l (byVolume d v) true
+
+-- "marks still waiting dashes unreachable"
+abbrev pub markIfWaiting : Setup → Tables → ℕ → List Bool → ℕ → List Bool
+markIfWaiting s t o l d = cond (waitingAt t d o) (marked l d (volumeOf s o)) l
+
+unfoldable pub deserted : Setup → Tables → ℕ → Sessions
+deserted s t o = record {
+  seen = t .sessions .seen;
+  expiry = t .sessions .expiry;
+  unreachable = foldFrom (markIfWaiting s t o) (t .sessions .unreachable) 0 (s .clients);
+  offer = t .sessions .offer;
+}
+
+-- "stores the value, adds 1 to the version, .. and ends the standing write"; OE stays
+unfoldable pub posted : Tables → ℕ → Objects
+posted t o = record {
+  value = set (t .objects .value) o (pendingAt t o);
+  version = set (t .objects .version) o (versionAt t o + 1);
+  expiry = t .objects .expiry;
+  standing = set (t .objects .standing) o false;
+  pending = set (t .objects .pending) o 0;
+  end = set (t .objects .end) o 0;
+}
+
+-- "clears every dash's server lease on that object"; nobody is waited for any more
+unfoldable pub released : Setup → Tables → ℕ → Holders
+released s t o = record {
+  lease = storeEach always (λ (d : ℕ). byObject d o) (λ (d : ℕ). 0) (t .holders .lease) (s .clients);
+  waiting = storeEach always (λ (d : ℕ). byObject d o) (λ (d : ℕ). false) (t .holders .waiting) (s .clients);
+}
+
+-- "Completing stores the value, adds 1 to the version, marks still waiting dashes unreachable, clears every dash's server lease on that object and ends the standing write."
+unfoldable pub completed : Setup → Tables → ℕ → Tables
+completed s t o = withSessions (withHolders (withObjects t (posted t o)) (released s t o)) (deserted s t o)
+
+-- What a step leaves before it completes writes, and the objects that it then goes through in their order: those of `many` from `from` on whose
+-- write passes `test` complete
+pub record Staged : Type 0 where
+  pub tables : Tables
+  pub test : Tables → ℕ → Bool
+  pub from : ℕ
+  pub many : ℕ
+
+-- a step that completes nothing
+abbrev pub unstaged : Tables → Staged
+unstaged t = record { tables = t; test = λ u o. false; from = 0; many = 0 }
+
+abbrev pub completeIf : (Tables → ℕ → Bool) → Setup → Counted → ℕ → Counted
+completeIf test s c o = cond (test (c .tables) o) (record { count = c .count + 1; tables = completed s (c .tables) o }) c
+
+-- the tables after that, and how many writes completed
+unfoldable pub settled : Setup → Staged → Counted
+settled s g = foldFrom (completeIf (g .test) s) (record { count = 0; tables = g .tables }) (g .from) (g .many)
+
+-- which writes completed, in order: what the ledger of a run goes by
+unfoldable pub settling : (Tables → ℕ → Bool) → Setup → Tables → ℕ → ℕ → List ℕ
+settling test s t j zero = []
+settling test s t j (suc n) =
+    cond (test t j) (j ∷ settling test s (completed s t j) (j + 1) n) (settling test s t (j + 1) n)
+
+-- Step 4
+unfoldable pub written : Setup → Tables → ℕ → ℕ → Tables
+written s t o x = withQueue (begun s t o x) (notified s (begun s t o x) o)
+
+abbrev pub writeStaged : Setup → Tables → ℕ → ℕ → Staged
+writeStaged s t o x = record { tables = written s t o x; test = ready s; from = o; many = 1 }
+
+-- Step 1: "In object order, complete each standing write .."
+abbrev pub clockStaged : Setup → Tables → ℕ → Staged
+clockStaged s t x = record { tables = withClock t x; test = due s; from = 0; many = s .objects }
