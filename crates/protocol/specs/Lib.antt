@@ -13,3 +13,4 @@ pub mod World
 pub mod Ledger
 pub mod Agreement
 pub mod Edges
+pub mod Safety

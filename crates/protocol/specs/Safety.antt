@@ -1,0 +1,3 @@
+-- Every copy shown is current: an inductive invariant of all runs, and that each step keeps it.
+pub mod Invariant
+pub mod Tools
