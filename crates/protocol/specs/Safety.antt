@@ -1,3 +1,7 @@
 -- Every copy shown is current: an inductive invariant of all runs, and that each step keeps it.
 pub mod Invariant
 pub mod Tools
+pub mod Sending
+pub mod Requests
+pub mod Taking
+pub mod Clients
