@@ -12,4 +12,5 @@ pub mod Decide
 pub mod World
 pub mod Ledger
 pub mod Agreement
+pub mod Soundness
 pub mod Edges
