@@ -4,4 +4,9 @@ pub mod Tools
 pub mod Sending
 pub mod Requests
 pub mod Taking
-pub mod Clients
+pub mod Sweeping
+pub mod Granting
+pub mod Asking
+pub mod Invalidating
+pub mod Offering
+pub mod ClientRestart

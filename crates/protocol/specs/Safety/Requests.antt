@@ -27,7 +27,7 @@ pub record Moves (before after : List Request) : Type 0 where
   pub object : (d n : ℕ) → n < requestAt before d .next → Stands after d n → requestAt after d .object ≡ requestAt before d .object
 
 module _ (s : Setup) (w : World) (inv : Inv s w) (requests : List Request) (moves : Moves (w .requests) requests) where
-  header : (d v n e : ℕ) → Header (w .tables .volumes .epoch) (w .tables .sessions .seen) (w .requests) d v n e
+  pub header : (d v n e : ℕ) → Header (w .tables .volumes .epoch) (w .tables .sessions .seen) (w .requests) d v n e
       → Header (w .tables .volumes .epoch) (w .tables .sessions .seen) requests d v n e
   header d v n e h = record { reached = h .reached; taken = omega (arith, h .taken, moves .next d); noticed = h .noticed }
 

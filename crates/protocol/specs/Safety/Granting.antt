@@ -1,4 +1,4 @@
--- A client receives a GRANT, an OFFER or an INVALIDATE, asks, or restarts.
+-- A client takes a GRANT: what it then knows is covered, as the GRANT was while under way.
 use Prim.Native.Nat.{ℕ, _+_, _*_, _<_, _≤_}
 use native.Mathlib.Omega.{arith}
 use mathlib.Core.Bool.{Bool, true, false}

@@ -1,0 +1,80 @@
+-- A client restarts: it knows and holds nothing, and asks nothing.
+use Prim.Native.Nat.{ℕ, _+_, _*_, _<_, _≤_}
+use native.Mathlib.Omega.{arith}
+use mathlib.Core.Bool.{Bool, true, false}
+use mathlib.Core.List.{List}
+use mathlib.Core.Path.{_≡_, refl, sym, ap, _∙_}
+use lib.ListN.{length, getD, set}
+use Rattle.laws.specs.Store.{storeEach, always, store-hit, store-other}
+use Rattle.protocol.specs.declared.records.Copy.{Copy}
+use Rattle.protocol.specs.declared.setup.Setup.{Setup}
+use Rattle.protocol.specs.declared.step.Sweep.the-variants.{Erase}
+use Rattle.protocol.specs.Tables.{byVolume, withViews, noCopy}
+use Rattle.protocol.specs.Client.{ended, swept, sweptAll, clientRestarted}
+use Rattle.protocol.specs.World.{World}
+use Rattle.protocol.specs.Soundness.Steps.{Ranges}
+use Rattle.protocol.specs.Soundness.Shape.{WorldShape}
+use Rattle.protocol.specs.Safety.Invariant.{Inv, copyAt, requestAt}
+use Rattle.protocol.specs.Safety.Requests.{requesting, request-ends, ended-idle}
+use Rattle.protocol.specs.Safety.Taking.{Others, Own, covered-empty, taken}
+use Rattle.protocol.specs.Safety.Sweeping.{swept-own, swept-other}
+
+module _ (s : Setup) (range : Ranges s) (w : World) (inv : Inv s w) (shape : WorldShape s w) (d : ℕ) (hd : d < s .clients) where
+  abbrev zeroed : List ℕ → List ℕ
+  zeroed l = storeEach always (byVolume d) (λ (v : ℕ). 0) l (s .volumes)
+
+  abbrev copies : List Copy
+  copies = sweptAll s Erase (d * s .objects) (w .copies)
+
+  below-8 : (u : ℕ) → u < s .volumes → u < 8
+  below-8 u h = let b = range .volumes .1 in omega arith
+
+  here : d < length (w .requests)
+  here = rw (shape .requests) hd
+
+  zero-own : (l : List ℕ) → length l ≡ 128 → (u : ℕ) → u < s .volumes → getD (zeroed l) (byVolume d u) 0 ≡ 0
+  zero-own l n u h =
+      let a = below-8 u h in
+      let b = range .clients .1 in
+      store-hit always (byVolume d) (λ (v : ℕ). 0) (λ i j e. omega arith) l (s .volumes) u 0 h refl (omega arith)
+
+  zero-other : (l : List ℕ) (k u : ℕ) → (k ≡ d → ⊥) → u < s .volumes → getD (zeroed l) (byVolume k u) 0 ≡ getD l (byVolume k u) 0
+  zero-other l k u m h =
+      let a = below-8 u h in
+      store-other always (byVolume d) (λ (v : ℕ). 0) l (s .volumes) (byVolume k u) 0 (λ i j c e. let b = below-8 i j in m (omega arith))
+
+  gone : (k : ℕ) → k < s .objects → copyAt s copies d k ≡ noCopy
+  unfolding swept
+  gone k h = swept-own s (w .copies) d (shape .copies) hd Erase k h
+
+  no-version : (k : ℕ) → k < s .objects → copyAt s copies d k .version ≡ 0
+  no-version k h = ap (λ (c : Copy). c .version) (gone k h)
+
+  others : Others s d (w .tables .views .epoch) (w .tables .views .expiry) (zeroed (w .tables .views .epoch)) (zeroed (w .tables .views .expiry)) (w .copies) copies
+  others = record {
+    known = λ k u m h. zero-other (w .tables .views .epoch) k u m h;
+    expiry = λ k u m h. zero-other (w .tables .views .expiry) k u m h;
+    copies = λ k i m h. swept-other s (w .copies) d (shape .copies) hd Erase k i m h;
+  }
+
+  own : Own s range (requesting w (set (w .requests) d (ended (requestAt (w .requests) d)))) (request-ends s w inv d here) d (ended-idle (w .requests) d here) (zeroed (w .tables .views .epoch)) (zeroed (w .tables .views .expiry)) copies others
+  own = record {
+    epochs = λ u h. rw (zero-own (w .tables .views .epoch) (shape .tables .views .epoch) u h) (omega arith);
+    reached = λ k h. rw (no-version k h) (omega arith);
+    values = λ k h e. let p = inv .versions .positive k h in let q = sym e ∙ no-version k h in absurd (omega arith);
+    views = λ u h. covered-empty s _ d u _ _ _ _ _ _ _ _ _ _ (zero-own (w .tables .views .expiry) (shape .tables .views .expiry) u h) (λ k i j a b. a (no-version k i));
+    erased = λ k f u z a. no-version k (inv .acks d k f u z .exists);
+    dropped = λ u i f h z a b. record {
+      volume = zero-own (w .tables .views .expiry) (shape .tables .views .expiry) u h;
+      objects = λ k j l g t. g (no-version k j);
+    };
+  }
+
+  pub client-restart : Inv s (record {
+    tables = withViews (w .tables) (clientRestarted s (w .tables .views) d);
+    copies = copies;
+    requests = set (w .requests) d (ended (requestAt (w .requests) d));
+  })
+  unfolding clientRestarted
+  client-restart =
+      taken s range _ (request-ends s w inv d here) d (ended-idle (w .requests) d here) (zeroed (w .tables .views .epoch)) (zeroed (w .tables .views .expiry)) copies others own
