@@ -1,3 +1,5 @@
 -- Every copy shown is current: an inductive invariant of all runs, and that each step keeps it.
 pub mod Invariant
 pub mod Tools
+pub mod Replaced
+pub mod Time
