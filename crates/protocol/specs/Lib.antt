@@ -12,5 +12,6 @@ pub mod Decide
 pub mod World
 pub mod Ledger
 pub mod Agreement
+pub mod Soundness
 pub mod Edges
 pub mod Safety

@@ -1,0 +1,3 @@
+-- Question 1 never refuses in a run from fresh tables: lengths and bounds that every step keeps.
+pub mod Steps
+pub mod Shape
