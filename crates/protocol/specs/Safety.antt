@@ -3,3 +3,4 @@ pub mod Invariant
 pub mod Tools
 pub mod Replaced
 pub mod Time
+pub mod Marks
