@@ -4,3 +4,4 @@ pub mod Tools
 pub mod Replaced
 pub mod Time
 pub mod Marks
+pub mod Completing

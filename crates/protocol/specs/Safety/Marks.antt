@@ -1,22 +1,22 @@
 -- More clients marked unreachable: fewer are counted on, and nothing else changes.
-use Prim.Native.Nat.{ℕ, _+_, _*_, _<_, _≤_}
+use Prim.Native.Nat.{ℕ, _<_}
 use native.Mathlib.Omega.{arith}
 use mathlib.Core.Bool.{Bool, true, false}
 use mathlib.Core.List.{List}
 use mathlib.Core.Logic.{inl, inr, ⊎-elim}
-use mathlib.Core.Path.{_≡_, refl, sym, _∙_}
+use mathlib.Core.Path.{_≡_, refl, _∙_}
 use lib.ListN.{length, getD, set, length-set}
 use Rattle.laws.specs.Choice.{cond-keeps, true-or-false, not-both}
-use Rattle.laws.specs.Loop.{foldFrom, fold-keeps-in, fold-reaches}
+use Rattle.laws.specs.Loop.{fold-keeps-in, fold-reaches}
 use Rattle.laws.specs.Store.{set-at}
 use Rattle.protocol.specs.declared.setup.Setup.{Setup}
 use Rattle.protocol.specs.declared.tables.Tables.{Tables}
 use Rattle.protocol.specs.Setup.{volumeOf}
 use Rattle.protocol.specs.Tables.{byVolume, unreachableAt, waitingAt, withSessions}
-use Rattle.protocol.specs.Writes.{marked, markIfWaiting, deserted}
+use Rattle.protocol.specs.Writes.{markIfWaiting, deserted}
 use Rattle.protocol.specs.World.{World}
 use Rattle.protocol.specs.Soundness.Steps.{Ranges}
-use Rattle.protocol.specs.Safety.Invariant.{Covered, Inv, from}
+use Rattle.protocol.specs.Safety.Invariant.{Covered, Inv}
 use Rattle.protocol.specs.Safety.Replaced.{withTables}
 
 covered-marked : (s : Setup) {clock d v epoch guard session : ℕ} (un un′ : Bool) {version lease : List ℕ} {known expiry : ℕ} {held until : ℕ → ℕ} → (un ≡ true → un′ ≡ true)

@@ -1,7 +1,6 @@
 -- One object's fields replaced in a list: what stands there afterwards, and that all else stays.
-use Prim.Native.Nat.{ℕ, _+_, _*_, _<_, _≤_}
+use Prim.Native.Nat.{ℕ, _<_, _≤_}
 use native.Mathlib.Omega.{arith}
-use mathlib.Core.Bool.{Bool, true, false}
 use mathlib.Core.List.{List}
 use mathlib.Core.Path.{_≡_, refl}
 use lib.ListN.{length, getD, set}
@@ -25,6 +24,14 @@ pub record Replaced {A : Type 0} (o : ℕ) (x y : A) (l l′ : List A) : Type 0 
 pub record ReplacedFor {A : Type 0} (s : Setup) (o : ℕ) (x : ℕ → A) (y : A) (l l′ : List A) : Type 0 where
   pub here : (d : ℕ) → d < s .clients → getD l′ (byObject d o) y ≡ x d
   pub other : (d k : ℕ) → k < s .objects → (k ≡ o → ⊥) → getD l′ (byObject d k) y ≡ getD l (byObject d k) y
+
+-- at a number equal to o
+pub here-at : {A : Type 0} {o : ℕ} {x y : A} {l l′ : List A} → Replaced o x y l l′ → (k : ℕ) → k ≡ o → getD l′ k y ≡ x
+here-at r k q = rw q (r .here)
+
+pub here-for : {A : Type 0} {s : Setup} {o : ℕ} {x : ℕ → A} {y : A} {l l′ : List A} → ReplacedFor s o x y l l′ → (d k : ℕ) → d < s .clients → k ≡ o
+    → getD l′ (byObject d k) y ≡ x d
+here-for r d k h q = rw q (r .here d h)
 
 pub set-replaced : {A : Type 0} (l : List A) (o : ℕ) (x y : A) → o < length l → Replaced o x y l (set l o x)
 set-replaced l o x y h = record { here = getD-set-same l o x y h; other = λ k n. getD-set-other l o k x y n }
