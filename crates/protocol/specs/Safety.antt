@@ -5,3 +5,4 @@ pub mod Replaced
 pub mod Time
 pub mod Marks
 pub mod Completing
+pub mod Settling
