@@ -6,3 +6,7 @@ pub mod Time
 pub mod Marks
 pub mod Completing
 pub mod Settling
+pub mod Sending
+pub mod Requests
+pub mod Taking
+pub mod Clients

@@ -46,6 +46,19 @@ module _ {ℓ} {A : Type ℓ} (l : List A) (x y : A) where
       ⊎-elim (λ w. inl (omega (arith, w .0), omega (arith, w .0), w .1)) (λ w. inr (λ a b. w .0 (omega arith), w .1))
       (set-at l (byObject d o) x (byObject d′ o′) y (omega arith))
 
+  -- the same where it is known which of the two
+  pub volume-at : (d v d′ v′ : ℕ) → length l ≡ 128 → d < 16 → v < 8 → d′ ≡ d → v′ ≡ v → getD (set l (byVolume d v) x) (byVolume d′ v′) y ≡ x
+  volume-at d v d′ v′ n hd hv p q = rw (p, q) (getD-set-same l (byVolume d v) x y (omega arith))
+
+  pub volume-off : (d v d′ v′ : ℕ) → v < 8 → v′ < 8 → (d′ ≡ d → v′ ≡ v → ⊥) → getD (set l (byVolume d v) x) (byVolume d′ v′) y ≡ getD l (byVolume d′ v′) y
+  volume-off d v d′ v′ hv hv′ h = getD-set-other l (byVolume d v) (byVolume d′ v′) x y (λ e. h (omega arith) (omega arith))
+
+  pub object-at : (d o d′ o′ : ℕ) → length l ≡ 512 → d < 16 → o < 32 → d′ ≡ d → o′ ≡ o → getD (set l (byObject d o) x) (byObject d′ o′) y ≡ x
+  object-at d o d′ o′ n hd ho p q = rw (p, q) (getD-set-same l (byObject d o) x y (omega arith))
+
+  pub object-off : (d o d′ o′ : ℕ) → o < 32 → o′ < 32 → (d′ ≡ d → o′ ≡ o → ⊥) → getD (set l (byObject d o) x) (byObject d′ o′) y ≡ getD l (byObject d′ o′) y
+  object-off d o d′ o′ ho ho′ h = getD-set-other l (byObject d o) (byObject d′ o′) x y (λ e. h (omega arith) (omega arith))
+
 -- rows of n: the places of two rows do not meet
 pub row-below : (n d e o : ℕ) → d < e → o < n → d * n + o < e * n
 row-below n d e o h k =
@@ -71,6 +84,17 @@ module _ (s : Setup) (copies : List Copy) (x : Copy) where
       let b = row-below (s .objects) d (s .clients) o hd ho in
       ⊎-elim (λ w. let z = row-same (s .objects) d′ o′ d o ho′ ho (w .0) in inl (z .0, z .1, w .1)) (λ w. inr (λ a c. w .0 (rw (a, c)), w .1))
       (set-at copies (d * s .objects + o) x (d′ * s .objects + o′) noCopy (omega arith))
+
+  pub copy-at : (d o d′ o′ : ℕ) → length copies ≡ s .clients * s .objects → d < s .clients → o < s .objects → d′ ≡ d → o′ ≡ o
+      → copyAt s (set copies (d * s .objects + o) x) d′ o′ ≡ x
+  copy-at d o d′ o′ n hd ho p q =
+      let b = row-below (s .objects) d (s .clients) o hd ho in
+      rw (p, q) (getD-set-same copies (d * s .objects + o) x noCopy (omega arith))
+
+  pub copy-off : (d o d′ o′ : ℕ) → o < s .objects → o′ < s .objects → (d′ ≡ d → o′ ≡ o → ⊥)
+      → copyAt s (set copies (d * s .objects + o) x) d′ o′ ≡ copyAt s copies d′ o′
+  copy-off d o d′ o′ ho ho′ h =
+      getD-set-other copies (d * s .objects + o) (d′ * s .objects + o′) x noCopy (λ e. let z = row-same (s .objects) d′ o′ d o ho′ ho e in h (z .0) (z .1))
 
 -- ---- time
 

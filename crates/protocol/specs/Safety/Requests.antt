@@ -1,0 +1,173 @@
+-- The request records change: a number is taken, or the standing request ends. No message under way gets to answer a request that it did not answer before.
+use Prim.Native.Nat.{ℕ, _+_, _<_, _≤_}
+use native.Mathlib.Omega.{arith}
+use mathlib.Core.Bool.{Bool, true, false, cond, _&&_}
+use mathlib.Core.List.{List}
+use mathlib.Core.Logic.{_⊎_, inl, inr, ⊎-elim}
+use mathlib.Core.Path.{_≡_, refl, sym, ap, _∙_}
+use lib.Dec.{eqb}
+use lib.ListN.{length, getD, set}
+use lib.Seq.{getD-set-same, getD-set-other, set-getD}
+use borrow.Author.Tests.{eq-eqb}
+use Rattle.laws.specs.Choice.{same?, cond-keeps, not-both, both-true}
+use Rattle.protocol.specs.declared.records.Request.{Request}
+use Rattle.protocol.specs.declared.setup.Setup.{Setup}
+use Rattle.protocol.specs.Tables.{noRequest}
+use Rattle.protocol.specs.Client.{numbered, ended, forgotten}
+use Rattle.protocol.specs.World.{World}
+use Rattle.protocol.specs.Safety.Invariant.{Inv, Stands, requestAt, Numbers, Header}
+
+abbrev pub requesting : World → List Request → World
+requesting w requests = record { tables = w .tables; copies = w .copies; requests = requests }
+
+-- numbers only grow, and of the numbers taken before none stands that did not
+pub record Moves (before after : List Request) : Type 0 where
+  pub next : (d : ℕ) → requestAt before d .next ≤ requestAt after d .next
+  pub stands : (d n : ℕ) → n < requestAt before d .next → Stands after d n → Stands before d n
+  pub object : (d n : ℕ) → n < requestAt before d .next → Stands after d n → requestAt after d .object ≡ requestAt before d .object
+
+module _ (s : Setup) (w : World) (inv : Inv s w) (requests : List Request) (moves : Moves (w .requests) requests) where
+  header : (d v n e : ℕ) → Header (w .tables .volumes .epoch) (w .tables .sessions .seen) (w .requests) d v n e
+      → Header (w .tables .volumes .epoch) (w .tables .sessions .seen) requests d v n e
+  header d v n e h = record { reached = h .reached; taken = omega (arith, h .taken, moves .next d); noticed = h .noticed }
+
+  pub moved : Numbers s (w .tables .sessions .seen) requests → Inv s (requesting w requests)
+  moved numbers = record {
+    bounds = inv .bounds;
+    epochs = inv .epochs;
+    numbers = numbers;
+    versions = inv .versions;
+    offers = inv .offers;
+    writes = inv .writes;
+    views = inv .views;
+    clients = inv .clients;
+    renews = λ d o n e v z.
+        let r = inv .renews d o n e v z in
+        record {
+          exists = r .exists;
+          reached = r .reached;
+          taken = omega (arith, r .taken, moves .next d);
+          object = λ a. moves .object d n (r .taken) a ∙ r .object (moves .stands d n (r .taken) a);
+          knows = λ a. r .knows (moves .stands d n (r .taken) a);
+          held = λ a. r .held (moves .stands d n (r .taken) a);
+        };
+    grants = λ d o n x e v y p z.
+        let r = inv .grants d o n x e v y p z in
+        let b : Stands requests d n → Stands (w .requests) d n = moves .stands d n (r .header .taken) in
+        record {
+          exists = r .exists;
+          header = header d _ n e (r .header);
+          reached = r .reached;
+          payload = r .payload;
+          object = λ a. moves .object d n (r .header .taken) a ∙ r .object (b a);
+          unoffered = λ a. r .unoffered (b a);
+          held = λ a. r .held (b a);
+          covered = λ a. r .covered (b a);
+        };
+    invalidates = inv .invalidates;
+    acks = inv .acks;
+    erased = inv .erased;
+    pairs = λ d o e v n x f u y p a g h r. inv .pairs d o e v n x f u y p a g h (moves .stands d n (inv .grants d o n x f u y p g .header .taken) r);
+    offereds = λ d v n e z. let r = inv .offereds d v n e z in record { exists = r .exists; header = header d v n e (r .header) };
+    droppeds = λ d v n e z. let r = inv .droppeds d v n e z in record { exists = r .exists; header = header d v n e (r .header); dropped = r .dropped };
+  }
+
+-- ---- one record replaced
+module _ (requests : List Request) (d : ℕ) (here : d < length requests) where
+  abbrev pub with-record : Request → List Request
+  with-record r = set requests d r
+
+  pub same-record : (r : Request) → requestAt (with-record r) d ≡ r
+  same-record r = getD-set-same requests d r noRequest here
+
+  this-record : (r : Request) (k : ℕ) → k ≡ d → requestAt (with-record r) k ≡ r
+  this-record r k e = ap (requestAt (with-record r)) e ∙ same-record r
+
+  other-record : (r : Request) (k : ℕ) → (k ≡ d → ⊥) → requestAt (with-record r) k ≡ requestAt requests k
+  other-record r k h = getD-set-other requests d k r noRequest h
+
+  -- a client whose record stays
+  elsewhere : (r : Request) (k n : ℕ) → (k ≡ d → ⊥) → Stands (with-record r) k n → Stands requests k n
+  elsewhere r k n h a = let e = other-record r k h in record { there = rw e at (a .there); same = rw e at (a .same) }
+
+  -- a record in which no number stands, or the next one
+  module _ (r : Request) (grows : requestAt requests d .next ≤ r .next) (old : (n : ℕ) → n < requestAt requests d .next → r .standing ≡ true → r .number ≡ n → ⊥) where
+    pub replaced-moves : Moves requests (with-record r)
+    replaced-moves = record {
+      next = λ k. ⊎-elim (λ e. rw (this-record r k e, e) grows) (λ e. rw (other-record r k e) (omega arith)) (same? k d);
+      stands = λ k n h a. ⊎-elim (λ e. gone k n e h a) (λ e. elsewhere r k n e a) (same? k d);
+      object = λ k n h a. ⊎-elim (λ e. gone k n e h a) (λ e. ap (λ (q : Request). q .object) (other-record r k e)) (same? k d);
+    }
+      where
+        gone : {A : Type 0} (k n : ℕ) → k ≡ d → n < requestAt requests k .next → Stands (with-record r) k n → A
+        gone k n e h a =
+            let q = rw (this-record r k e) at (a .there) in
+            let p = rw (this-record r k e) at (a .same) in
+            absurd (old n (rw e at h) q p)
+
+  -- the standing request ends
+  pub ended-moves : Moves requests (with-record (ended (requestAt requests d)))
+  ended-moves = replaced-moves (ended (requestAt requests d)) (omega arith) (λ n h a b. not-both a refl)
+
+  -- .. and none stands
+  pub ended-idle : (n : ℕ) → Stands (with-record (ended (requestAt requests d))) d n → ⊥
+  ended-idle n a = let p = rw (same-record (ended (requestAt requests d))) at (a .there) in not-both p refl
+
+  -- the next number is taken
+  pub numbered-moves : (o : ℕ) → Moves requests (with-record (numbered (requestAt requests d) o))
+  numbered-moves o = replaced-moves (numbered (requestAt requests d) o) (omega arith) (λ n h a b. omega arith)
+
+  -- "forget a standing request for that object"
+  pub forgotten-moves : (o : ℕ) → Moves requests (with-record (forgotten (requestAt requests d) o))
+  unfolding forgotten
+  forgotten-moves o =
+      cond-keeps (λ (r : Request). Moves requests (with-record r)) (requestAt requests d .standing && eqb (requestAt requests d .object) o) (λ e. ended-moves)
+      (λ e. rw (set-getD requests d noRequest) (record { next = λ k. omega arith; stands = λ k n h a. a; object = λ k n h a. refl }))
+
+  -- .. and none for it stands
+  pub forgotten-gone : (o n : ℕ) → Stands (with-record (forgotten (requestAt requests d) o)) d n
+      → requestAt (with-record (forgotten (requestAt requests d) o)) d .object ≡ o → ⊥
+  unfolding forgotten
+  forgotten-gone o n a b =
+      let p = rw (same-record (forgotten (requestAt requests d) o)) at (a .there) in
+      let q = rw (same-record (forgotten (requestAt requests d) o)) at b in
+      none o p q
+    where
+      none : (o : ℕ) → forgotten (requestAt requests d) o .standing ≡ true → forgotten (requestAt requests d) o .object ≡ o → ⊥
+      none o = cond-keeps (λ (r : Request). r .standing ≡ true → r .object ≡ o → ⊥) (requestAt requests d .standing && eqb (requestAt requests d .object) o)
+          (λ e p q. not-both p refl) (λ e p q. not-both (both-true p (eq-eqb _ _ q)) e)
+
+  -- what is said of the numbers, with the new record
+  pub replaced-numbers : (s : Setup) (seen : List ℕ) → Numbers s seen requests → (r : Request) → (r .standing ≡ true → r .number + 1 ≡ r .next)
+      → requestAt requests d .next ≤ r .next → Numbers s seen (with-record r)
+  replaced-numbers s seen numbers r last grows = record {
+    last = λ k h a. ⊎-elim
+        (λ e. let a′ = rw (this-record r k e) at a in rw (this-record r k e) (last a′))
+        (λ e. let a′ = rw (other-record r k e) at a in rw (other-record r k e) (numbers .last k h a′))
+        (same? k d);
+    past = λ k h. ⊎-elim
+        (λ e. let p = rw e at (numbers .past k h) in rw (this-record r k e) (rw e (omega arith)))
+        (λ e. rw (other-record r k e) (numbers .past k h))
+        (same? k d);
+  }
+
+-- ---- the whole, after each of these
+module _ (s : Setup) (w : World) (inv : Inv s w) (d : ℕ) (here : d < length (w .requests)) where
+  abbrev now : Request
+  now = requestAt (w .requests) d
+
+  pub request-ends : Inv s (requesting w (set (w .requests) d (ended now)))
+  request-ends =
+      moved s w inv _ (ended-moves (w .requests) d here)
+      (replaced-numbers (w .requests) d here s _ (inv .numbers) (ended now) (λ e. not-both e refl) (omega arith))
+
+  pub request-taken : (o : ℕ) → Inv s (requesting w (set (w .requests) d (numbered now o)))
+  request-taken o =
+      moved s w inv _ (numbered-moves (w .requests) d here o)
+      (replaced-numbers (w .requests) d here s _ (inv .numbers) (numbered now o) (λ e. refl) (omega arith))
+
+  pub request-forgotten : d < s .clients → (o : ℕ) → Inv s (requesting w (set (w .requests) d (forgotten now o)))
+  unfolding forgotten
+  request-forgotten h o =
+      cond-keeps (λ (r : Request). Inv s (requesting w (set (w .requests) d r))) (now .standing && eqb (now .object) o) (λ e. request-ends)
+      (λ e. rw (set-getD (w .requests) d noRequest) inv)
