@@ -7,6 +7,7 @@ pub mod Marks
 pub mod Completing
 pub mod Settling
 pub mod Sending
+pub mod Beginning
 pub mod Requests
 pub mod Taking
 pub mod Clients
