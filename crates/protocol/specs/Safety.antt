@@ -8,6 +8,7 @@ pub mod Completing
 pub mod Settling
 pub mod Sending
 pub mod Beginning
+pub mod ClockAndWrite
 pub mod Requests
 pub mod Taking
 pub mod Clients
