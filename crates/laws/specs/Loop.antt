@@ -66,6 +66,22 @@ unfolding foldFrom
 fold-keeps-in P f N k s j zero h p = p
 fold-keeps-in P f N k s j (suc n) h p = fold-keeps-in P f N k (f s j) (j + 1) n (omega arith) (k s j (omega arith) p)
 
+-- what turn k brings about and every turn keeps, the whole brings about; R is what every turn keeps from the start
+pub fold-reaches {ℓ κ} : {S : Type ℓ} (R P : S → Type κ) (f : S → ℕ → S) (N k : ℕ) → ((s : S) (j : ℕ) → j < N → R s → R (f s j)) → ((s : S) (j : ℕ) → j < N → R s → P s → P (f s j))
+    → ((s : S) → R s → P (f s k)) → (s : S) (j n : ℕ) → j + n ≤ N → j ≤ k → k < j + n → R s → P (foldFrom f s j n)
+unfolding foldFrom
+fold-reaches R P f N k all keep hit s j zero h a b r = absurd (omega arith)
+fold-reaches R P f N k all keep hit s j (suc n) h a b r =
+    pick (λ g. fold-reaches R P f N k all keep hit (f s j) (j + 1) n (omega arith) g (omega arith) (all s j (omega arith) r)) (ℕ-discrete k j)
+  where
+    after : P (f s j) → P (foldFrom f (f s j) (j + 1) n)
+    after p =
+        fold-keeps-in (λ u. R u × P u) f N (λ u i b q. (all u i b (q .0), keep u i b (q .0) (q .1))) (f s j) (j + 1) n (omega arith) (all s j (omega arith) r, p) .1
+
+    pick : (j + 1 ≤ k → P (foldFrom f (f s j) (j + 1) n)) → Dec (k ≡ j) → P (foldFrom f (f s j) (j + 1) n)
+    pick g (yes e) = after (rw e at (hit s r))
+    pick g (no e) = g (omega arith)
+
 module _ (p : ℕ → Bool) (N : ℕ) where
   pub any-hit : (j : ℕ) → j < N → p j ≡ true → anyFrom p j (N - j) ≡ true
   unfolding anyFrom

@@ -1,0 +1,48 @@
+-- Steps 1 and 4, accepted: the clock moves or a write begins, and writes complete.
+use native.Mathlib.Omega.{arith}
+use mathlib.Core.Bool.{true}
+use mathlib.Core.Path.{_≡_}
+use lib.Seq.{set-getD}
+use Rattle.laws.specs.Loop.{foldFrom}
+use Rattle.protocol.specs.declared.setup.Setup.{Setup}
+use Rattle.protocol.specs.declared.step.Counted.{Counted}
+use Rattle.protocol.specs.declared.step.Step.{Step}
+use Rattle.protocol.specs.Tables.{withClock}
+use Rattle.protocol.specs.Writes.{settled, clockStaged, writeStaged}
+use Rattle.protocol.specs.Client.{sweptAll}
+use Rattle.protocol.specs.Decide.{counting}
+use Rattle.protocol.specs.World.{World, stepped}
+use Rattle.protocol.specs.Ledger.{accepts}
+use Rattle.protocol.specs.Soundness.Steps.{accepted, copyOf, requestOf, performedOf, decision-accepted, clock-performed, write-performed, clock-grows, object-exists, none-stands, setup-in-range, ranges}
+use Rattle.protocol.specs.Soundness.Shape.{Shape, written-shape}
+use Rattle.protocol.specs.Safety.Invariant.{Inv}
+use Rattle.protocol.specs.Safety.Replaced.{withTables}
+use Rattle.protocol.specs.Safety.Time.{clock-keeps}
+use Rattle.protocol.specs.Safety.Settling.{due-admits, ready-admits, settled-keeps}
+use Rattle.protocol.specs.Safety.Beginning.{written-keeps}
+
+module _ (s : Setup) (w : World) (x : Step) (a : accepts s w x ≡ true) where
+  -- a step that only completes writes leaves the clients' records
+  counting-steps : (c : Counted) → performedOf s w x ≡ counting (copyOf s w x) (requestOf s w x) c → stepped s w x ≡ withTables w (c .tables)
+  unfolding stepped sweptAll foldFrom
+  counting-steps c e = rw (decision-accepted s w x a, e, set-getD (w .copies), set-getD (w .requests))
+
+  module _ (h : Shape (w .tables)) (i : Inv s w) where
+    pub clock-step-keeps : x .kind ≡ 1 → Inv s (stepped s w x)
+    clock-step-keeps k =
+        let q = accepted s w x a in
+        rw (counting-steps (settled s (clockStaged s (w .tables) (x .clock))) (clock-performed s (w .tables) (copyOf s w x) (requestOf s w x) x k))
+        (settled-keeps s w (clockStaged s (w .tables) (x .clock)) (ranges s (setup-in-range q)) (due-admits s) (omega arith) timed
+        (clock-keeps s w (x .clock) (clock-grows q k .0) i))
+      where
+        timed : Shape (withClock (w .tables) (x .clock))
+        timed = record { volumes = h .volumes; sessions = h .sessions; objects = h .objects; holders = h .holders; views = h .views; queue = h .queue }
+
+    pub write-step-keeps : x .kind ≡ 4 → Inv s (stepped s w x)
+    write-step-keeps k =
+        let q = accepted s w x a in
+        let r = ranges s (setup-in-range q) in
+        let e = object-exists q (rw k) in
+        rw (counting-steps (settled s (writeStaged s (w .tables) (x .object) (x .value))) (write-performed s (w .tables) (copyOf s w x) (requestOf s w x) x k))
+        (settled-keeps s w (writeStaged s (w .tables) (x .object) (x .value)) r (ready-admits s) (omega arith) (written-shape s (w .tables) (x .object) (x .value) h)
+        (written-keeps s w (x .object) (x .value) r h e (none-stands q k) i))
