@@ -6,7 +6,7 @@ use native.Mathlib.Omega.{arith}
 use mathlib.Core.Bool.{Bool, true, false, cond, _&&_, _||_}
 use mathlib.Core.Path.{_≡_, refl, sym, ap, _∙_}
 use mathlib.Core.List.{List, [], _∷_}
-use Rattle.laws.specs.Choice.{and-true, or-false, or-true, not-both}
+use Rattle.laws.specs.Choice.{cond-keeps, and-true, or-false, or-true, not-both}
 
 pub left-more : (N j : ℕ) → j < N → N - j ≡ suc (N - (j + 1))
 left-more N j h = omega arith
@@ -188,3 +188,22 @@ module _ (p : ℕ → Bool) where
   -- a test of any that fails says that each fails
   pub none-each : (n : ℕ) → anyFrom p 0 n ≡ false → (k : ℕ) → k < n → p k ≡ false
   none-each n e k h = any-false 0 n e k (omega arith) (omega arith)
+
+-- what the first number says of the test: it holds there, or nowhere
+module _ (p : ℕ → Bool) where
+  pub first-found : (j n : ℕ) → firstFrom p j n < j + n → p (firstFrom p j n) ≡ true
+  unfolding firstFrom
+  first-found j zero h = absurd (omega arith)
+  first-found j (suc n) h =
+      cond-keeps (λ (k : ℕ). k < j + suc n → p k ≡ true) (p j) (λ e _. e) (λ e k. first-found (j + 1) n (omega arith)) h
+
+  pub first-missing : (j n : ℕ) → j + n ≤ firstFrom p j n → (k : ℕ) → j ≤ k → k < j + n → p k ≡ false
+  unfolding firstFrom
+  first-missing j zero h k a b = absurd (omega arith)
+  first-missing j (suc n) h k a b =
+      cond-keeps (λ (i : ℕ). j + suc n ≤ i → p k ≡ false) (p j) (λ e i. absurd (omega arith))
+      (λ e i. pick e (λ u. first-missing (j + 1) n (omega arith) k u (omega arith)) (ℕ-discrete k j)) h
+    where
+      pick : p j ≡ false → (j + 1 ≤ k → p k ≡ false) → Dec (k ≡ j) → p k ≡ false
+      pick e r (yes q) = rw q e
+      pick e r (no q) = r (omega arith)

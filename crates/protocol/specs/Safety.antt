@@ -17,3 +17,8 @@ pub mod Asking
 pub mod Invalidating
 pub mod Offering
 pub mod ClientRestart
+pub mod Noting
+pub mod Leasing
+pub mod Renewing
+pub mod Acknowledging
+pub mod Dropping

@@ -1,0 +1,137 @@
+-- The server receives a RENEW, by whichever rule.
+use Prim.Native.Nat.{ℕ, _+_, _<_, _≤_}
+use native.Mathlib.Omega.{arith}
+use mathlib.Core.Bool.{Bool, true, false, cond, not, _&&_, _||_}
+use mathlib.Core.List.{List}
+use mathlib.Core.Logic.{_⊎_, inl, inr, ⊎-elim}
+use mathlib.Core.Path.{_≡_, refl, sym, ap, _∙_}
+use lib.Dec.{ltb, leb, eqb}
+use lib.ListN.{length, getD, set, length-set}
+use lib.Seq.{getD-set-same}
+use borrow.Author.Tests.{ltb-true, ltb-false, leb-false, eqb-true, not-false, eq-eqb, lt-ltb}
+use Rattle.laws.specs.Choice.{same?, not-both, cond-keeps, true-or-false, and-true, and-false, both-true, or-false}
+use Rattle.laws.specs.Loop.{first-found, first-missing}
+use Rattle.protocol.specs.declared.message.Message.{Message}
+use Rattle.protocol.specs.declared.message.Kind.the-variants.{Offer, Invalidate}
+use Rattle.protocol.specs.declared.setup.Setup.{Setup}
+use Rattle.protocol.specs.declared.tables.Tables.{Tables}
+use Rattle.protocol.specs.Setup.{volumeOf}
+use Rattle.protocol.specs.Messages.{pushed}
+use Rattle.protocol.specs.Tables.{byVolume, epochAt, seenAt, unreachableAt, versionAt, standingAt, waitingAt, withSessions}
+use Rattle.protocol.specs.Writes.{marked, invalidation}
+use Rattle.protocol.specs.Server.{sent, noted, offered, offering, waitedIn, lowestWaited, mustDrop, granted, renewedBy, renewed}
+use Rattle.protocol.specs.World.{World}
+use Rattle.protocol.specs.Soundness.Steps.{Ranges}
+use Rattle.protocol.specs.Soundness.Shape.{Shape, SessionsShape}
+use Rattle.protocol.specs.Safety.Invariant.{Inv, Stands, requestAt}
+use Rattle.protocol.specs.Safety.Tools.{volume-set, volume-at, sent-pushed}
+use Rattle.protocol.specs.Safety.Replaced.{withTables}
+use Rattle.protocol.specs.Safety.Marks.{marks-keep}
+use Rattle.protocol.specs.Safety.Sending.{RenewClause, send-offer, send-invalidate}
+use Rattle.protocol.specs.Safety.Noting.{noted-keeps, offer-keeps}
+use Rattle.protocol.specs.Safety.Leasing.{granted-keeps}
+
+module _ (s : Setup) (range : Ranges s) (w : World) (inv : Inv s w) (shape : Shape (w .tables)) (d o n e u : ℕ) (hd : d < s .clients) (renew : RenewClause s w d o n e u)
+    (new : seenAt (w .tables) d < n) where
+  abbrev v : ℕ
+  v = volumeOf s o
+
+  ho : o < s .objects
+  ho = renew .exists
+
+  hv : v < s .volumes
+  hv = range .within o (renew .exists)
+
+  v8 : v < 8
+  v8 = let a = range .within o (renew .exists) in let b = range .volumes .1 in omega arith
+
+  h16 : d < 16
+  h16 = let b = range .clients .1 in omega arith
+
+  abbrev t : Tables
+  t = noted (w .tables) d n
+
+  noticed : Inv s (withTables w t)
+  noticed = noted-keeps s w inv d n (shape .sessions .seen) h16 new (renew .taken)
+
+  seen-now : n ≤ seenAt t d
+  unfolding noted
+  seen-now = let q = getD-set-same (w .tables .sessions .seen) d n 0 (let l = shape .sessions .seen in let b = range .clients .1 in omega arith) in omega arith
+
+  -- "mark unreachable, offer number := number, send OFFER"
+  abbrev un : List Bool
+  un = marked (w .tables .sessions .unreachable) d v
+
+  marks : Inv s (withTables w (withSessions (w .tables) (record {
+    seen = w .tables .sessions .seen;
+    expiry = w .tables .sessions .expiry;
+    unreachable = un;
+    offer = w .tables .sessions .offer;
+  })))
+  marks =
+      marks-keep s w un range
+      (λ k i hk hi a. ⊎-elim (λ q. q .2) (λ q. q .1 ∙ a) (volume-set (w .tables .sessions .unreachable) true false d v (shape .sessions .unreachable) h16 v8 k i (let b = range .volumes .1 in omega arith)))
+      inv
+
+  offers : Inv s (withTables w (offered t d v n))
+  unfolding offered noted
+  offers =
+      noted-keeps s _
+      (offer-keeps s range _ marks d v n (shape .sessions .offer) hd hv (volume-at (w .tables .sessions .unreachable) true false d v d v (shape .sessions .unreachable) h16 v8 refl refl) new (renew .taken))
+      d n (shape .sessions .seen) h16 new (renew .taken)
+
+  by-offer : Inv s (withTables w (sent (offered t d v n) (offering t d v n)))
+  unfolding offered noted
+  by-offer =
+      send-offer s (withTables w (offered t d v n)) offers d v n (epochAt (w .tables) v) (pushed (w .tables .queue) (offering t d v n))
+      (λ m z. sent-pushed (w .tables .queue) _ m (shape .queue .items) z) hd
+      (record { exists = hv; header = record { reached = omega arith; taken = renew .taken; noticed = λ a. seen-now } })
+
+  -- "resend INVALIDATE for its lowest such object"
+  abbrev low : ℕ
+  low = lowestWaited s t d v
+
+  by-resend : low < s .objects → Inv s (withTables w (sent t (invalidation s t low d)))
+  unfolding noted lowestWaited
+  by-resend h =
+      let q = first-found (waitedIn s t d v) 0 (s .objects) (omega arith) in
+      let a = and-true (standingAt t low) (waitingAt t d low) (and-true (eqb (volumeOf s low) v) (standingAt t low && waitingAt t d low) q .1) .0 in
+      send-invalidate s (withTables w t) noticed d low (epochAt (w .tables) (volumeOf s low)) (versionAt (w .tables) low + 1) (pushed (w .tables .queue) (invalidation s t low d))
+      (λ m z. sent-pushed (w .tables .queue) _ m (shape .queue .items) z) hd
+      (record { exists = h; reached = omega arith; recent = λ b. inr (a, omega arith) })
+
+  -- "Else .. send GRANT"
+  by-grant : mustDrop t d v e ≡ false → ltb low (s .objects) ≡ false → standingAt t o ≡ false → Inv s (withTables w (granted s t d o n u))
+  unfolding noted mustDrop lowestWaited
+  by-grant keep none free =
+      let k = or-false (not (eqb e (epochAt t v))) (unreachableAt t d v) keep in
+      granted-keeps s range (withTables w t) noticed
+      (record { volumes = shape .volumes; sessions = noted-shape; objects = shape .objects; holders = shape .holders; views = shape .views; queue = shape .queue })
+      d o hd ho (k .1) free unwaited n e u renew (eqb-true _ _ (not-false _ (k .0))) seen-now
+    where
+      noted-shape : SessionsShape (t .sessions)
+      noted-shape = record {
+        seen = length-set (w .tables .sessions .seen) d n ∙ shape .sessions .seen;
+        expiry = shape .sessions .expiry;
+        unreachable = shape .sessions .unreachable;
+        offer = shape .sessions .offer;
+      }
+
+      unwaited : (k : ℕ) → k < s .objects → volumeOf s k ≡ v → standingAt t k ≡ true → waitingAt t d k ≡ false
+      unwaited k h q a =
+          let m = first-missing (waitedIn s t d v) 0 (s .objects) (let z = ltb-false low (s .objects) none in omega arith) k (omega arith) (omega arith) in
+          ⊎-elim (λ x. not-both (eq-eqb _ _ q) x) (λ x. ⊎-elim (λ y. not-both a y) (λ y. y) (and-false _ _ x)) (and-false _ _ m)
+
+  pub renewed-new : Inv s (withTables w (renewedBy s t d o n e u))
+  unfolding renewedBy
+  renewed-new =
+      cond-keeps (λ (x : Tables). Inv s (withTables w x)) (mustDrop t d v e) (λ a. by-offer)
+      (λ a. cond-keeps (λ (x : Tables). Inv s (withTables w x)) (ltb low (s .objects)) (λ b. by-resend (ltb-true _ _ b))
+      (λ b. cond-keeps (λ (x : Tables). Inv s (withTables w x)) (standingAt t o) (λ c. noticed) (λ c. by-grant a b c)))
+
+-- "number not above the highest seen: nothing"
+pub renewed-keeps : (s : Setup) → Ranges s → (w : World) → Inv s w → Shape (w .tables) → (d o n e u : ℕ) → d < s .clients → RenewClause s w d o n e u
+    → Inv s (withTables w (renewed s (w .tables) d o n e u))
+unfolding renewed
+renewed-keeps s range w inv shape d o n e u hd renew =
+    cond-keeps (λ (x : Tables). Inv s (withTables w x)) (leb n (seenAt (w .tables) d)) (λ a. inv) (λ a. renewed-new s range w inv shape d o n e u hd renew (leb-false _ _ a))
