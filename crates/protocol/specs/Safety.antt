@@ -22,3 +22,4 @@ pub mod Leasing
 pub mod Renewing
 pub mod Acknowledging
 pub mod Dropping
+pub mod ServerRestart
