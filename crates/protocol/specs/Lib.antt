@@ -13,4 +13,5 @@ pub mod World
 pub mod Ledger
 pub mod Agreement
 pub mod Soundness
+pub mod Bookkeeping
 pub mod Edges
