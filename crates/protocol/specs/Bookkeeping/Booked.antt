@@ -155,6 +155,9 @@ cut-sums l (o ∷ os) =
     let h = cut-sums (book l (cutOff o)) os in
     (h .0, h .1, h .2, h .3 ∙ omega arith)
 
+pub cut-completes : (l : Ledger) (os : List ℕ) → bookAll l (map cutOff os) .completes ≡ l .completes
+cut-completes l os = cut-sums l os .2
+
 pub restarted-booked : (s : Setup) (t : Tables) (l : Ledger) → Booked s t l → Booked s (serverRestarted s t) (bookAll l (map cutOff (listFrom (standingAt t) 0 (s .objects))))
 unfolding serverRestarted
 restarted-booked s t l h =
