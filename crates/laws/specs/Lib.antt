@@ -3,3 +3,4 @@ pub mod Loop
 pub mod Store
 pub mod Lists
 pub mod Each
+pub mod Count

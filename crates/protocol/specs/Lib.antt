@@ -13,5 +13,6 @@ pub mod World
 pub mod Ledger
 pub mod Agreement
 pub mod Soundness
+pub mod Bookkeeping
 pub mod Edges
 pub mod Safety

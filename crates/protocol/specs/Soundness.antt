@@ -4,3 +4,5 @@ pub mod Shape
 pub mod Bounds
 pub mod Received
 pub mod Kept
+pub mod Answered
+pub mod Question

@@ -85,8 +85,8 @@ pub record WorldShape (s : Setup) (w : World) : Type 0 where
   pub requests : length (w .requests) ≡ s .clients
 
 -- ---- one part replaced
-shape-clock : (t : Tables) (x : ℕ) → Shape t → Shape (withClock t x)
-shape-clock t x h = record { volumes = h .volumes; sessions = h .sessions; objects = h .objects; holders = h .holders; views = h .views; queue = h .queue }
+pub clock-shape : (t : Tables) (x : ℕ) → Shape t → Shape (withClock t x)
+clock-shape t x h = record { volumes = h .volumes; sessions = h .sessions; objects = h .objects; holders = h .holders; views = h .views; queue = h .queue }
 
 shape-queue : (t : Tables) (q : Queue) → QueueShape q → Shape t → Shape (withQueue t q)
 shape-queue t q k h = record { volumes = h .volumes; sessions = h .sessions; objects = h .objects; holders = h .holders; views = h .views; queue = k }
@@ -253,7 +253,7 @@ renewed-shape s t d o n e w h =
     cond-keeps Shape (ltb (lowestWaited s u d v) (s .objects)) (λ _. sent-shape _ _ k) (λ _.
     cond-keeps Shape (standingAt u o) (λ _. k) (λ _. sent-shape _ _ (object-shape s _ d o (volume-shape s u d v k))))))
 
-acked-shape : (t : Tables) (d o : ℕ) → Shape t → Shape (acked t d o)
+pub acked-shape : (t : Tables) (d o : ℕ) → Shape t → Shape (acked t d o)
 unfolding acked
 acked-shape t d o h = record {
   volumes = h .volumes;
@@ -269,7 +269,7 @@ unfolding ackStaged
 ack-shape s t d o e w h =
     cond-keeps (λ (g : Staged). Shape (g .tables)) (ackTaken s t o e w) (λ _. acked-shape t d o h) (λ _. h)
 
-dropped-shape : (s : Setup) (t : Tables) (d v : ℕ) → Shape t → Shape (dropped s t d v)
+pub dropped-shape : (s : Setup) (t : Tables) (d v : ℕ) → Shape t → Shape (dropped s t d v)
 unfolding dropped disowned
 dropped-shape s t d v h = record {
   volumes = h .volumes;
@@ -342,7 +342,7 @@ restart-shape s t c r d h = shape-views t _ (client-shape s (t .views) d (h .vie
 pub performed-shape : (s : Setup) (t : Tables) (b : Bool) (c : Copy) (r : Request) (x : Step) → Accepted s t b r x → Shape t → Shape (performed s t c r x .outcome .tables)
 performed-shape s t b c r x a h =
     by-kind (Shape (performed s t c r x .outcome .tables)) x (a .knows)
-    (λ e. rw (clock-performed s t c r x e) (settled-shape s _ (shape-clock t (x .clock) h)))
+    (λ e. rw (clock-performed s t c r x e) (settled-shape s _ (clock-shape t (x .clock) h)))
     (λ e. rw (read-performed s t c r x e) (read-shape s t c r (x .client) (x .object) h))
     (λ e. rw (ask-performed s t c r x e) (ask-shape s t c r (x .client) (x .object) h))
     (λ e. rw (write-performed s t c r x e) (settled-shape s _ (written-shape s t (x .object) (x .value) h)))
