@@ -16,3 +16,4 @@ pub mod Soundness
 pub mod Bookkeeping
 pub mod Edges
 pub mod Safety
+pub mod Demand3

@@ -23,3 +23,6 @@ pub mod Renewing
 pub mod Acknowledging
 pub mod Dropping
 pub mod ServerRestart
+pub mod Delivering
+pub mod Steps
+pub mod Fresh

@@ -200,7 +200,7 @@ module _ (s : Setup) (range : Ranges s) (w : World) (inv : Inv s w) (shape : Sha
           held = r .held;
           covered = λ a. ⊎-elim
               (λ q. covered-older s _ k _ _ _ _ _ _ _ _ _ _ _ _ _ _
-                  (λ b. answers .nonzero (sym (answers .same) ∙ sym (ap (λ (c : ℕ). getD (w .tables .sessions .offer) c 0) (both k i (q .0) (q .1))) ∙ r .unoffered a b)) (r .covered a))
+              (λ b. answers .nonzero (sym (answers .same) ∙ sym (ap (λ (c : ℕ). getD (w .tables .sessions .offer) c 0) (both k i (q .0) (q .1))) ∙ r .unoffered a b)) (r .covered a))
               (λ q. elsewhere k (volumeOf s i) (range .within i (r .exists)) (q .0) _ _ _ _ (r .covered a))
               (at-session k (volumeOf s i) (range .within i (r .exists)));
         };

@@ -215,9 +215,10 @@ module _ (s : Setup) (range : Ranges s) (w : World) (inv : Inv s w) (shape : Sha
             → (updated held o (versionAt (w .tables) o) k ≡ versionAt (w .tables) k)
             × (epochAt (w .tables) v ≡ epochAt (w .tables) v → updated until o longer k ≤ getD lease (byObject d k) 0)
         rest k i j q m l =
-            let c = inv .views d v hd hv .holds k i j m l (inr (sym (renew .knows a) ∙ same, reachable)) in
-            (updated-other held o k _ q ∙ c .0,
-            λ z. let b = c .1 (sym (renew .knows a) ∙ same) in rw (updated-other until o k longer q, object-off (w .tables .holders .lease) longer 0 d o d k (below-32 o ho) (below-32 k i) (λ x y. q y)) b)
+            let c = inv .views d v hd hv .holds k i j m l (inr (sym (renew .knows a) ∙ same, reachable)) in (
+              updated-other held o k _ q ∙ c .0,
+              λ z. let b = c .1 (sym (renew .knows a) ∙ same) in rw (updated-other until o k longer q, object-off (w .tables .holders .lease) longer 0 d o d k (below-32 o ho) (below-32 k i) (λ x y. q y)) b,
+            )
 
     pub granted-keeps : Inv s (withTables w (granted s (w .tables) d o n u))
     unfolding granted objectRenewed volumeRenewed

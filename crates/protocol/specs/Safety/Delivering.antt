@@ -1,0 +1,151 @@
+-- Step 5, accepted: the message is removed, and received by its client or by the server.
+use Prim.Native.Nat.{ℕ, _+_, _*_, _<_, _≤_}
+use native.Mathlib.Omega.{arith}
+use mathlib.Core.Bool.{Bool, true, false, cond, _&&_}
+use mathlib.Core.List.{List}
+use mathlib.Core.Logic.{_⊎_, inl, inr, ⊎-elim}
+use mathlib.Core.Path.{_≡_, refl, sym, ap, _∙_}
+use lib.ListN.{length, getD, set}
+use lib.Seq.{set-getD}
+use Rattle.laws.specs.Choice.{cond-keeps, and-true}
+use Rattle.laws.specs.Loop.{foldFrom}
+use Rattle.protocol.specs.declared.message.Message.{Message}
+use Rattle.protocol.specs.declared.message.Payload.{Payload}
+use Rattle.protocol.specs.declared.message.Kind.{Kind}
+use Rattle.protocol.specs.declared.message.Kind.the-variants.{Renew, Grant, Invalidate, Ack, Offer, Dropped}
+use Rattle.protocol.specs.declared.records.Copy.{Copy}
+use Rattle.protocol.specs.declared.records.Request.{Request}
+use Rattle.protocol.specs.declared.setup.Setup.{Setup}
+use Rattle.protocol.specs.declared.step.Received.{Received}
+use Rattle.protocol.specs.declared.tables.Tables.{Tables}
+use Rattle.protocol.specs.Messages.{messageAt, objectOf, removed}
+use Rattle.protocol.specs.Tables.{noCopy, noRequest}
+use Rattle.protocol.specs.Writes.{Staged, unstaged, settled}
+use Rattle.protocol.specs.Server.{ackTaken, acked, ackStaged, dropTaken, dropped, dropStaged}
+use Rattle.protocol.specs.Client.{stands, storable, grantTaken, filled, ended, sweptAll}
+use Rattle.protocol.specs.Decide.{taken, grantReceived, invalidateReceived, offerReceived, received}
+use Rattle.protocol.specs.World.{World}
+use Rattle.protocol.specs.Soundness.Steps.{Ranges}
+use Rattle.protocol.specs.Soundness.Shape.{Shape, WorldShape, taken-shape, ack-shape, drop-shape}
+use Rattle.protocol.specs.Safety.Invariant.{Inv, Sent, from, copyAt, requestAt}
+use Rattle.protocol.specs.Safety.Tools.{stands-true, sent-removed}
+use Rattle.protocol.specs.Safety.Replaced.{withTables}
+use Rattle.protocol.specs.Safety.Settling.{Admits, ready-admits, ready-in-admits, none-admits, settled-keeps}
+use Rattle.protocol.specs.Safety.Sending.{listing, lost}
+use Rattle.protocol.specs.Safety.Sweeping.{swept-keep}
+use Rattle.protocol.specs.Safety.Granting.{grant-taken}
+use Rattle.protocol.specs.Safety.Invalidating.{invalidate-taken}
+use Rattle.protocol.specs.Safety.Offering.{offer-taken}
+use Rattle.protocol.specs.Safety.Renewing.{renewed-keeps}
+use Rattle.protocol.specs.Safety.Acknowledging.{ack-taken, acked-keeps}
+use Rattle.protocol.specs.Safety.Dropping.{drop-taken, dropped-keeps}
+
+-- the world after client d's records and the tables became what a receipt says
+abbrev pub receiving : Setup → World → ℕ → Kind → Received → World
+receiving s w d k g = record {
+  tables = g .counted .tables;
+  copies = sweptAll s (g .change .sweep) (d * s .objects) (set (w .copies) (d * s .objects + objectOf k) (g .change .copy));
+  requests = set (w .requests) d (g .change .request);
+}
+
+module _ (s : Setup) (range : Ranges s) (w : World) (inv : Inv s w) (shape : WorldShape s w) (few : w .tables .queue .len ≤ 64) (i : ℕ) (hi : i < w .tables .queue .len) where
+  abbrev t : Tables
+  t = taken (w .tables) i
+
+  abbrev rest : World
+  rest = listing w (removed (w .tables .queue) i)
+
+  left : Inv s rest
+  left = lost s w inv i (shape .tables .queue .items) few hi
+
+  shape-left : WorldShape s rest
+  shape-left = record { tables = taken-shape (w .tables) i (omega arith) (shape .tables); copies = shape .copies; requests = shape .requests }
+
+  was : (m : Message) → Sent (removed (w .tables .queue) i) m → Sent (w .tables .queue) m
+  was m z = sent-removed (w .tables .queue) i m (shape .tables .queue .items) few hi z
+
+  module _ (d : ℕ) (hd : d < s .clients) where
+    abbrev request : Request
+    request = requestAt (w .requests) d
+
+    -- the records stay
+    same-records : (o : ℕ) (u : Tables) → Inv s (withTables w u)
+        → Inv s (record { tables = u; copies = set (w .copies) (d * s .objects + o) (copyAt s (w .copies) d o); requests = set (w .requests) d request })
+    same-records o u h = rw (set-getD (w .copies) (d * s .objects + o) noCopy, set-getD (w .requests) d noRequest) h
+
+    by-renew : (o n e v : ℕ) → Sent (w .tables .queue) (from d (Renew o n e v)) → Inv s (receiving s w d (Renew o n e v) (received s t (copyAt s (w .copies) d o) request d (Renew o n e v)))
+    unfolding received
+    by-renew o n e v z =
+        rw (swept-keep s) (same-records o _ (renewed-keeps s range rest left (shape-left .tables) d o n e v hd (inv .renews d o n e v z)))
+
+    by-grant : (o n x e v y : ℕ) (p : Payload) → Sent (w .tables .queue) (from d (Grant o n x e v y p))
+        → Inv s (receiving s w d (Grant o n x e v y p) (received s t (copyAt s (w .copies) d o) request d (Grant o n x e v y p)))
+    unfolding received grantReceived grantTaken
+    by-grant o n x e v y p z =
+        cond-keeps (λ (g : Received). Inv s (receiving s w d (Grant o n x e v y p) g)) (stands request n && storable (copyAt s (w .copies) d o) v p)
+        (λ a. let b = stands-true (w .requests) d n (and-true (stands request n) (storable (copyAt s (w .copies) d o) v p) a .0) in
+        rw (swept-keep s)
+        (grant-taken s range rest left shape-left d o n x e v y p hd (inv .grants d o n x e v y p z) b (λ f u h q. inv .pairs d o f u n x e v y p (was _ h) z q b)))
+        (λ a. rw (swept-keep s) (same-records o _ left))
+
+    by-invalidate : (o e v : ℕ) → Sent (w .tables .queue) (from d (Invalidate o e v))
+        → Inv s (receiving s w d (Invalidate o e v) (received s t (copyAt s (w .copies) d o) request d (Invalidate o e v)))
+    unfolding received invalidateReceived
+    by-invalidate o e v z = rw (swept-keep s) (invalidate-taken s rest left shape-left d o e v hd (inv .invalidates d o e v z))
+
+    -- what an ACK or a DROPPED stages, then the writes that complete
+    acks : (o e v : ℕ) → Sent (w .tables .queue) (from d (Ack o e v)) → Inv s (withTables rest (ackStaged s t d o e v .tables))
+    unfolding ackStaged
+    acks o e v z =
+        cond-keeps (λ (g : Staged). Inv s (withTables rest (g .tables))) (ackTaken s t o e v)
+        (λ a. let b = ack-taken s t o e v a in
+        acked-keeps s range rest left (shape-left .tables) d o hd (inv .acks d o e v z .exists) (inv .erased d o e v z b)
+        (λ n x f u y p h r. inv .pairs d o e v n x f u y p z (was _ h) b r))
+        (λ a. left)
+
+    ack-fits : (o e v : ℕ) → o < s .objects → (Admits s (ackStaged s t d o e v .test)) × (ackStaged s t d o e v .from + ackStaged s t d o e v .many ≤ s .objects)
+    unfolding ackStaged
+    ack-fits o e v h =
+        cond-keeps (λ (g : Staged). (Admits s (g .test)) × (g .from + g .many ≤ s .objects)) (ackTaken s t o e v) (λ a. (ready-admits s, omega arith)) (λ a. (none-admits s, omega arith))
+
+    by-ack : (o e v : ℕ) → Sent (w .tables .queue) (from d (Ack o e v)) → Inv s (receiving s w d (Ack o e v) (received s t (copyAt s (w .copies) d o) request d (Ack o e v)))
+    unfolding received
+    by-ack o e v z =
+        let f = ack-fits o e v (inv .acks d o e v z .exists) in
+        rw (swept-keep s)
+        (same-records o _ (settled-keeps s rest (ackStaged s t d o e v) range (f .0) (f .1) (ack-shape s t d o e v (shape-left .tables)) (acks o e v z)))
+
+    drops : (v n e : ℕ) → Sent (w .tables .queue) (from d (Dropped v n e)) → Inv s (withTables rest (dropStaged s t d v n e .tables))
+    unfolding dropStaged
+    drops v n e z =
+        cond-keeps (λ (g : Staged). Inv s (withTables rest (g .tables))) (dropTaken t d v n e)
+        (λ a. dropped-keeps s range rest left (shape-left .tables) d v n e hd (inv .droppeds d v n e z) (drop-taken t d v n e a)) (λ a. left)
+
+    drop-fits : (v n e : ℕ) → (Admits s (dropStaged s t d v n e .test)) × (dropStaged s t d v n e .from + dropStaged s t d v n e .many ≤ s .objects)
+    unfolding dropStaged
+    drop-fits v n e =
+        cond-keeps (λ (g : Staged). (Admits s (g .test)) × (g .from + g .many ≤ s .objects)) (dropTaken t d v n e) (λ a. (ready-in-admits s v, omega arith)) (λ a. (none-admits s, omega arith))
+
+    by-dropped : (v n e : ℕ) → Sent (w .tables .queue) (from d (Dropped v n e))
+        → Inv s (receiving s w d (Dropped v n e) (received s t (copyAt s (w .copies) d 0) request d (Dropped v n e)))
+    unfolding received
+    by-dropped v n e z =
+        let f = drop-fits v n e in
+        rw (swept-keep s)
+        (same-records 0 _ (settled-keeps s rest (dropStaged s t d v n e) range (f .0) (f .1) (drop-shape s t d v n e (shape-left .tables)) (drops v n e z)))
+
+    by-offer : (v n e : ℕ) → Sent (w .tables .queue) (from d (Offer v n e))
+        → Inv s (receiving s w d (Offer v n e) (received s t (copyAt s (w .copies) d 0) request d (Offer v n e)))
+    unfolding received offerReceived
+    by-offer v n e z =
+        cond-keeps (λ (g : Received). Inv s (receiving s w d (Offer v n e) g)) (stands request n)
+        (λ a. rw (set-getD (w .copies) (d * s .objects + 0) noCopy) (offer-taken s range rest left shape-left d v n e hd (inv .offereds d v n e z)))
+        (λ a. rw (swept-keep s) (same-records 0 _ left))
+
+    pub receipt-keeps : (k : Kind) → Sent (w .tables .queue) (from d k) → Inv s (receiving s w d k (received s t (copyAt s (w .copies) d (objectOf k)) request d k))
+    receipt-keeps (Renew o n e v) z = by-renew o n e v z
+    receipt-keeps (Grant o n x e v y p) z = by-grant o n x e v y p z
+    receipt-keeps (Invalidate o e v) z = by-invalidate o e v z
+    receipt-keeps (Ack o e v) z = by-ack o e v z
+    receipt-keeps (Offer v n e) z = by-offer v n e z
+    receipt-keeps (Dropped v n e) z = by-dropped v n e z
