@@ -104,10 +104,10 @@ impl<R: Rules> World<'_, R> {
         }
         self.requests[client].end();
         self.tables.clients.epoch[client][volume as usize] = epoch;
-        if !mistakes.offer_keeps_volume_expiry {
+        if !mistakes.offer_keeps_leases {
             self.tables.clients.expiry[client][volume as usize] = 0;
         }
-        if !mistakes.offer_keeps_object_expiries {
+        if !mistakes.offer_keeps_leases && !mistakes.offer_keeps_object_expiries {
             self.zero_object_expiries(client, volume as usize);
         }
         self.send(client, Kind::Dropped { volume, number, epoch });

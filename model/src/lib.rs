@@ -9,6 +9,7 @@ pub mod client;
 pub mod copies;
 pub mod frame;
 pub mod gate;
+pub mod gen;
 pub mod limits;
 pub mod listing;
 pub mod message;

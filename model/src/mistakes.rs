@@ -66,8 +66,8 @@ mistakes! {
     grant_same_object,
     /// Obeys an OFFER that nobody asks for.
     offer_any_number,
-    /// Keeps the volume's expiry at an OFFER.
-    offer_keeps_volume_expiry,
+    /// Keeps all its leases at an OFFER.
+    offer_keeps_leases,
     /// Keeps the object expiries at an OFFER.
     offer_keeps_object_expiries,
     /// Keeps the standing request at an INVALIDATE.
@@ -102,8 +102,6 @@ mistakes! {
     clock_without_guard,
     /// Marks nobody unreachable on completing.
     complete_without_marking,
-    /// Keeps the leases on the object on completing.
-    complete_keeps_leases,
     /// Voids the offers of those it marks on completing.
     complete_clears_offers,
     /// Lets a second write replace the standing one.

@@ -116,9 +116,7 @@ impl<R: Rules> World<'_, R> {
         if !mistakes.complete_without_marking {
             server.unreachable[volume] |= waiting;
         }
-        if !mistakes.complete_keeps_leases {
-            server.object_expiry[object] = [0; CLIENTS];
-        }
+        server.object_expiry[object] = [0; CLIENTS];
         if mistakes.complete_clears_offers {
             members(waiting.into()).for_each(|client| server.offer[volume][client] = 0);
         }

@@ -4,6 +4,7 @@ use crate::copies::ObjectCopy;
 use crate::limits::QUEUE;
 use crate::message::{Kind, Message};
 use crate::mistakes::Rules;
+use crate::queue::Queue;
 use crate::requests::Request;
 use crate::setup::Setup;
 use crate::tables::Tables;
@@ -46,10 +47,10 @@ impl<R: Rules> World<'_, R> {
 
     /// 01, Steps 7.
     pub fn double(&mut self, place: usize) {
-        let message = self.tables.queue.places[place];
-        self.put(message);
+        let Queue { len, places } = self.tables.queue;
+        self.put(places[place]);
         let queue = &mut self.tables.queue;
-        if self.rules.mistakes().double_lands_behind {
+        if self.rules.mistakes().double_lands_behind && queue.len > len {
             queue.places[place + 1..queue.len].rotate_right(1);
         }
     }
