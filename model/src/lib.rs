@@ -5,6 +5,7 @@
 
 pub mod answer;
 pub mod bits;
+pub mod child;
 pub mod client;
 pub mod copies;
 pub mod frame;
@@ -20,6 +21,7 @@ pub mod run;
 pub mod runfile;
 pub mod server;
 pub mod setup;
+pub mod shrink;
 pub mod sound;
 pub mod step;
 pub mod step_record;
