@@ -8,6 +8,7 @@ pub mod bits;
 pub mod child;
 pub mod client;
 pub mod copies;
+pub mod examples;
 pub mod frame;
 pub mod gate;
 pub mod gen;
