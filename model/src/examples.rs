@@ -1,0 +1,114 @@
+//! The runs stored in the repository's examples folder: 01's own, and one
+//! for each line of the customer's test sheet.
+
+use crate::gen::runs::Run;
+use crate::gen::setups::sized;
+use crate::step_record::Step;
+
+pub struct Example {
+    /// The files' name, without what follows the dot.
+    pub name: &'static str,
+    pub run: Run,
+}
+
+pub fn all() -> Vec<Example> {
+    vec![
+        example("0-document", "", (1, 1, 1), document()),
+        one_lease_alone(),
+        example("2-renew-while-waiting", "line 2 of the sheet", (1, 1, 2), renew_while_waiting()),
+        example("3-restart-inside-write", "line 3 of the sheet", (1, 1, 1), restart_inside_write()),
+        example("4-client-switched-off", "line 4 of the sheet", (2, 1, 1), client_switched_off()),
+        example("5-old-messages", "line 5 of the sheet", (4, 1, 4), old_messages()),
+    ]
+}
+
+fn example(
+    name: &'static str,
+    note: &str,
+    (clients, volumes, objects): (u8, u8, u8),
+    steps: Vec<Step>,
+) -> Example {
+    let setup = sized(clients, volumes, objects);
+    Example { name, run: Run { note: note.into(), setup, steps } }
+}
+
+/// Asks and delivers at this place until the client holds the object: twice,
+/// since a client that knows no epoch is made an offer first.
+fn hold(client: u8, object: u8, place: u8) -> Vec<Step> {
+    let (ask, deliver) = (Step::ask(client, object), Step::deliver(place));
+    vec![ask, deliver, deliver, deliver, ask, deliver, deliver]
+}
+
+fn document() -> Vec<Step> {
+    let read = Step::read(0, 0);
+    let change =
+        [read, Step::write(0, 7), Step::lose(0), Step::clock(10), read, Step::clock(11), Step::clock(4)];
+    [&[read][..], &hold(0, 0, 0), &change].concat()
+}
+
+/// Away from 10 to 130, an object written meanwhile. The volume lease lasts
+/// one minute, the object lease five. Afterwards the volume is renewed by
+/// another object.
+fn one_lease_alone() -> Example {
+    let read = Step::read(0, 0);
+    let away = [Step::clock(10), Step::write(0, 7), Step::lose(0), Step::clock(61), Step::clock(130), read];
+    let renewed = [Step::ask(0, 0), Step::deliver(0), Step::deliver(0), read];
+    let steps =
+        [&hold(0, 0, 0)[..], &[read], &away, &hold(0, 1, 0), &[read, Step::read(0, 1)], &renewed].concat();
+    let mut example = example("1-one-lease-alone", "line 1 of the sheet", (1, 1, 2), steps);
+    let setup = &mut example.run.setup;
+    (setup.volume_lease, setup.object_lease, setup.timeout) = (60, 300, 5);
+    example
+}
+
+/// Object 0 is written at 2, its INVALIDATE lost, object 1 renewed at 8.
+fn renew_while_waiting() -> Vec<Step> {
+    let both = [&hold(0, 0, 0)[..], &[Step::ask(0, 1), Step::deliver(0), Step::deliver(0), Step::read(0, 0)]]
+        .concat();
+    let lost = [Step::clock(2), Step::write(0, 7), Step::lose(0), Step::clock(8)];
+    let late = [Step::ask(0, 1), Step::deliver(0), Step::deliver(0), Step::clock(11), Step::read(0, 0)];
+    [&both[..], &lost, &late].concat()
+}
+
+/// The ACK of the write that the restart cuts off stays at place 0 until the
+/// next write, which has the same new version.
+fn restart_inside_write() -> Vec<Step> {
+    let read = Step::read(0, 0);
+    let cut_off = [Step::write(0, 7), Step::deliver(0), Step::restart_server(), Step::clock(10)];
+    let again = [read, Step::write(0, 8), Step::deliver(0), read];
+    [&hold(0, 0, 0)[..], &cut_off, &hold(0, 0, 1), &again].concat()
+}
+
+/// Client 0 acknowledges, client 1 is silent from then on.
+fn client_switched_off() -> Vec<Step> {
+    let write = [Step::write(0, 7), Step::deliver(0), Step::lose(0), Step::deliver(0)];
+    let end = [Step::clock(10), Step::clock(11), Step::read(0, 0)];
+    [&hold(0, 0, 0)[..], &hold(1, 0, 0), &write, &end].concat()
+}
+
+/// Client 3 leaves a second OFFER under way, client 1 a second RENEW and
+/// DROPPED, client 0 a second GRANT, client 2 a second ACK. Then they come.
+fn old_messages() -> Vec<Step> {
+    let d = Step::deliver;
+    let offer = [Step::ask(3, 3), d(0), Step::double(0), d(0), d(1), Step::ask(3, 3), d(1), d(1)];
+    let dropped = [Step::ask(1, 1), Step::double(1), d(1), d(2), Step::double(2), d(2)];
+    let granted = [Step::ask(1, 1), d(3), d(3)];
+    let grant = [Step::ask(0, 0), d(3), d(3), d(3), Step::ask(0, 0), d(3), Step::double(3), d(3)];
+    let erased = [Step::read(0, 0), Step::write(0, 7), d(4), d(4)];
+    let ack = [Step::write(2, 8), d(4), Step::double(4), d(4), Step::ask(2, 2), d(5), d(5)];
+    let late = [
+        Step::clock(5),
+        d(3),
+        Step::read(0, 0),
+        Step::write(2, 9),
+        d(3),
+        Step::read(2, 2),
+        d(1),
+        d(1),
+        Step::write(1, 5),
+        Step::read(1, 1),
+        d(0),
+        Step::read(3, 3),
+    ];
+    [&offer[..], &dropped, &granted, &grant, &erased, &hold(2, 2, 4), &ack, &late].concat()
+}

@@ -1,0 +1,15 @@
+//! Run files by seed: the same seed gives the same files.
+
+pub mod builder;
+pub mod damage;
+pub mod notes;
+pub mod random_steps;
+pub mod rng;
+pub mod runs;
+pub mod scenes;
+pub mod scenes_answers;
+pub mod scenes_leases;
+pub mod scenes_queue;
+pub mod scenes_restart;
+pub mod scenes_writes;
+pub mod setups;

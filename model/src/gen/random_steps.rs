@@ -1,0 +1,74 @@
+//! Steps by chance, weighted so that things happen, with clock steps that
+//! aim at the next edges.
+
+use crate::gen::builder::Builder;
+use crate::gen::scenes::Scene;
+use crate::limits::CLOCK_MAX;
+use crate::step_record::Step;
+
+pub const SCENES: &[Scene] = &[a_few];
+
+fn a_few(b: &mut Builder) {
+    let count = b.rng.range(5, 60);
+    take(b, count as usize);
+}
+
+pub fn take(b: &mut Builder, count: usize) {
+    for _ in 0..count {
+        if b.full() {
+            return;
+        }
+        let step = any(b);
+        b.push(step);
+    }
+}
+
+fn any(b: &mut Builder) -> Step {
+    let (client, object) = (b.any_client(), b.any_object());
+    let place = place(b);
+    match b.rng.below(100) {
+        0..=19 => Step::read(client, object),
+        20..=39 => Step::ask(client, object),
+        40..=69 => Step::deliver(place),
+        70..=74 => Step::lose(place),
+        75..=79 => Step::double(place),
+        80..=87 => Step::write(object, b.rng.draw() >> 48),
+        88..=95 => Step::clock(time(b)),
+        96 => Step::restart_server(),
+        97 => Step::restart_client(client),
+        98 => Step { kind: b.rng.draw() as u8, ..Step::default() },
+        _ => Step::read(client.wrapping_add(b.rng.draw() as u8), object),
+    }
+}
+
+/// Mostly the front or the end of the list, sometimes past it.
+fn place(b: &mut Builder) -> u8 {
+    let len = b.queue_len();
+    match b.rng.below(10) {
+        0..=4 => 0,
+        5 => len as u8,
+        6 | 7 => len.saturating_sub(1) as u8,
+        _ => b.rng.below(len.max(1)) as u8,
+    }
+}
+
+/// An edge ahead of the clock, or a few ticks.
+fn time(b: &mut Builder) -> u32 {
+    let clock = b.tables().clock;
+    let server = b.server();
+    let ends = server.write.iter().map(|write| write.latest_end);
+    let guards = server.guard.iter().copied();
+    let volumes = server.volume_latest.iter().copied();
+    let objects = server.object_latest.iter().copied();
+    let ahead: Vec<u32> =
+        ends.chain(guards).chain(volumes).chain(objects).filter(|&edge| edge >= clock && edge > 0).collect();
+    match b.rng.below(10) {
+        0..=4 if !ahead.is_empty() => {
+            let edge = b.rng.pick(&ahead);
+            (edge + b.rng.range(0, 2)).saturating_sub(1).min(CLOCK_MAX)
+        }
+        5 => clock,
+        6 => clock.saturating_sub(1),
+        _ => clock.saturating_add(b.rng.range(0, 5)),
+    }
+}

@@ -1,0 +1,34 @@
+//! The fixed sizes and bounds of 01.
+
+/// Most clients, volumes and objects of a setup (01, Tables).
+pub const CLIENTS: usize = 16;
+pub const VOLUMES: usize = 8;
+pub const OBJECTS: usize = 32;
+
+/// Most messages under way (01, Tables).
+pub const QUEUE: usize = 64;
+
+/// Largest clock, and largest expiry, guard or latest end: the clock's
+/// bound plus the longest object lease (01, Questions at the gate).
+pub const CLOCK_MAX: u32 = 2_147_483_647;
+pub const EXPIRY_MAX: u32 = 2_148_483_647;
+
+/// Sizes of frame and run file in bytes, and its most steps
+/// (01, Frame, run file and listing).
+pub const FRAME_BYTES: usize = 32;
+pub const FILE_BYTES: usize = 65_536;
+pub const SETUP_BYTES: usize = 48;
+pub const STEP_BYTES: usize = 16;
+pub const TRAILER_BYTES: usize = 8;
+pub const STEPS: usize = 4_000;
+
+/// The refusal numbers (01, Questions at the gate).
+pub const UNSOUND: u8 = 1;
+pub const UNKNOWN_KIND: u8 = 2;
+pub const NO_SUCH_ITEM: u8 = 3;
+pub const BAD_TIME: u8 = 4;
+pub const WRITE_STANDS: u8 = 5;
+pub const NO_NUMBER_LEFT: u8 = 6;
+pub const BAD_SETUP: u8 = 7;
+pub const BAD_FRAME: u8 = 8;
+pub const BAD_FILE: u8 = 9;

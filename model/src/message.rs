@@ -1,0 +1,52 @@
+//! Messages: a client and one kind with that kind's fields.
+
+/// The message names its client, whichever way it goes
+/// (01, Messages received).
+#[derive(Clone, Copy, Debug, PartialEq, Eq)]
+pub struct Message {
+    pub client: u8,
+    pub kind: Kind,
+}
+
+/// The six kinds in the order of their frame numbers.
+#[derive(Clone, Copy, Debug, PartialEq, Eq)]
+pub enum Kind {
+    /// Client to server; epoch is the known one, version the held one.
+    Renew { object: u8, number: u32, epoch: u32, version: u32 },
+    /// Server to client. The value is there or not: two cases, so that a
+    /// grant without a value cannot carry one.
+    Grant(Grant),
+    /// Server to client; version is the one after the write.
+    Invalidate { object: u8, epoch: u32, version: u32 },
+    /// Client to server; repeats the epoch and version of the INVALIDATE.
+    Ack { object: u8, epoch: u32, version: u32 },
+    /// Server to client.
+    Offer { volume: u8, number: u32, epoch: u32 },
+    /// Client to server.
+    Dropped { volume: u8, number: u32, epoch: u32 },
+}
+
+#[derive(Clone, Copy, Debug, PartialEq, Eq)]
+pub struct Grant {
+    pub object: u8,
+    pub number: u32,
+    pub volume_expiry: u32,
+    pub epoch: u32,
+    pub version: u32,
+    pub object_expiry: u32,
+    pub value: Option<u64>,
+}
+
+impl Kind {
+    /// 1 to 6, as in the frame.
+    pub fn code(&self) -> u8 {
+        match self {
+            Kind::Renew { .. } => 1,
+            Kind::Grant(_) => 2,
+            Kind::Invalidate { .. } => 3,
+            Kind::Ack { .. } => 4,
+            Kind::Offer { .. } => 5,
+            Kind::Dropped { .. } => 6,
+        }
+    }
+}

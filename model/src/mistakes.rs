@@ -1,0 +1,165 @@
+//! Plausible mistakes, each behind a switch, to show that the generated
+//! runs would find it. The rules are a type parameter: with `Honest` every
+//! switch is a constant and leaves no trace in the code.
+
+/// Which mistakes a run makes.
+pub trait Rules: Copy {
+    fn mistakes(&self) -> Mistakes;
+}
+
+/// No mistakes: document 01.
+#[derive(Clone, Copy, Debug)]
+pub struct Honest;
+
+impl Rules for Honest {
+    #[inline(always)]
+    fn mistakes(&self) -> Mistakes {
+        Mistakes::NONE
+    }
+}
+
+impl Rules for Mistakes {
+    fn mistakes(&self) -> Mistakes {
+        *self
+    }
+}
+
+macro_rules! mistakes {
+    ($($(#[$why:meta])* $name:ident,)*) => {
+        #[derive(Clone, Copy, Debug, Default, PartialEq, Eq)]
+        pub struct Mistakes {
+            $($(#[$why])* pub $name: bool,)*
+        }
+
+        impl Mistakes {
+            pub const NONE: Mistakes = Mistakes { $($name: false,)* };
+
+            /// Every switch by name, alone.
+            pub const EACH: &'static [(&'static str, Mistakes)] = &[
+                $((stringify!($name), Mistakes { $name: true, ..Mistakes::NONE }),)*
+            ];
+        }
+    };
+}
+
+mistakes! {
+    // The four traps at the end of 01's Edges.
+    /// Renews a volume for a client still waited for there.
+    renew_while_waiting,
+    /// Waits for no unreachable client, though its volume lease lives.
+    skip_unreachable,
+    /// Counts an ACK of another epoch.
+    ack_any_epoch,
+    /// Lets a doubled RENEW renew an offer.
+    old_renew_offers,
+
+    // The client.
+    /// Shows a copy whose volume lease is dead.
+    read_without_volume_lease,
+    /// Shows a copy whose object lease is dead.
+    read_without_object_lease,
+    /// Takes a lease for alive at its expiry.
+    read_alive_at_expiry,
+    /// Stores a GRANT that nobody asks for.
+    grant_any_number,
+    /// Stores a GRANT for the object asked for, whatever its number.
+    grant_same_object,
+    /// Obeys an OFFER that nobody asks for.
+    offer_any_number,
+    /// Keeps all its leases at an OFFER.
+    offer_keeps_leases,
+    /// Keeps the object expiries at an OFFER.
+    offer_keeps_object_expiries,
+    /// Keeps the standing request at an INVALIDATE.
+    invalidate_keeps_request,
+    /// Sends no ACK where it holds no copy.
+    ack_only_with_copy,
+    /// Keeps copies and volume leases over its restart.
+    client_restart_keeps_leases,
+    /// Keeps the standing request over its restart.
+    client_restart_keeps_request,
+    /// Counts from 1 again after its restart.
+    client_restart_resets_number,
+
+    // Writes.
+    /// Waits for a client whose object lease ends at the clock.
+    write_alive_at_expiry,
+    /// Completes a write at its latest end, not past it.
+    ends_at_latest_end,
+    /// Waits beyond the latest end.
+    waits_forever,
+    /// Leaves the guard out of the latest end.
+    latest_end_without_guard,
+    /// Takes the greater of VE and OE for the latest end.
+    latest_end_by_greater,
+    /// Leaves clock + m out of the latest end.
+    latest_end_without_timeout,
+    /// Completes a write on acceptance before the guard.
+    write_before_guard,
+    /// Completes a write on an ACK before the guard.
+    ack_before_guard,
+    /// Completes nothing at the guard.
+    clock_without_guard,
+    /// Marks nobody unreachable on completing.
+    complete_without_marking,
+    /// Voids the offers of those it marks on completing.
+    complete_clears_offers,
+    /// Lets a second write replace the standing one.
+    second_write_replaces,
+
+    // Messages at the server.
+    /// Takes a RENEW whatever its number.
+    renew_any_number,
+    /// Marks nobody at an OFFER.
+    offer_without_marking,
+    /// Resends INVALIDATE for the highest object.
+    resend_highest,
+    /// Grants an object whose write stands.
+    grant_during_write,
+    /// Counts an ACK of another version.
+    ack_any_version,
+    /// Counts a DROPPED of another number.
+    dropped_any_number,
+    /// Keeps the offer after its DROPPED.
+    dropped_keeps_offer,
+    /// Keeps the object leases after a DROPPED.
+    dropped_keeps_leases,
+    /// Waits on after a DROPPED.
+    dropped_keeps_waiting,
+    /// Completes no write on a DROPPED.
+    dropped_completes_nothing,
+
+    // The server's restart.
+    /// Keeps the epochs.
+    restart_keeps_epochs,
+    /// Sets no guard.
+    restart_without_guard,
+    /// Forgets VE, so that a second restart sets no guard.
+    restart_forgets_latest,
+    /// Keeps the standing writes.
+    restart_keeps_writes,
+    /// Keeps the highest numbers seen.
+    restart_keeps_seen,
+    /// Keeps the leases.
+    restart_keeps_leases,
+    /// Loses the messages under way.
+    restart_empties_queue,
+
+    // The message list.
+    /// Puts the 65th message over the 64th.
+    full_overwrites_last,
+    /// Makes room for the 65th message by losing the first.
+    full_loses_first,
+    /// Refuses to double in a full list.
+    full_refuses_double,
+    /// Fills the gap of a removal with the last message.
+    removal_swaps_last,
+    /// Puts a doubled message behind its original.
+    double_lands_behind,
+
+    // The gate.
+    /// Refuses a clock step to the same time.
+    same_time_refused,
+    /// Accepts a clock step back.
+    time_goes_back,
+}

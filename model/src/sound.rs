@@ -1,0 +1,95 @@
+//! Question 1: are setup and tables sound (01, Questions at the gate)?
+//!
+//! It asks about what exists: items below the counts, messages below the
+//! list's length. Slots past them are free. The scans have no early end, so
+//! that the compiler can make vectors of them.
+
+use crate::bits::members;
+use crate::copies::ObjectCopy;
+use crate::limits::{CLOCK_MAX, EXPIRY_MAX, QUEUE};
+use crate::message::{Kind, Message};
+use crate::requests::Request;
+use crate::setup::Setup;
+use crate::tables::{ClientVolumes, Server, Tables};
+
+pub fn sound(setup: &Setup, tables: &Tables, copies: &[ObjectCopy], requests: &[Request]) -> bool {
+    setup.in_range()
+        && copies.len() == setup.copy_count()
+        && requests.len() == setup.clients as usize
+        && tables.clock <= CLOCK_MAX
+        && tables.queue.len <= QUEUE
+        && server_sound(setup, &tables.server)
+        && clients_sound(setup, &tables.clients)
+        && copies_sound(copies)
+        && requests.iter().all(|request| request_sound(setup, request))
+        && tables.queue.messages().iter().all(|message| message_sound(setup, message))
+}
+
+fn server_sound(setup: &Setup, server: &Server) -> bool {
+    let volumes = setup.volumes as usize;
+    let objects = setup.objects as usize;
+    let clients = setup.clients as usize;
+    none_zero(&server.epoch[..volumes])
+        && none_zero(&server.version[..objects])
+        && in_bound(&server.volume_latest[..volumes])
+        && in_bound(&server.guard[..volumes])
+        && in_bound(&server.object_latest[..objects])
+        && rows_in_bound(&server.volume_expiry[..volumes], clients)
+        && rows_in_bound(&server.object_expiry[..objects], clients)
+        && writes_sound(setup, server)
+}
+
+/// A version with a standing write must be able to grow.
+fn writes_sound(setup: &Setup, server: &Server) -> bool {
+    members(server.standing & setup.all_objects())
+        .all(|object| server.write[object].latest_end <= EXPIRY_MAX && server.version[object] < u32::MAX)
+}
+
+fn clients_sound(setup: &Setup, clients: &ClientVolumes) -> bool {
+    rows_in_bound(&clients.expiry[..setup.clients as usize], setup.volumes as usize)
+}
+
+fn copies_sound(copies: &[ObjectCopy]) -> bool {
+    copies.iter().fold(0, |bad, copy| bad | u32::from(copy.expiry > EXPIRY_MAX)) == 0
+}
+
+fn request_sound(setup: &Setup, request: &Request) -> bool {
+    request.next >= 1 && request.standing.is_none_or(|standing| standing.object < setup.objects)
+}
+
+fn message_sound(setup: &Setup, message: &Message) -> bool {
+    message.client < setup.clients
+        && match message.kind {
+            Kind::Renew { object, .. } | Kind::Invalidate { object, .. } | Kind::Ack { object, .. } => {
+                object < setup.objects
+            }
+            Kind::Grant(grant) => {
+                grant.object < setup.objects
+                    && grant.volume_expiry <= EXPIRY_MAX
+                    && grant.object_expiry <= EXPIRY_MAX
+            }
+            Kind::Offer { volume, .. } | Kind::Dropped { volume, .. } => volume < setup.volumes,
+        }
+}
+
+fn none_zero(values: &[u32]) -> bool {
+    values.iter().fold(0, |bad, &value| bad | u32::from(value == 0)) == 0
+}
+
+fn in_bound(values: &[u32]) -> bool {
+    values.iter().fold(0, |bad, &value| bad | u32::from(value > EXPIRY_MAX)) == 0
+}
+
+/// Scans whole rows of fixed width and lets a mask choose the slots asked
+/// about: a loop of fixed length needs no remainder.
+fn rows_in_bound<const N: usize>(rows: &[[u32; N]], width: usize) -> bool {
+    let mut asked = [0; N];
+    asked[..width].fill(u32::MAX);
+    let mut bad = 0;
+    for row in rows {
+        for (value, asked) in row.iter().zip(&asked) {
+            bad |= u32::from(value & asked > EXPIRY_MAX);
+        }
+    }
+    bad == 0
+}

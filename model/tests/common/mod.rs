@@ -1,0 +1,68 @@
+//! A setup and a state in use, for tests that hand tables over.
+#![allow(dead_code)]
+
+use model::answer::Answer;
+use model::message::Message;
+use model::run::State;
+use model::setup::Setup;
+use model::step::step;
+use model::step_record::Step;
+
+/// Three clients, two volumes, four objects: 0, 1, 3 in volume 0, 2 in 1.
+pub fn setup() -> Setup {
+    let mut volume_of = [0; 32];
+    volume_of[2] = 1;
+    Setup { clients: 3, volumes: 2, objects: 4, volume_lease: 10, object_lease: 100, timeout: 3, volume_of }
+}
+
+pub struct Bench {
+    pub setup: Setup,
+    pub state: State,
+}
+
+impl Bench {
+    pub fn fresh() -> Bench {
+        Bench { setup: setup(), state: State::fresh() }
+    }
+
+    pub fn with(volume_lease: u32, object_lease: u32, timeout: u32) -> Bench {
+        Bench { setup: Setup { volume_lease, object_lease, timeout, ..setup() }, state: State::fresh() }
+    }
+
+    pub fn step(&mut self, record: Step) -> Answer {
+        let (tables, copies, requests) = self.state.parts(&self.setup);
+        step(&self.setup, tables, copies, requests, &record)
+    }
+
+    /// The listing's two numbers.
+    pub fn line(&mut self, record: Step) -> (u8, u64) {
+        self.step(record).numbers()
+    }
+
+    pub fn all(&mut self, records: &[Step]) {
+        for &record in records {
+            assert_ne!(self.line(record).0, 4, "{record:?}");
+        }
+    }
+
+    pub fn queue(&self) -> &[Message] {
+        self.state.tables.queue.messages()
+    }
+
+    pub fn deliver_all(&mut self) {
+        while !self.queue().is_empty() {
+            self.step(Step::deliver(0));
+        }
+    }
+
+    /// Asks until the client holds the object, as 01's example does.
+    pub fn hold(&mut self, client: u8, object: u8) {
+        self.step(Step::ask(client, object));
+        self.deliver_all();
+        if self.line(Step::read(client, object)).0 != 1 {
+            self.step(Step::ask(client, object));
+            self.deliver_all();
+        }
+        assert_eq!(self.line(Step::read(client, object)).0, 1);
+    }
+}

@@ -1,0 +1,100 @@
+//! What holds along the generated runs, and what they reach.
+
+use std::collections::BTreeSet;
+
+use model::answer::Answer;
+use model::gen::damage;
+use model::gen::runs::run;
+use model::listing::{listing, listing_trusting};
+use model::run::State;
+use model::runfile::read;
+use model::step::step;
+use model::step_record::*;
+
+const SEED: u64 = 1;
+const RUNS: usize = 1_000;
+
+#[test]
+fn the_same_seed_gives_the_same_files() {
+    assert_eq!(run(SEED, 17).file(), run(SEED, 17).file());
+    assert_ne!(run(SEED, 17).file(), run(SEED + 1, 17).file());
+    assert_eq!(damage::files(SEED), damage::files(SEED));
+}
+
+#[test]
+fn every_generated_file_is_accepted_and_stays_sound() {
+    for number in 0..RUNS {
+        let run = run(SEED, number);
+        let file = run.file();
+        let parts = read(&file).expect("a generated run");
+        assert_eq!((parts.note, parts.setup), (&run.note[..], run.setup));
+        assert!(parts.steps().eq(run.steps.iter().copied()));
+        assert_eq!(listing(&file), listing_trusting(&file), "run {number}");
+    }
+}
+
+/// 01, The ledger of a run, as far as the tables themselves show it.
+#[test]
+fn reads_show_the_posted_value_and_writes_end_in_time() {
+    for number in 0..RUNS {
+        let run = run(SEED, number);
+        let mut state = State::fresh();
+        let (mut accepted, mut completed, mut cut_off) = (0, 0, 0);
+        for record in &run.steps {
+            let open = state.tables.server.standing.count_ones();
+            let (tables, copies, requests) = state.parts(&run.setup);
+            let answer = step(&run.setup, tables, copies, requests, record);
+            let server = &tables.server;
+            match (record.kind, answer) {
+                (_, Answer::Refused(_)) => continue,
+                (READ, Answer::Shown(value)) => {
+                    assert_eq!(value, server.value[record.object as usize])
+                }
+                (CLOCK, _) => (0..32).for_each(|object| {
+                    assert!(!server.stands(object) || server.write[object].latest_end >= record.clock);
+                }),
+                (WRITE, _) => accepted += 1,
+                (RESTART_SERVER, _) => cut_off += open,
+                _ => (),
+            }
+            completed += if answer.numbers().0 == 3 { answer.numbers().1 as u32 } else { 0 };
+            assert_eq!(accepted, completed + cut_off + server.standing.count_ones(), "run {number}");
+        }
+    }
+}
+
+#[test]
+fn runs_reach_every_answer_refusal_and_kind() {
+    let (mut lines, mut kinds, mut longest, mut fullest) = (BTreeSet::new(), BTreeSet::new(), 0, 0);
+    let mut notes = BTreeSet::new();
+    for number in 0..RUNS {
+        let run = run(SEED, number);
+        let mut state = State::fresh();
+        for record in &run.steps {
+            let (tables, copies, requests) = state.parts(&run.setup);
+            let answer = step(&run.setup, tables, copies, requests, record);
+            lines.insert(match answer.numbers() {
+                (4, number) => (4, number),
+                (answer, _) => (answer, 0),
+            });
+            if let Answer::Delivered { message, .. } = answer {
+                kinds.insert(message.kind.code());
+            }
+            fullest = fullest.max(tables.queue.len);
+        }
+        longest = longest.max(run.steps.len());
+        notes.insert(run.note.len().min(3));
+    }
+    assert!(lines.into_iter().eq([(0, 0), (1, 0), (2, 0), (3, 0), (4, 2), (4, 3), (4, 4), (4, 5)]));
+    assert!(kinds.into_iter().eq(1..=6));
+    assert_eq!((longest, fullest), (4_000, 64));
+    assert!(notes.contains(&0) && notes.contains(&1));
+}
+
+#[test]
+fn damaged_files_are_of_both_sorts() {
+    let files = damage::files(SEED);
+    let refused = files.iter().filter(|file| read(file).is_err()).count();
+    assert!(refused > 200, "{refused} refused");
+    assert!(files.len() - refused > 50, "{} accepted", files.len() - refused);
+}
