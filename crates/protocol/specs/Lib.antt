@@ -14,4 +14,5 @@ pub mod Ledger
 pub mod Agreement
 pub mod Soundness
 pub mod Bookkeeping
+pub mod History
 pub mod Edges
