@@ -1,6 +1,7 @@
 -- The history of a run is the events of its steps, told newest first. Demand 3 once more, in functions of the history alone.
 pub mod Lawful
 pub mod Kept
+pub mod Example
 use Prim.Native.Nat.{ℕ, _+_, _<_, _≤_}
 use mathlib.Core.Bool.{Bool, true, false, cond}
 use mathlib.Core.List.{List, [], _∷_, _++_}
@@ -93,6 +94,11 @@ isCutOffOf o (clocked x) = false
 unfoldable pub howOften : (Event → Bool) → List Event → ℕ
 howOften p [] = 0
 howOften p (e ∷ past) = cond (p e) 1 0 + howOften p past
+
+-- what the steps of a run reported, together
+unfoldable pub reportedIn : List Answer → ℕ
+reportedIn [] = 0
+reportedIn (a ∷ rest) = reported a + reportedIn rest
 
 abbrev pub stillOpen : Setup → List Event → ℕ
 stillOpen s h = countFrom (λ (o : ℕ). isOpen (openIn o h)) 0 (s .objects)

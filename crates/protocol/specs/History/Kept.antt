@@ -36,7 +36,7 @@ use Rattle.protocol.specs.Bookkeeping.Settled.{OpenEach, settlingOf, set
 use Rattle.protocol.specs.Bookkeeping.Kept.{objects-same, clock-on, write-on, received-settles, clock-happening, read-happening, ask-happening, write-happening, deliver-happening, lose-happening, double-happening, server-happening, client-happening}
 use Rattle.protocol.specs.Bookkeeping.Shown.{copyAt, copy-read}
 use Rattle.protocol.specs.Bookkeeping.Agreed.{ReadsCurrent, opened-write, step-booked}
-use Rattle.protocol.specs.History.{told, historyFrom, history, lastCompleted, openIn, isAcceptance, isCompletion, isCutOff, howOften, stillOpen, ShowsLast, EndsInTime, AddsUp}
+use Rattle.protocol.specs.History.{told, historyFrom, history, lastCompleted, openIn, isAcceptance, isCompletion, isCutOff, howOften, reportedIn, stillOpen, ShowsLast, EndsInTime, AddsUp}
 use Rattle.protocol.specs.History.Lawful.{Lawful, LawfulAll, ledgerOf, ledger-told, told-append, ledger-opened, ledger-posted, ledger-tallies, completions-lawful, cuts-lawful, shows-last, ends-in-time}
 
 module _ (s : Setup) (rs : Ranges s) (t : Tables) (k : Shape t) (b : Bounded s t) (past : List Event) (h : Booked s t (ledgerOf past)) (a : LawfulAll s past) where
@@ -114,6 +114,14 @@ module _ (s : Setup) (w : World) (x : Step) (past : List Event) (k : SoundWorld 
   step-ledger : Booked s (stepped s w x .tables) (ledgerOf (told (events s w x) past))
   step-ledger = rw (ledger-told (events s w x) past) at (step-booked s w x (ledgerOf past) k h .keeps)
 
+  -- as many completions are told as the step reports
+  step-told : howOften isCompletion (told (events s w x) past) ≡ howOften isCompletion past + reported (answerOf s w x)
+  step-told =
+      sym (ledger-tallies (told (events s w x) past) .completes)
+      ∙ sym (ap (λ (l : Ledger). l .completes) (ledger-told (events s w x) past))
+      ∙ step-booked s w x (ledgerOf past) k h .reports
+      ∙ omega (arith, ledger-tallies past .completes)
+
 -- ---- a run
 -- what stands at the end of a run with history h
 pub record Remembered (s : Setup) (w : World) (h : List Event) : Type 0 where
@@ -133,6 +141,22 @@ module _ {κ} (s : Setup) (P : World → Type κ)
   pub remembered : inRange s ≡ true → P (freshWorld s) → (xs : List Step) → Remembered s (ran s (freshWorld s) xs) (history s xs)
   unfolding LawfulAll ledgerOf
   remembered i p xs = run-remembered (freshWorld s) [] xs (fresh-sound s i) p (record { lawful = tt; booked = fresh-booked s })
+
+  run-told : (w : World) (past : List Event) (xs : List Step) → SoundWorld s w → P w → Remembered s w past
+      → howOften isCompletion (historyFrom s w past xs) ≡ howOften isCompletion past + reportedIn (answers s w xs)
+  unfolding historyFrom answers reportedIn
+  run-told w past [] k p r = omega arith
+  run-told w past (x ∷ xs) k p r =
+      let c = current w k p in
+      run-told (stepped s w x) (told (events s w x) past) xs (stepped-sound s w x k) (kept w x k p)
+      (record { lawful = step-lawful s w x past k c (r .booked) (r .lawful); booked = step-ledger s w x past k c (r .booked) (r .lawful) })
+      ∙ omega (arith, step-told s w x past k c (r .booked) (r .lawful))
+
+  -- "the numbers of writes completed that the steps reported add up to completed"
+  pub reports-add-up : inRange s ≡ true → P (freshWorld s) → (xs : List Step) → reportedIn (answers s (freshWorld s) xs) ≡ howOften isCompletion (history s xs)
+  unfolding LawfulAll ledgerOf howOften
+  reports-add-up i p xs =
+      omega (arith, run-told (freshWorld s) [] xs (fresh-sound s i) p (record { lawful = tt; booked = fresh-booked s }))
 
 -- ---- what a remembered run says, in the history's words
 module _ (s : Setup) (w : World) (h : List Event) (r : Remembered s w h) where
