@@ -14,6 +14,7 @@ pub mod Ledger
 pub mod Agreement
 pub mod Soundness
 pub mod Bookkeeping
+pub mod History
 pub mod Edges
 pub mod Safety
 pub mod Demand3

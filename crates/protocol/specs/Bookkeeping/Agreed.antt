@@ -45,6 +45,11 @@ pub record BookedStep (s : Setup) (w : World) (x : Step) (l m : Ledger) : Type 0
   pub keeps : Booked s (stepped s w x .tables) m
   pub reports : m .completes ≡ l .completes + reported (answerOf s w x)
 
+-- what an open write says of the tables
+pub opened-write : (b : Bool) (p q v e : ℕ) → cond b (write p q) none ≡ write v e → (b ≡ true) × (q ≡ e)
+opened-write true p q v e f = (refl, cc)
+opened-write false p q v e f = absurd (let z : _≡_ {A = ℕ} 0 1 = cc in omega arith)
+
 read-tables : (s : Setup) (t : Tables) (c : Copy) (r : Request) (d o : ℕ) → readDecided s t c r d o .outcome .tables ≡ t
 unfolding readDecided
 read-tables s t c r d o = cond-keeps (λ (g : Decision). g .outcome .tables ≡ t) (showable s t c d o) (λ e. refl) (λ e. refl)
@@ -66,11 +71,7 @@ module _ (s : Setup) (w : World) (x : Step) (l : Ledger) where
   pub step-booked : SoundWorld s w → Booked s (w .tables) l → BookedStep s w x l (bookAll l (events s w x))
   step-booked k h = ⊎-elim (accepted-step k h) (refused-step h) (true-or-false (accepts s w x))
 
-  -- ---- after a clock step
-  opened-write : (b : Bool) (p q v e : ℕ) → cond b (write p q) none ≡ write v e → (b ≡ true) × (q ≡ e)
-  opened-write true p q v e f = (refl, cc)
-  opened-write false p q v e f = absurd (let z : _≡_ {A = ℕ} 0 1 = cc in omega arith)
-
+  -- after a clock step
   pub step-ends : isClock x ≡ true → isRefused (answerOf s w x) ≡ false
       → (o v e : ℕ) → o < s .objects → standingWrite (stepped s w x .tables) o ≡ write v e → x .clock ≤ e
   step-ends c f o v e p i =

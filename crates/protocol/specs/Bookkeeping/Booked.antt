@@ -52,10 +52,10 @@ same-booked s t u l e h = record {
 }
 
 module _ (s : Setup) (rs : Ranges s) (t : Tables) (k : Shape t) (l : Ledger) (h : Booked s t l) where
-  standing-opened : (o : ℕ) → o < s .objects → standingAt t o ≡ true → l .opened o ≡ write (pendingAt t o) (endAt t o)
+  pub standing-opened : (o : ℕ) → o < s .objects → standingAt t o ≡ true → l .opened o ≡ write (pendingAt t o) (endAt t o)
   standing-opened o p e = sym (h .writes o p) ∙ rw e
 
-  vacant-opened : (o : ℕ) → o < s .objects → standingAt t o ≡ false → l .opened o ≡ none
+  pub vacant-opened : (o : ℕ) → o < s .objects → standingAt t o ≡ false → l .opened o ≡ none
   vacant-opened o p e = sym (h .writes o p) ∙ rw e
 
   -- ---- a write accepted

@@ -37,7 +37,7 @@ use Rattle.protocol.specs.Soundness.Steps.{Ranges, Accepted, by-kind, ob
 use Rattle.protocol.specs.Soundness.Shape.{Shape, clock-shape, begun-shape, written-shape, taken-shape, acked-shape, dropped-shape}
 use Rattle.protocol.specs.Soundness.Bounds.{Bounded, named-at}
 use Rattle.protocol.specs.Bookkeeping.Booked.{Booked, SameWrites, same-booked, begun-booked, cut-completes, restarted-booked}
-use Rattle.protocol.specs.Bookkeeping.Settled.{Settlement, StagedOn, settlingOf, settle, done-completes, ready-stands, due-stands}
+use Rattle.protocol.specs.Bookkeeping.Settled.{OpenEach, Settlement, StagedOn, settlingOf, settle, done-completes, ready-stands, due-stands}
 
 -- ---- what an answer reports
 pub reported-completed : (n : ℕ) → reported (completedAnswer n) ≡ n
@@ -59,7 +59,7 @@ pub record Recorded (s : Setup) (l : Ledger) (g : Decision) (m : Ledger) : Type 
   pub reports : m .completes ≡ l .completes + reported (g .outcome .answer)
 
 -- ---- what leaves every write alone
-objects-same : (t u : Tables) → u .objects ≡ t .objects → SameWrites t u
+pub objects-same : (t u : Tables) → u .objects ≡ t .objects → SameWrites t u
 objects-same t u e = record { value = rw e; standing = rw e; pending = rw e; end = rw e }
 
 renewed-same : (s : Setup) (t : Tables) (d o n e w : ℕ) → SameWrites t (renewed s t d o n e w)
@@ -77,10 +77,10 @@ renewed-same s t d o n e w =
 unstaged-on : (s : Setup) (t : Tables) → Shape t → StagedOn s t (unstaged t)
 unstaged-on s t k = record { same = objects-same t t refl; shape = k; stands = λ u o e. not-both e refl; fits = omega arith }
 
-clock-on : (s : Setup) (t : Tables) (x : ℕ) → Shape t → StagedOn s t (clockStaged s t x)
+pub clock-on : (s : Setup) (t : Tables) (x : ℕ) → Shape t → StagedOn s t (clockStaged s t x)
 clock-on s t x k = record { same = objects-same t _ refl; shape = clock-shape t x k; stands = due-stands s; fits = omega arith }
 
-write-on : (s : Setup) (t : Tables) (o x : ℕ) → o < s .objects → Shape t → StagedOn s (begun s t o x) (writeStaged s t o x)
+pub write-on : (s : Setup) (t : Tables) (o x : ℕ) → o < s .objects → Shape t → StagedOn s (begun s t o x) (writeStaged s t o x)
 unfolding written
 write-on s t o x p k = record { same = objects-same _ _ refl; shape = written-shape s t o x k; stands = ready-stands s; fits = omega arith }
 
@@ -112,8 +112,8 @@ drop-on s t d v n e k =
 
 -- ---- a message received
 uncounted-settles : (s : Setup) (t u : Tables) (l : Ledger) → SameWrites t u → Booked s t l → Settlement s l 0 (uncounted u) []
-unfolding bookAll
-uncounted-settles s t u l e h = record { booked = same-booked s t u l e h; counts = omega arith }
+unfolding bookAll OpenEach
+uncounted-settles s t u l e h = record { booked = same-booked s t u l e h; counts = omega arith; opens = tt }
 
 module _ (s : Setup) (rs : Ranges s) (t : Tables) (k : Shape t) (c : Copy) (r : Request) (d : ℕ) (l : Ledger) (h : Booked s t l) where
   grant-settles : (o n x e w y : ℕ) (v : Payload) → Settlement s l 0 (grantReceived s t c r d o n x e w y v .counted) []
@@ -132,7 +132,7 @@ module _ (s : Setup) (rs : Ranges s) (t : Tables) (k : Shape t) (c : Copy) (r : 
       cond-keeps (λ (g : Received). Settlement s l 0 (g .counted) []) (stands r n)
       (λ _. uncounted-settles s t _ l (objects-same t _ refl) h) (λ _. uncounted-settles s t _ l (objects-same t _ refl) h)
 
-  received-settles : (q : Kind) → kindSound s q ≡ true → Settlement s l 0 (received s t c r d q .counted) (settlingOf s (receiptStaged s t d q))
+  pub received-settles : (q : Kind) → kindSound s q ≡ true → Settlement s l 0 (received s t c r d q .counted) (settlingOf s (receiptStaged s t d q))
   unfolding received settling
   received-settles (Renew o n e w) f = uncounted-settles s t _ l (renewed-same s t d o n e w) h
   received-settles (Grant o n x e w y v) f = grant-settles o n x e w y v

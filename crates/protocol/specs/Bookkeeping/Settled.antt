@@ -20,10 +20,10 @@ use Rattle.protocol.specs.Setup.{volumeOf}
 use Rattle.protocol.specs.Tables.{standingAt, endAt}
 use Rattle.protocol.specs.Leases.{guardPassed, endOver}
 use Rattle.protocol.specs.Writes.{waited, ready, due, posted, completed, Staged, completeIf, settled, settling, clockStaged}
-use Rattle.protocol.specs.Ledger.{Event, completed as done, completing, Ledger, book, bookAll}
+use Rattle.protocol.specs.Ledger.{Event, completed as done, completing, isOpen, Ledger, book, bookAll}
 use Rattle.protocol.specs.Soundness.Steps.{Ranges}
 use Rattle.protocol.specs.Soundness.Shape.{Shape, completed-shape}
-use Rattle.protocol.specs.Bookkeeping.Booked.{Booked, SameWrites, same-booked, completed-booked}
+use Rattle.protocol.specs.Bookkeeping.Booked.{Booked, SameWrites, same-booked, standing-opened, completed-booked}
 
 -- only standing writes pass the test
 abbrev pub Stands : (Tables → ℕ → Bool) → Type 0
@@ -37,18 +37,24 @@ pub due-stands : (s : Setup) → Stands (due s)
 unfolding due
 due-stands s t o e = and-true (standingAt t o) (not (waited s t o) && guardPassed t (volumeOf s o) || endOver (t .clock) (endAt t o)) e .0
 
+-- each write is open when it completes, one after the other
+unfoldable pub OpenEach : Ledger → List ℕ → Type 0
+OpenEach l [] = Unit {0}
+OpenEach l (o ∷ os) = (isOpen (l .opened o) ≡ true) × OpenEach (book l (done o)) os
+
 -- c is what is left after the writes of os completed, n being counted before
 pub record Settlement (s : Setup) (l : Ledger) (n : ℕ) (c : Counted) (os : List ℕ) : Type 0 where
   pub booked : Booked s (c .tables) (bookAll l (map done os))
   pub counts : c .count ≡ n + length os
+  pub opens : OpenEach l os
 
 module _ (s : Setup) (rs : Ranges s) (test : Tables → ℕ → Bool) (stands : Stands test) where
   abbrev Leads : ℕ → ℕ → Counted → Ledger → Type 0
   Leads j n c l = Settlement s l (c .count) (foldFrom (completeIf test s) c j n) (settling test s (c .tables) j n)
 
   settle-from : (j n : ℕ) → j + n ≤ s .objects → (c : Counted) (l : Ledger) → Shape (c .tables) → Booked s (c .tables) l → Leads j n c l
-  unfolding foldFrom settling bookAll
-  settle-from j zero f c l k h = record { booked = h; counts = omega arith }
+  unfolding foldFrom settling bookAll OpenEach
+  settle-from j zero f c l k h = record { booked = h; counts = omega arith; opens = tt }
   settle-from j (suc n) f c l k h = go (test (c .tables) j) refl (λ d m. settle-from (j + 1) n (omega arith) d m)
     where
       next : Counted
@@ -59,7 +65,11 @@ module _ (s : Setup) (rs : Ranges s) (test : Tables → ℕ → Bool) (stands : 
           (cond b (j ∷ settling test s (completed s (c .tables) j) (j + 1) n) (settling test s (c .tables) (j + 1) n))
       go true e rest =
           let r = rest next (book l (done j)) (completed-shape s (c .tables) j k) (completed-booked s rs (c .tables) k l h j (omega arith) (stands (c .tables) j e)) in
-          record { booked = r .booked; counts = r .counts ∙ omega arith }
+          record {
+            booked = r .booked;
+            counts = r .counts ∙ omega arith;
+            opens = (ap isOpen (standing-opened s rs (c .tables) k l h j (omega arith) (stands (c .tables) j e)), r .opens);
+          }
       go false e rest = rest c l k h
 
 -- ---- a step that stages g on tables t

@@ -87,7 +87,7 @@ pub record ReadShown (s : Setup) (w : World) (x : Step) (v : ℕ) : Type 0 where
   pub shows : showable s (w .tables) (copyAt s w (x .client) (x .object)) (x .client) (x .object) ≡ true
   pub value : copyAt s w (x .client) (x .object) .value ≡ v
 
-copy-read : (s : Setup) (w : World) (x : Step) → x .kind ≡ 2 → copyOf s w x ≡ copyAt s w (x .client) (x .object)
+pub copy-read : (s : Setup) (w : World) (x : Step) → x .kind ≡ 2 → copyOf s w x ≡ copyAt s w (x .client) (x .object)
 unfolding target
 copy-read s w x e = rw e
 
