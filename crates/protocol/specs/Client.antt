@@ -68,8 +68,11 @@ abbrev pub filled : Copy → ℕ → ℕ → Payload → Copy
 filled c w y p = record { version = w; value = payloadOr (c .value) p; expiry = y }
 
 -- ---- INVALIDATE: "forget a standing request for that object"
+abbrev pub asksFor : Request → ℕ → Bool
+asksFor r o = r .standing && eqb (r .object) o
+
 unfoldable pub forgotten : Request → ℕ → Request
-forgotten r o = cond (r .standing && eqb (r .object) o) (ended r) r
+forgotten r o = cond (asksFor r o) (ended r) r
 
 -- ---- OFFER, and Step 9: what becomes of each copy of the client, for object o. An OFFER leaves versions and values: "all its object expiries to 0"
 unfoldable pub swept : Setup → Sweep → Copy → ℕ → Copy

@@ -10,11 +10,11 @@ pub mod Answers
 pub mod Gate
 pub mod Decide
 pub mod World
+pub mod Edges
 pub mod Ledger
 pub mod Agreement
 pub mod Soundness
 pub mod Bookkeeping
 pub mod History
-pub mod Edges
 pub mod Safety
 pub mod Demand3

@@ -24,9 +24,13 @@ messages q = take (q .len) (q .items)
 abbrev pub messageAt : Queue → ℕ → Message
 messageAt q i = getD (q .items) i blank
 
+-- "at most 64"
+abbrev pub hasRoom : Queue → Bool
+hasRoom q = ltb (q .len) 64
+
 -- "A message sent to a full list is lost."
 unfoldable pub pushed : Queue → Message → Queue
-pushed q m = cond (ltb (q .len) 64) (record { items = set (q .items) (q .len) m; len = q .len + 1 }) q
+pushed q m = cond (hasRoom q) (record { items = set (q .items) (q .len) m; len = q .len + 1 }) q
 
 -- "A removal closes the gap." The place that it frees is blank
 unfoldable pub removed : Queue → ℕ → Queue

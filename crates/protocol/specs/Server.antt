@@ -98,16 +98,24 @@ granted s t d o n w = sent (objectRenewed s (volumeRenewed s t d (volumeOf s o))
 unfoldable pub mustDrop : Tables → ℕ → ℕ → ℕ → Bool
 mustDrop t d v e = not (eqb e (epochAt t v)) || unreachableAt t d v
 
+-- "This object has a standing write"
+abbrev pub beingWritten : Tables → ℕ → Bool
+beingWritten t o = standingAt t o
+
 -- "take the first rule that fits"
 unfoldable pub renewedBy : Setup → Tables → ℕ → ℕ → ℕ → ℕ → ℕ → Tables
 renewedBy s t d o n e w =
     cond (mustDrop t d (volumeOf s o) e) (sent (offered t d (volumeOf s o) n) (offering t d (volumeOf s o) n))
     (cond (ltb (lowestWaited s t d (volumeOf s o)) (s .objects)) (sent t (invalidation s t (lowestWaited s t d (volumeOf s o)) d))
-    (cond (standingAt t o) t (granted s t d o n w)))
+    (cond (beingWritten t o) t (granted s t d o n w)))
 
--- "number not above the highest seen: nothing"
+-- "number not above the highest seen": an old RENEW, or a double of one
+abbrev pub stale : Tables → ℕ → ℕ → Bool
+stale t d n = leb n (seenAt t d)
+
+-- ".. nothing"
 unfoldable pub renewed : Setup → Tables → ℕ → ℕ → ℕ → ℕ → ℕ → Tables
-renewed s t d o n e w = cond (leb n (seenAt t d)) t (renewedBy s (noted t d n) d o n e w)
+renewed s t d o n e w = cond (stale t d n) t (renewedBy s (noted t d n) d o n e w)
 
 -- ---- ACK (object o, epoch e, new version w) of client d
 

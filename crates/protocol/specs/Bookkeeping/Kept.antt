@@ -27,7 +27,7 @@ use Rattle.protocol.specs.Setup.{volumeOf}
 use Rattle.protocol.specs.Messages.{messageAt}
 use Rattle.protocol.specs.Tables.{seenAt, standingAt}
 use Rattle.protocol.specs.Writes.{Staged, unstaged, latestEnd, begun, ready, settled, settling, written, writeStaged, clockStaged}
-use Rattle.protocol.specs.Server.{noted, offered, volumeRenewed, objectRenewed, granted, lowestWaited, mustDrop, renewedBy, renewed, ackTaken, acked, ackStaged, dropTaken, dropped, ofVolume, dropStaged, readyIn, serverRestarted}
+use Rattle.protocol.specs.Server.{noted, offered, volumeRenewed, objectRenewed, granted, lowestWaited, mustDrop, renewedBy, renewed, ackTaken, acked, ackStaged, dropTaken, dropped, ofVolume, dropStaged, readyIn, serverRestarted, stale, beingWritten}
 use Rattle.protocol.specs.Client.{showable, stands, grantTaken}
 use Rattle.protocol.specs.Sound.{kindSound}
 use Rattle.protocol.specs.Answers.{doneOrCompleted, answerNumber, answerValue, reported, completedAnswer}
@@ -67,10 +67,10 @@ unfolding renewed renewedBy granted noted offered volumeRenewed objectRenewed
 renewed-same s t d o n e w =
     let v = volumeOf s o in
     let u = noted t d n in
-    cond-keeps (SameWrites t) (leb n (seenAt t d)) (λ _. objects-same t _ refl) (λ _.
+    cond-keeps (SameWrites t) (stale t d n) (λ _. objects-same t _ refl) (λ _.
     cond-keeps (SameWrites t) (mustDrop u d v e) (λ _. objects-same t _ refl) (λ _.
     cond-keeps (SameWrites t) (ltb (lowestWaited s u d v) (s .objects)) (λ _. objects-same t _ refl) (λ _.
-    cond-keeps (SameWrites t) (standingAt u o) (λ _. objects-same t _ refl)
+    cond-keeps (SameWrites t) (beingWritten u o) (λ _. objects-same t _ refl)
     (λ _. record { value = refl; standing = refl; pending = refl; end = refl }))))
 
 -- ---- what is staged

@@ -87,7 +87,7 @@ module _ (s : Setup) (t : Tables) (o : ℕ) (r : Ranges s) (ho : o < s .objects)
   place d hd = let b = r .within o ho in omega arith
 
   turn-length : (l : List Bool) (d : ℕ) → d < s .clients → length l ≡ 128 → length (markIfWaiting s t o l d) ≡ 128
-  turn-length l d hd k = cond-keeps (λ (m : List Bool). length m ≡ 128) (waitingAt t d o) (λ e. length-set l (byVolume d (volumeOf s o)) true ∙ k) (λ e. k)
+  turn-length l d hd k = cond-keeps (λ (m : List Bool). length m ≡ 128) (waitingAt t d o) (λ e. length-set l _ _ ∙ k) (λ e. k)
 
   turn-stays : (j : ℕ) (l : List Bool) (d : ℕ) → d < s .clients → length l ≡ 128 → getD l j false ≡ true → getD (markIfWaiting s t o l d) j false ≡ true
   turn-stays j l d hd k e =

@@ -19,7 +19,7 @@ use Rattle.protocol.specs.Setup.{volumeOf}
 use Rattle.protocol.specs.Messages.{pushed}
 use Rattle.protocol.specs.Tables.{byVolume, epochAt, seenAt, unreachableAt, versionAt, standingAt, waitingAt, withSessions}
 use Rattle.protocol.specs.Writes.{marked, invalidation}
-use Rattle.protocol.specs.Server.{sent, noted, offered, offering, waitedIn, lowestWaited, mustDrop, granted, renewedBy, renewed}
+use Rattle.protocol.specs.Server.{sent, noted, offered, offering, waitedIn, lowestWaited, mustDrop, granted, renewedBy, renewed, stale, beingWritten}
 use Rattle.protocol.specs.World.{World}
 use Rattle.protocol.specs.Soundness.Steps.{Ranges}
 use Rattle.protocol.specs.Soundness.Shape.{Shape, SessionsShape}
@@ -127,11 +127,11 @@ module _ (s : Setup) (range : Ranges s) (w : World) (inv : Inv s w) (shape : Sha
   renewed-new =
       cond-keeps (λ (x : Tables). Inv s (withTables w x)) (mustDrop t d v e) (λ a. by-offer)
       (λ a. cond-keeps (λ (x : Tables). Inv s (withTables w x)) (ltb low (s .objects)) (λ b. by-resend (ltb-true _ _ b))
-      (λ b. cond-keeps (λ (x : Tables). Inv s (withTables w x)) (standingAt t o) (λ c. noticed) (λ c. by-grant a b c)))
+      (λ b. cond-keeps (λ (x : Tables). Inv s (withTables w x)) (beingWritten t o) (λ c. noticed) (λ c. by-grant a b c)))
 
 -- "number not above the highest seen: nothing"
 pub renewed-keeps : (s : Setup) → Ranges s → (w : World) → Inv s w → Shape (w .tables) → (d o n e u : ℕ) → d < s .clients → RenewClause s w d o n e u
     → Inv s (withTables w (renewed s (w .tables) d o n e u))
 unfolding renewed
 renewed-keeps s range w inv shape d o n e u hd renew =
-    cond-keeps (λ (x : Tables). Inv s (withTables w x)) (leb n (seenAt (w .tables) d)) (λ a. inv) (λ a. renewed-new s range w inv shape d o n e u hd renew (leb-false _ _ a))
+    cond-keeps (λ (x : Tables). Inv s (withTables w x)) (stale (w .tables) d n) (λ a. inv) (λ a. renewed-new s range w inv shape d o n e u hd renew (leb-false _ _ a))

@@ -13,7 +13,7 @@ use Rattle.laws.specs.Choice.{same?, cond-keeps, not-both, both-true}
 use Rattle.protocol.specs.declared.records.Request.{Request}
 use Rattle.protocol.specs.declared.setup.Setup.{Setup}
 use Rattle.protocol.specs.Tables.{noRequest}
-use Rattle.protocol.specs.Client.{numbered, ended, forgotten}
+use Rattle.protocol.specs.Client.{numbered, ended, forgotten, asksFor}
 use Rattle.protocol.specs.World.{World}
 use Rattle.protocol.specs.Safety.Invariant.{Inv, Stands, requestAt, Numbers, Header}
 
@@ -121,7 +121,7 @@ module _ (requests : List Request) (d : ℕ) (here : d < length requests) where
   pub forgotten-moves : (o : ℕ) → Moves requests (with-record (forgotten (requestAt requests d) o))
   unfolding forgotten
   forgotten-moves o =
-      cond-keeps (λ (r : Request). Moves requests (with-record r)) (requestAt requests d .standing && eqb (requestAt requests d .object) o) (λ e. ended-moves)
+      cond-keeps (λ (r : Request). Moves requests (with-record r)) (asksFor (requestAt requests d) o) (λ e. ended-moves)
       (λ e. rw (set-getD requests d noRequest) (record { next = λ k. omega arith; stands = λ k n h a. a; object = λ k n h a. refl }))
 
   -- .. and none for it stands
@@ -134,7 +134,7 @@ module _ (requests : List Request) (d : ℕ) (here : d < length requests) where
       none o p q
     where
       none : (o : ℕ) → forgotten (requestAt requests d) o .standing ≡ true → forgotten (requestAt requests d) o .object ≡ o → ⊥
-      none o = cond-keeps (λ (r : Request). r .standing ≡ true → r .object ≡ o → ⊥) (requestAt requests d .standing && eqb (requestAt requests d .object) o)
+      none o = cond-keeps (λ (r : Request). r .standing ≡ true → r .object ≡ o → ⊥) (asksFor (requestAt requests d) o)
           (λ e p q. not-both p refl) (λ e p q. not-both (both-true p (eq-eqb _ _ q)) e)
 
   -- what is said of the numbers, with the new record
@@ -169,5 +169,5 @@ module _ (s : Setup) (w : World) (inv : Inv s w) (d : ℕ) (here : d < length (w
   pub request-forgotten : d < s .clients → (o : ℕ) → Inv s (requesting w (set (w .requests) d (forgotten now o)))
   unfolding forgotten
   request-forgotten h o =
-      cond-keeps (λ (r : Request). Inv s (requesting w (set (w .requests) d r))) (now .standing && eqb (now .object) o) (λ e. request-ends)
+      cond-keeps (λ (r : Request). Inv s (requesting w (set (w .requests) d r))) (asksFor now o) (λ e. request-ends)
       (λ e. rw (set-getD (w .requests) d noRequest) inv)

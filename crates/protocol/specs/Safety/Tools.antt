@@ -20,7 +20,7 @@ use Rattle.protocol.specs.declared.message.Kind.{Kind}
 use Rattle.protocol.specs.declared.records.Copy.{Copy}
 use Rattle.protocol.specs.declared.records.Request.{Request}
 use Rattle.protocol.specs.declared.setup.Setup.{Setup}
-use Rattle.protocol.specs.Messages.{blank, messageAt, pushed, removed, doubled}
+use Rattle.protocol.specs.Messages.{blank, messageAt, pushed, removed, doubled, hasRoom}
 use Rattle.protocol.specs.Tables.{byVolume, byObject, noCopy, noRequest}
 use Rattle.protocol.specs.Leases.{serverAlive, clientAlive, endOver}
 use Rattle.protocol.specs.Client.{stands}
@@ -151,9 +151,9 @@ updated-other f o k x h = rw (ne-eqb k o h)
 
 pub sent-pushed : (q : Queue) (x m : Message) → length (q .items) ≡ 64 → Sent (pushed q x) m → Sent q m ⊎ (m ≡ x)
 unfolding pushed
-sent-pushed q x m n = cond-keeps (λ (r : Queue). Sent r m → Sent q m ⊎ (m ≡ x)) (ltb (q .len) 64) room (λ e z. inl z)
+sent-pushed q x m n = cond-keeps (λ (r : Queue). Sent r m → Sent q m ⊎ (m ≡ x)) (hasRoom q) room (λ e z. inl z)
   where
-    room : ltb (q .len) 64 ≡ true → Sent (record { items = set (q .items) (q .len) x; len = q .len + 1 }) m → Sent q m ⊎ (m ≡ x)
+    room : hasRoom q ≡ true → Sent (record { items = set (q .items) (q .len) x; len = q .len + 1 }) m → Sent q m ⊎ (m ≡ x)
     room e z =
         let h = ltb-true (q .len) 64 e in
         ⊎-elim (λ w. inr (sym (z .there) ∙ w .1))

@@ -29,7 +29,7 @@ use Rattle.protocol.specs.declared.tables.Holders.{Holders}
 use Rattle.protocol.specs.declared.tables.Views.{Views}
 use Rattle.protocol.specs.declared.tables.Tables.{Tables}
 use Rattle.protocol.specs.Setup.{volumeOf}
-use Rattle.protocol.specs.Messages.{blank, message, messageAt, pushed, removed}
+use Rattle.protocol.specs.Messages.{blank, message, messageAt, pushed, removed, hasRoom}
 use Rattle.protocol.specs.Tables.{seenAt, standingAt, waitingAt, versionAt, volumeExpiryAt, guardAt, objectExpiryAt, withClock, withQueue, withViews}
 use Rattle.protocol.specs.Writes.{Staged, unstaged, latestEnd, opened, awaited, begun, invalidation, notify, notified, deserted, posted, released, completed, completeIf, settled, written}
 use Rattle.protocol.specs.Server.{sent, noted, offered, offering, volumeRenewed, objectRenewed, granting, granted, lowestWaited, mustDrop, renewedBy, renewed, ackTaken, acked, ackStaged, dropTaken, disowned, dropped, dropStaged, serverRestarted}
@@ -102,7 +102,7 @@ module _ (s : Setup) (rs : Ranges s) where
   pushed-bounded : (q : Queue) (m : Message) → Named s m → QueueBounded s q → QueueBounded s (pushed q m)
   unfolding pushed
   pushed-bounded q m k h =
-      cond-keeps (QueueBounded s) (ltb (q .len) 64)
+      cond-keeps (QueueBounded s) (hasRoom q)
       (λ e. record { len = omega (arith, ltb-true (q .len) 64 e); items = each-set (Named s) (q .items) (q .len) m (h .items) k })
       (λ e. h)
 

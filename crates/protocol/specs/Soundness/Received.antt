@@ -25,8 +25,8 @@ use Rattle.protocol.specs.Setup.{volumeOf}
 use Rattle.protocol.specs.Messages.{message}
 use Rattle.protocol.specs.Tables.{seenAt, standingAt, epochAt, byVolume, noCopy, withViews}
 use Rattle.protocol.specs.Writes.{Staged}
-use Rattle.protocol.specs.Server.{sent, noted, offered, volumeRenewed, objectRenewed, granting, granted, lowestWaited, mustDrop, renewedBy, renewed, ackTaken, acked, ackStaged, dropTaken, disowned, dropped, dropStaged, serverRestarted}
-use Rattle.protocol.specs.Client.{viewed, ended, stands, grantTaken, filled, forgotten, clientRestarted}
+use Rattle.protocol.specs.Server.{sent, noted, offered, volumeRenewed, objectRenewed, granting, granted, lowestWaited, mustDrop, renewedBy, renewed, ackTaken, acked, ackStaged, dropTaken, disowned, dropped, dropStaged, serverRestarted, stale, beingWritten}
+use Rattle.protocol.specs.Client.{viewed, ended, stands, grantTaken, filled, forgotten, clientRestarted, asksFor}
 use Rattle.protocol.specs.Sound.{timeFits, kindSound}
 use Rattle.protocol.specs.Decide.{grantReceived, invalidateReceived, offerReceived, received}
 use Rattle.protocol.specs.Soundness.Steps.{Ranges}
@@ -111,12 +111,12 @@ module _ (s : Setup) (rs : Ranges s) where
       let v = volumeOf s o in
       let u = noted t d n in
       let k = noted-bounded t d n h in
-      cond-keeps (Bounded s) (leb n (seenAt t d)) (λ _. h) (λ _.
+      cond-keeps (Bounded s) (stale t d n) (λ _. h) (λ _.
       cond-keeps (Bounded s) (mustDrop u d v e)
       (λ _. sent-bounded s rs _ _ (both-true (lt-ltb d (s .clients) p) (lt-ltb v (s .volumes) (rs .within o q))) (offered-bounded u d v n k)) (λ _.
       cond-keeps (Bounded s) (ltb (lowestWaited s u d v) (s .objects))
       (λ b. sent-bounded s rs _ _ (invalidation-named s rs u (lowestWaited s u d v) d (ltb-true _ _ b) p) k) (λ _.
-      cond-keeps (Bounded s) (standingAt u o) (λ _. k) (λ _. granted-bounded u d o n w p q k))))
+      cond-keeps (Bounded s) (beingWritten u o) (λ _. k) (λ _. granted-bounded u d o n w p q k))))
 
   -- ---- ACK and DROPPED
   pub ack-bounded : (t : Tables) (d o e w : ℕ) → Bounded s t → Bounded s (ackStaged s t d o e w .tables)
@@ -155,9 +155,9 @@ module _ (s : Setup) (rs : Ranges s) where
   server-bounded t h = record {
     clock = h .clock;
     volumes = record {
-      epoch = each-store Started _ _ _ (t .volumes .epoch) (s .volumes) (h .volumes .epoch) (λ v b. omega arith);
+      epoch = each-store Started _ _ _ (t .volumes .epoch) _ (h .volumes .epoch) (λ v b. omega arith);
       expiry = h .volumes .expiry;
-      guard = h .volumes .expiry;
+      guard = search (tt);
     };
     sessions = record { expiry = each-replicate Timed 128 0 (omega arith) };
     objects = record {
@@ -184,7 +184,7 @@ module _ (s : Setup) (rs : Ranges s) where
 
   forgotten-bounded : (r : Request) (o : ℕ) → RequestBounded s r → RequestBounded s (forgotten r o)
   unfolding forgotten
-  forgotten-bounded r o h = cond-keeps (RequestBounded s) (r .standing && eqb (r .object) o) (λ _. ended-bounded r h) (λ _. h)
+  forgotten-bounded r o h = cond-keeps (RequestBounded s) (asksFor r o) (λ _. ended-bounded r h) (λ _. h)
 
 -- what a receipt leaves of tables, copy and request
 pub record Receipt (s : Setup) (c : Copy) (r : Request) (g : Received) : Type 0 where

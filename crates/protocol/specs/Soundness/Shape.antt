@@ -30,10 +30,10 @@ use Rattle.protocol.specs.declared.tables.Holders.{Holders}
 use Rattle.protocol.specs.declared.tables.Views.{Views}
 use Rattle.protocol.specs.declared.tables.Tables.{Tables}
 use Rattle.protocol.specs.Setup.{volumeOf}
-use Rattle.protocol.specs.Messages.{pushed, removed, messageAt}
+use Rattle.protocol.specs.Messages.{pushed, removed, messageAt, hasRoom}
 use Rattle.protocol.specs.Tables.{seenAt, standingAt, waitingAt, withClock, withQueue, withViews, freshTables}
 use Rattle.protocol.specs.Writes.{Staged, unstaged, opened, awaited, begun, notify, notified, deserted, marked, markIfWaiting, posted, released, completed, completeIf, settled, written, writeStaged, clockStaged}
-use Rattle.protocol.specs.Server.{sent, noted, offered, volumeRenewed, objectRenewed, granted, lowestWaited, mustDrop, renewedBy, renewed, ackTaken, acked, ackStaged, dropTaken, disowned, dropped, dropStaged, serverRestarted}
+use Rattle.protocol.specs.Server.{sent, noted, offered, volumeRenewed, objectRenewed, granted, lowestWaited, mustDrop, renewedBy, renewed, ackTaken, acked, ackStaged, dropTaken, disowned, dropped, dropStaged, serverRestarted, stale, beingWritten}
 use Rattle.protocol.specs.Client.{showable, stands, grantTaken, viewed, sweepAt, sweptAll, clientRestarted}
 use Rattle.protocol.specs.Gate.{usesPlace}
 use Rattle.protocol.specs.Decide.{performed, taken, readDecided, askDecided, deliverDecided, restartDecided, grantReceived, invalidateReceived, offerReceived, received}
@@ -98,7 +98,7 @@ shape-views t x k h = record { volumes = h .volumes; sessions = h .sessions; obj
 pushed-shape : (q : Queue) (m : Message) → QueueShape q → QueueShape (pushed q m)
 unfolding pushed
 pushed-shape q m h =
-    cond-keeps QueueShape (ltb (q .len) 64) (λ e. record { items = simp length-set (h .items) }) (λ e. h)
+    cond-keeps QueueShape (hasRoom q) (λ e. record { items = simp length-set (h .items) }) (λ e. h)
 
 removed-shape : (q : Queue) (i : ℕ) → i < 64 → QueueShape q → QueueShape (removed q i)
 unfolding removed
@@ -248,10 +248,10 @@ renewed-shape s t d o n e w h =
     let v = volumeOf s o in
     let u = noted t d n in
     let k = noted-shape t d n h in
-    cond-keeps Shape (leb n (seenAt t d)) (λ _. h) (λ _.
+    cond-keeps Shape (stale t d n) (λ _. h) (λ _.
     cond-keeps Shape (mustDrop u d v e) (λ _. sent-shape _ _ (offered-shape u d v n k)) (λ _.
     cond-keeps Shape (ltb (lowestWaited s u d v) (s .objects)) (λ _. sent-shape _ _ k) (λ _.
-    cond-keeps Shape (standingAt u o) (λ _. k) (λ _. sent-shape _ _ (object-shape s _ d o (volume-shape s u d v k))))))
+    cond-keeps Shape (beingWritten u o) (λ _. k) (λ _. sent-shape _ _ (object-shape s _ d o (volume-shape s u d v k))))))
 
 pub acked-shape : (t : Tables) (d o : ℕ) → Shape t → Shape (acked t d o)
 unfolding acked
@@ -293,7 +293,7 @@ drop-shape s t d v n e h =
 server-shape : (s : Setup) (t : Tables) → Shape t → Shape (serverRestarted s t)
 unfolding serverRestarted
 server-shape s t h = record {
-  volumes = record { epoch = simp length-store (h .volumes .epoch); expiry = h .volumes .expiry; guard = h .volumes .expiry };
+  volumes = record { epoch = simp length-store (h .volumes .epoch); expiry = h .volumes .expiry; guard = search (refl) };
   sessions = record { seen = refl; expiry = refl; unreachable = refl; offer = refl };
   objects = record { value = h .objects .value; version = h .objects .version; expiry = refl; standing = refl; pending = refl; end = refl };
   holders = record { lease = refl; waiting = refl };
