@@ -157,7 +157,7 @@ module _ (s : Setup) (rs : Ranges s) where
     volumes = record {
       epoch = each-store Started _ _ _ (t .volumes .epoch) _ (h .volumes .epoch) (λ v b. omega arith);
       expiry = h .volumes .expiry;
-      guard = search (tt);
+      guard = search h;
     };
     sessions = record { expiry = each-replicate Timed 128 0 (omega arith) };
     objects = record {

@@ -293,7 +293,7 @@ drop-shape s t d v n e h =
 server-shape : (s : Setup) (t : Tables) → Shape t → Shape (serverRestarted s t)
 unfolding serverRestarted
 server-shape s t h = record {
-  volumes = record { epoch = simp length-store (h .volumes .epoch); expiry = h .volumes .expiry; guard = search (refl) };
+  volumes = record { epoch = simp length-store (h .volumes .epoch); expiry = h .volumes .expiry; guard = search h };
   sessions = record { seen = refl; expiry = refl; unreachable = refl; offer = refl };
   objects = record { value = h .objects .value; version = h .objects .version; expiry = refl; standing = refl; pending = refl; end = refl };
   holders = record { lease = refl; waiting = refl };
