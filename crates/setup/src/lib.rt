@@ -1,4 +1,6 @@
 // A setup in range, and fresh tables for one (01, "Tables").
+pub mod fresh;
+
 ghost use Prim.Native.Nat.{ℕ, _-_, _<_, _≤_};
 ghost use lib.Dec.{ltb, leb, eqb};
 ghost use mathlib.Core.Bool.{Bool, cond, _&&_};
