@@ -3,9 +3,9 @@ use Prim.Native.Nat.{ℕ, suc, _+_, _*_, _/_, _%_, _<_, _≤_}
 use native.Mathlib.Omega.{arith}
 use mathlib.Core.List.{List, [], _∷_}
 use mathlib.Core.Path.{_≡_, refl, sym, ap, _∙_}
-use lib.ListN.{length, getD, set}
+use lib.ListN.{length, getD, set, length-set}
 use lib.Seq.{sets}
-use Rattle.layout.specs.Number.{littleEndian, bytesOf, bytesAt, numberAt}
+use Rattle.layout.specs.Number.{littleEndian, bytesOf, bytesAt, numberAt, Stored}
 
 -- the places after p, as the code counts them and as the definitions do
 two : (p : ℕ) → p + 1 + 1 ≡ p + 2
@@ -27,16 +27,20 @@ module _ (l : List ℕ) (p : ℕ) where
 
 -- what four stores leave, each of the byte that the code computed
 module _ (l : List ℕ) (p x a b c d : ℕ) where
-  pub store-four : a ≡ x % 256 → b ≡ x / 256 % 256 → c ≡ x / 65536 % 256 → d ≡ x / 16777216 % 256
+  four-sets : a ≡ x % 256 → b ≡ x / 256 % 256 → c ≡ x / 65536 % 256 → d ≡ x / 16777216 % 256
       → set (set (set (set l p a) (p + 1) b) (p + 2) c) (p + 3) d ≡ sets l p (bytesOf 4 x)
   unfolding bytesOf
-  store-four e f g h =
+  four-sets e f g h =
       let i : p + 1 ≡ suc p = omega arith in
       let j : p + 2 ≡ suc (suc p) = omega arith in
       let k : p + 3 ≡ suc (suc (suc p)) = omega arith in
       let v : x / 256 / 256 ≡ x / 65536 = omega arith in
       let w : x / 65536 / 256 ≡ x / 16777216 = omega arith in
       rw (i, j, k, e, f, g, h, v, w)
+
+  pub store-four : a ≡ x % 256 → b ≡ x / 256 % 256 → c ≡ x / 65536 % 256 → d ≡ x / 16777216 % 256
+      → Stored l (set (set (set (set l p a) (p + 1) b) (p + 2) c) (p + 3) d) p (bytesOf 4 x)
+  store-four e f g h = record { stored = four-sets e f g h; long = simp length-set }
 
 -- a higher part leaves the lowest byte, and moves down with the others
 byte : (x y k : ℕ) → x ≡ y + 256 * k → (x % 256 ≡ y % 256) × (x / 256 ≡ y / 256 + k)
@@ -56,6 +60,6 @@ halves l p x =
     let e : x / 256 / 256 / 256 / 256 ≡ q = omega (arith, d .1) in
     rw (i, ← a .0, ← b .0, ← c .0, ← d .0, e)
 
-pub store-eight : (l m r : List ℕ) (p x : ℕ) → m ≡ sets l p (bytesOf 4 (x % 4294967296)) → r ≡ sets m (p + 4) (bytesOf 4 (x / 4294967296))
-    → r ≡ sets l p (bytesOf 8 x)
-store-eight l m r p x e f = f ∙ rw e (halves l p x)
+pub store-eight : (l m r : List ℕ) (p x : ℕ) → Stored l m p (bytesOf 4 (x % 4294967296)) → Stored m r (p + 4) (bytesOf 4 (x / 4294967296))
+    → Stored l r p (bytesOf 8 x)
+store-eight l m r p x a b = record { stored = b .stored ∙ rw (a .stored) (halves l p x); long = b .long ∙ a .long }

@@ -4,7 +4,7 @@ use native.Mathlib.Numerals.{add-one}
 use native.Mathlib.Omega.{arith}
 use mathlib.Core.List.{List, [], _∷_, _++_}
 use mathlib.Core.Path.{_≡_, refl, sym, ap, _∙_}
-use lib.ListN.{length, getD, set, take, drop}
+use lib.ListN.{length, getD, set, drop}
 use lib.Seq.{sets, drop-cons}
 
 -- the number that these bytes make
@@ -35,10 +35,32 @@ numberAt l p w = littleEndian (bytesAt l p w)
 abbrev pub Bytes : List ℕ → Type 0
 Bytes l = (i : ℕ) → getD l i 0 < 256
 
+-- m is l with the bytes b at place p, and as long: what a caller of a store goes by
+pub record Stored (l m : List ℕ) (p : ℕ) (b : List ℕ) : Type 0 where
+  pub stored : m ≡ sets l p b
+  pub long : length m ≡ length l
+
 pub length-bytes : (w n : ℕ) → length (bytesOf w n) ≡ w
 unfolding bytesOf
 length-bytes zero n = refl
 length-bytes (suc w) n = ap suc (length-bytes w (n / 256))
+
+-- stores one after the other
+sets-then : (l : List ℕ) (p : ℕ) (a b : List ℕ) → sets (sets l p a) (p + length a) b ≡ sets l p (a ++ b)
+sets-then l p [] b = rw (nothing p)
+  where
+    nothing : (p : ℕ) → p + 0 ≡ p
+    nothing p = omega arith
+sets-then l p (x ∷ a) b =
+    let e : p + length (x ∷ a) ≡ suc p + length a = omega arith in
+    rw e (sets-then (set l p x) (suc p) a b)
+
+pub stored-then : (l m r : List ℕ) (p q : ℕ) (a b : List ℕ) → Stored l m p a → Stored m r q b → p + length a ≡ q → Stored l r p (a ++ b)
+stored-then l m r p q a b f g e = record { stored = g .stored ∙ rw (f .stored, ← e) (sets-then l p a b); long = g .long ∙ f .long }
+
+-- the same where the first are the bytes of a number
+pub number-stored : (l m r : List ℕ) (p w n : ℕ) (b : List ℕ) → Stored l m p (bytesOf w n) → Stored m r (p + w) b → Stored l r p (bytesOf w n ++ b)
+number-stored l m r p w n b f g = stored-then l m r p (p + w) (bytesOf w n) b f g (rw length-bytes)
 
 -- a number is read back as it was written
 pub read-back : (w n : ℕ) → n < limit w → littleEndian (bytesOf w n) ≡ n

@@ -2,8 +2,7 @@
 ghost use Prim.Native.Nat.{ℕ, _+_, _*_, _/_, _%_, _≤_};
 ghost use mathlib.Core.Path.{_≡_};
 ghost use lib.ListN.{length};
-ghost use lib.Seq.{sets};
-ghost use Rattle.layout.specs.Number.{numberAt, bytesOf};
+ghost use Rattle.layout.specs.Number.{numberAt, bytesOf, Stored};
 
 // The number that four bytes make.
 fn join(a: u8, b: u8, c: u8, d: u8) -> u32
@@ -34,7 +33,7 @@ pub fn read_u64(s: &[u8], at: usize) -> u64
 
 pub fn write_u32(out: &mut [u8], at: usize, x: u32)
     requires { ⌜ at + 4 ≤ length (now out) ⌝ }
-    ensures { λ _. ⌜ now (out .exit) ≡ sets (now (out .entry)) at (bytesOf 4 x) ⌝ }
+    ensures { λ _. ⌜ Stored (now (out .entry)) (now (out .exit)) at (bytesOf 4 x) ⌝ }
 {
     out[at] = low_byte(x);
     out[at + 1] = low_byte(x / 256);
@@ -44,7 +43,7 @@ pub fn write_u32(out: &mut [u8], at: usize, x: u32)
 
 pub fn write_u64(out: &mut [u8], at: usize, x: u64)
     requires { ⌜ at + 8 ≤ length (now out) ⌝ }
-    ensures { λ _. ⌜ now (out .exit) ≡ sets (now (out .entry)) at (bytesOf 8 x) ⌝ }
+    ensures { λ _. ⌜ Stored (now (out .entry)) (now (out .exit)) at (bytesOf 8 x) ⌝ }
 {
     write_u32(out, at, (x % 4294967296) as u32);
     write_u32(out, at + 4, (x / 4294967296) as u32);
