@@ -1,6 +1,5 @@
 use borrow.Author.Needs.{needs}
 use Rattle.frame.proofs.Laws.{accept-yes, accept-no}
-use borrow.Author.Needs.{needs}
 use Rattle.frame.proofs.accept.Statement.{statement}
 use Rattle.frame.proofs.accept.Tie as tie
 use Rattle.frame.proofs.accept.Reads as reads

@@ -1,6 +1,5 @@
 use borrow.Author.Needs.{needs}
 use Rattle.frame.proofs.Laws.{decode-yes, decode-no}
-use borrow.Author.Needs.{needs}
 use Rattle.frame.proofs.decode.Statement.{statement}
 use Rattle.frame.proofs.decode.Tie as tie
 use Rattle.frame.proofs.decode.Reads as reads

@@ -1,6 +1,5 @@
 use borrow.Author.Needs.{needs}
 use Rattle.frame.proofs.Laws.{encode-yes, encode-no}
-use borrow.Author.Needs.{needs}
 use Rattle.frame.proofs.encode.Statement.{statement}
 use Rattle.frame.proofs.encode.Tie as tie
 use Rattle.frame.proofs.encode.Reads as reads

@@ -1,6 +1,5 @@
 use borrow.Author.Needs.{needs}
 use Rattle.layout.proofs.Laws.{four}
-use borrow.Author.Needs.{needs}
 use Rattle.layout.proofs.read_u32.Statement.{statement}
 use Rattle.layout.proofs.read_u32.Tie as tie
 use Rattle.layout.proofs.read_u32.Reads as reads

@@ -1,6 +1,5 @@
 use borrow.Author.Needs.{needs}
 use Rattle.layout.proofs.Laws.{eight}
-use borrow.Author.Needs.{needs}
 use Rattle.layout.proofs.read_u64.Statement.{statement}
 use Rattle.layout.proofs.read_u64.Tie as tie
 use Rattle.layout.proofs.read_u64.Reads as reads

@@ -2,7 +2,6 @@ use borrow.Author.Needs.{needs}
 use native.Mathlib.Omega.{arith}
 use lib.ListN.{length-set}
 use Rattle.layout.proofs.Laws.{store-four}
-use borrow.Author.Needs.{needs}
 use Rattle.layout.proofs.write_u32.Statement.{statement}
 use Rattle.layout.proofs.write_u32.Tie as tie
 use Rattle.layout.proofs.write_u32.Reads as reads

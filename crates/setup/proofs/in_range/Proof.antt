@@ -1,6 +1,5 @@
 use borrow.Author.Needs.{needs}
 use Rattle.protocol.specs.Setup.{inRange}
-use borrow.Author.Needs.{needs}
 use Rattle.setup.proofs.in_range.Statement.{statement}
 use Rattle.setup.proofs.in_range.Tie as tie
 use Rattle.setup.proofs.in_range.Reads as reads

@@ -1,6 +1,5 @@
 use borrow.Author.Needs.{needs}
 use Rattle.frame.proofs.Laws.{by-renew, by-value, by-none, by-invalidate, by-ack, by-offer, by-dropped}
-use borrow.Author.Needs.{needs}
 use Rattle.frame.proofs.fields.kind_fields.Statement.{statement}
 use Rattle.frame.proofs.fields.kind_fields.Tie as tie
 use Rattle.frame.proofs.fields.kind_fields.Reads as reads

@@ -1,6 +1,5 @@
 use borrow.Author.Needs.{needs}
 use Rattle.frame.proofs.Laws.{kind-2, kind-3, kind-4, kind-5, kind-6, kind-else}
-use borrow.Author.Needs.{needs}
 use Rattle.frame.proofs.fields.kind_in.Statement.{statement}
 use Rattle.frame.proofs.fields.kind_in.Tie as tie
 use Rattle.frame.proofs.fields.kind_in.Reads as reads

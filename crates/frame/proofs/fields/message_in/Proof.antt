@@ -1,5 +1,4 @@
 use borrow.Author.Needs.{needs}
-use borrow.Author.Needs.{needs}
 use Rattle.frame.proofs.fields.message_in.Statement.{statement}
 use Rattle.frame.proofs.fields.message_in.Tie as tie
 use Rattle.frame.proofs.fields.message_in.Reads as reads

@@ -1,6 +1,5 @@
 use borrow.Author.Needs.{needs}
 use Rattle.frame.specs.Frame.{fieldsIn}
-use borrow.Author.Needs.{needs}
 use Rattle.frame.proofs.place.read.Statement.{statement}
 use Rattle.frame.proofs.place.read.Tie as tie
 use Rattle.frame.proofs.place.read.Reads as reads

@@ -1,6 +1,5 @@
 use borrow.Author.Needs.{needs}
 use Rattle.frame.proofs.Laws.{all-stored}
-use borrow.Author.Needs.{needs}
 use Rattle.frame.proofs.place.write.Statement.{statement}
 use Rattle.frame.proofs.place.write.Tie as tie
 use Rattle.frame.proofs.place.write.Reads as reads

@@ -1,7 +1,6 @@
 use borrow.Author.Needs.{needs}
 use native.Mathlib.Omega.{arith}
 use lib.ListN.{length-set}
-use borrow.Author.Needs.{needs}
 use Rattle.frame.proofs.place.write_head.Statement.{statement}
 use Rattle.frame.proofs.place.write_head.Tie as tie
 use Rattle.frame.proofs.place.write_head.Reads as reads

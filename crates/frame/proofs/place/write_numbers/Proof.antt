@@ -1,6 +1,5 @@
 use borrow.Author.Needs.{needs}
 use Rattle.frame.proofs.Laws.{numbers-stored}
-use borrow.Author.Needs.{needs}
 use Rattle.frame.proofs.place.write_numbers.Statement.{statement}
 use Rattle.frame.proofs.place.write_numbers.Tie as tie
 use Rattle.frame.proofs.place.write_numbers.Reads as reads

@@ -1,6 +1,5 @@
 use borrow.Author.Needs.{needs}
 use Rattle.protocol.specs.Tables.{freshTables}
-use borrow.Author.Needs.{needs}
 use Rattle.setup.proofs.fresh.tables.Statement.{statement}
 use Rattle.setup.proofs.fresh.tables.Tie as tie
 use Rattle.setup.proofs.fresh.tables.Reads as reads
