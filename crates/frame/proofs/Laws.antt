@@ -17,7 +17,7 @@ use Rattle.frame.specs.declared.Decoded.{Decoded}
 use Rattle.frame.specs.declared.Decoded.the-variants as decoded
 use Rattle.frame.specs.declared.Encoded.the-variants as encoded
 use Rattle.layout.specs.Number.{bytesOf, Stored, stored-then, number-stored}
-use Rattle.frame.specs.Frame.{row, kindFields, fieldsOf, fieldsIn, payloadIn, kindIn, messageIn, same, accepted, messageOf, framed, encodedIn, head, numbers, laid}
+use Rattle.frame.specs.Frame.{row, kindFields, fieldsOf, fieldsIn, payloadIn, kindIn, messageIn, same, sound, accepted, isFrame, messageOf, framed, decodedNumber, refusal, head, numbers, laid, Decodes, Encodes}
 
 module _ (d : ℕ) (k : Kind) (r : Fields) where
   pub by-renew : (o n e w : ℕ) → k ≡ Renew o n e w → r ≡ row 1 d o 0 n 0 e w 0 0 → r ≡ kindFields d k
@@ -93,13 +93,18 @@ module _ (f : Fields) where
     accept-no e = rw (agreed, e)
 
 module _ (l : List ℕ) where
-  pub decode-yes : (f : Fields) (r : Decoded) → length l ≡ 32 → f ≡ fieldsIn l → r ≡ accepted f → r ≡ messageOf l
-  unfolding messageOf
-  decode-yes f r e g h = rw (eq-eqb _ _ e, ← g) h
+  number-yes : (f : Fields) (b : Bool) → sound f ≡ b → decodedNumber (accepted f) ≡ refusal b
+  unfolding accepted
+  number-yes f true e = rw e
+  number-yes f false e = rw e
 
-  pub decode-no : (length l ≡ 32 → ⊥) → decoded.Refused ≡ messageOf l
-  unfolding messageOf
-  decode-no e = rw (ne-eqb _ _ e)
+  pub decode-yes : (f : Fields) (r : Decoded) → length l ≡ 32 → f ≡ fieldsIn l → r ≡ accepted f → Decodes l r
+  unfolding messageOf isFrame
+  decode-yes f r e g h = record { message = rw (eq-eqb _ _ e, ← g) h; number = rw (eq-eqb _ _ e, ← g, h) (number-yes f (sound f) refl) }
+
+  pub decode-no : (length l ≡ 32 → ⊥) → Decodes l decoded.Refused
+  unfolding messageOf isFrame
+  decode-no e = record { message = rw (ne-eqb _ _ e); number = rw (ne-eqb _ _ e) }
 
 -- the five numbers, stored one after the other
 pub numbers-stored : (f : Fields) (l a b c d r : List ℕ) → Stored l a 4 (bytesOf 4 (f .number)) → Stored a b 8 (bytesOf 4 (f .lease))
@@ -114,10 +119,14 @@ unfolding laid numbers bytesOf
 all-stored f l m n r a b c = stored-then l m r 0 4 (head f) _ a (stored-then m n r 4 24 (numbers f) _ b c refl) refl
 
 module _ (m : Message) (l r : List ℕ) (f : Fields) where
-  pub encode-yes : 32 ≤ length l → f ≡ fieldsOf m → Stored l r 0 (laid f) → (encoded.Written ≡ encodedIn l) × (r ≡ framed m l)
+  pub encode-yes : 32 ≤ length l → f ≡ fieldsOf m → Stored l r 0 (laid f) → Encodes m l r encoded.Written
   unfolding framed laid numbers bytesOf
-  encode-yes h e g = (rw (le-leb _ _ h), rw (le-leb _ _ h, ← e) (g .stored ∙ sets-eq (laid f) l 0 h))
+  encode-yes h e g = record {
+    answer = rw (le-leb _ _ h);
+    number = rw (le-leb _ _ h);
+    bytes = rw (le-leb _ _ h, ← e) (g .stored ∙ sets-eq (laid f) l 0 h);
+  }
 
-pub encode-no : (m : Message) (l : List ℕ) → length l < 32 → (encoded.Refused ≡ encodedIn l) × (l ≡ framed m l)
+pub encode-no : (m : Message) (l : List ℕ) → length l < 32 → Encodes m l l encoded.Refused
 unfolding framed
-encode-no m l h = (rw (lt-leb _ _ h), rw (lt-leb _ _ h))
+encode-no m l h = record { answer = rw (lt-leb _ _ h); number = rw (lt-leb _ _ h); bytes = rw (lt-leb _ _ h) }

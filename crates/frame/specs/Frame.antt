@@ -1,6 +1,7 @@
 -- 01, "Frame, run file and listing": the frame of a message, and the message of a frame.
 use Prim.Native.Nat.{ℕ}
 use mathlib.Core.Bool.{Bool, cond, _&&_}
+use mathlib.Core.Path.{_≡_}
 use mathlib.Core.List.{List, [], _∷_, _++_}
 use lib.Dec.{eqb, leb}
 use lib.ListN.{length, getD, drop}
@@ -85,10 +86,16 @@ same a b =
     && eqb (a .value) (b .value)
 
 -- Kind, value present and zero fields are right exactly where that message has these fields; `Round` shows what follows from it
+abbrev pub sound : Fields → Bool
+sound f = same (fieldsOf (messageIn f)) f
+
 unfoldable pub accepted : Fields → Decoded
-accepted f = cond (same (fieldsOf (messageIn f)) f) (decoded.Accepted (messageIn f)) decoded.Refused
+accepted f = cond (sound f) (decoded.Accepted (messageIn f)) decoded.Refused
 
 -- "Frame of 32 bytes, kind, value present and zero fields right?"
+unfoldable pub isFrame : List ℕ → Bool
+isFrame l = eqb (length l) 32 && sound (fieldsIn l)
+
 unfoldable pub messageOf : List ℕ → Decoded
 messageOf l = cond (eqb (length l) 32) (accepted (fieldsIn l)) decoded.Refused
 
@@ -103,7 +110,7 @@ encodedIn out = cond (fits out) encoded.Written encoded.Refused
 unfoldable pub framed : Message → List ℕ → List ℕ
 framed m out = cond (fits out) (frameOf m ++ drop 32 out) out
 
--- 01's number of each answer
+-- 01's number of each answer, and where it is 8
 abbrev pub decodedNumber : Decoded → ℕ
 decodedNumber (decoded.Accepted m) = 0
 decodedNumber decoded.Refused = 8
@@ -111,3 +118,17 @@ decodedNumber decoded.Refused = 8
 abbrev pub encodedNumber : Encoded → ℕ
 encodedNumber encoded.Written = 0
 encodedNumber encoded.Refused = 8
+
+abbrev pub refusal : Bool → ℕ
+refusal ok = cond ok 0 8
+
+-- what decoding l answers
+pub record Decodes (l : List ℕ) (r : Decoded) : Type 0 where
+  pub message : r ≡ messageOf l
+  pub number : decodedNumber r ≡ refusal (isFrame l)
+
+-- what encoding m into `before` answers, and what stands there after it
+pub record Encodes (m : Message) (before after : List ℕ) (r : Encoded) : Type 0 where
+  pub answer : r ≡ encodedIn before
+  pub number : encodedNumber r ≡ refusal (fits before)
+  pub bytes : after ≡ framed m before

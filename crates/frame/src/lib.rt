@@ -2,10 +2,8 @@
 pub mod fields;
 mod place;
 
-ghost use Prim.Native.Nat.{ℕ};
 ghost use mathlib.Core.Path.{_≡_};
-ghost use lib.ListN.{length};
-ghost use Rattle.frame.specs.Frame.{accepted, messageOf, encodedIn, framed};
+ghost use Rattle.frame.specs.Frame.{accepted, Decodes, Encodes};
 use crate::fields::Fields;
 use protocol::message::Message;
 
@@ -34,7 +32,7 @@ fn accept(f: Fields) -> Decoded
 
 // The message of a frame, for any bytes.
 pub fn decode(s: &[u8]) -> Decoded
-    ensures { λ r. ⌜ r ≡ messageOf (now (s .entry)) ⌝ }
+    ensures { λ r. ⌜ Decodes (now (s .entry)) r ⌝ }
 {
     if s.len() == 32 {
         return accept(place::read(s));
@@ -44,7 +42,7 @@ pub fn decode(s: &[u8]) -> Decoded
 
 // Writes the message's frame to the output's first 32 bytes, if it has so many. The others keep what they held.
 pub fn encode(m: Message, out: &mut [u8]) -> Encoded
-    ensures { λ r. ⌜ (r ≡ encodedIn (now (out .entry))) × (now (out .exit) ≡ framed m (now (out .entry))) ⌝ }
+    ensures { λ r. ⌜ Encodes m (now (out .entry)) (now (out .exit)) r ⌝ }
 {
     if 32 <= out.len() {
         place::write(out, fields::fields_of(m));
