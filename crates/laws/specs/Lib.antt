@@ -2,3 +2,4 @@ pub mod Choice
 pub mod Loop
 pub mod Store
 pub mod Lists
+pub mod Skip
