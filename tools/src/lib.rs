@@ -1,0 +1,8 @@
+//! Tools for whoever writes or reads runs: a text form of run files, a
+//! listing in words, a picture over time.
+//!
+//! All state comes from the model: the tools run it step by step and put
+//! into words or lines what its tables hold before and after each step.
+
+pub mod command;
+pub mod text;
