@@ -5,4 +5,7 @@
 //! into words or lines what its tables hold before and after each step.
 
 pub mod command;
+pub mod explain;
+pub mod names;
 pub mod text;
+pub mod trace;
