@@ -8,4 +8,5 @@ pub mod command;
 pub mod explain;
 pub mod names;
 pub mod text;
+pub mod timeline;
 pub mod trace;
