@@ -7,6 +7,7 @@
 pub mod command;
 pub mod explain;
 pub mod names;
+pub mod picture;
 pub mod text;
 pub mod timeline;
 pub mod trace;
