@@ -10,7 +10,10 @@ pub enum Answer {
     /// A clock or write step in which so many writes completed.
     Completed(u32),
     /// A delivery: the message delivered, and how many writes it completed.
-    Delivered { message: Message, completed: u32 },
+    Delivered {
+        message: Message,
+        completed: u32,
+    },
     Refused(u8),
 }
 

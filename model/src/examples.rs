@@ -22,7 +22,12 @@ pub fn all() -> Vec<Example> {
     ]
 }
 
-fn example(name: &'static str, note: &str, (clients, volumes, objects): (u8, u8, u8), steps: Vec<Step>) -> Example {
+fn example(
+    name: &'static str,
+    note: &str,
+    (clients, volumes, objects): (u8, u8, u8),
+    steps: Vec<Step>,
+) -> Example {
     let setup = sized(clients, volumes, objects);
     Example { name, run: Run { note: note.into(), setup, steps } }
 }
@@ -36,7 +41,8 @@ fn hold(client: u8, object: u8, place: u8) -> Vec<Step> {
 
 fn document() -> Vec<Step> {
     let read = Step::read(0, 0);
-    let change = [read, Step::write(0, 7), Step::lose(0), Step::clock(10), read, Step::clock(11), Step::clock(4)];
+    let change =
+        [read, Step::write(0, 7), Step::lose(0), Step::clock(10), read, Step::clock(11), Step::clock(4)];
     [&[read][..], &hold(0, 0, 0), &change].concat()
 }
 
@@ -47,7 +53,8 @@ fn one_lease_alone() -> Example {
     let read = Step::read(0, 0);
     let away = [Step::clock(10), Step::write(0, 7), Step::lose(0), Step::clock(61), Step::clock(130), read];
     let renewed = [Step::ask(0, 0), Step::deliver(0), Step::deliver(0), read];
-    let steps = [&hold(0, 0, 0)[..], &[read], &away, &hold(0, 1, 0), &[read, Step::read(0, 1)], &renewed].concat();
+    let steps =
+        [&hold(0, 0, 0)[..], &[read], &away, &hold(0, 1, 0), &[read, Step::read(0, 1)], &renewed].concat();
     let mut example = example("1-one-lease-alone", "line 1 of the sheet", (1, 1, 2), steps);
     let setup = &mut example.run.setup;
     (setup.volume_lease, setup.object_lease, setup.timeout) = (60, 300, 5);
@@ -56,7 +63,8 @@ fn one_lease_alone() -> Example {
 
 /// Object 0 is written at 2, its INVALIDATE lost, object 1 renewed at 8.
 fn renew_while_waiting() -> Vec<Step> {
-    let both = [&hold(0, 0, 0)[..], &[Step::ask(0, 1), Step::deliver(0), Step::deliver(0), Step::read(0, 0)]].concat();
+    let both = [&hold(0, 0, 0)[..], &[Step::ask(0, 1), Step::deliver(0), Step::deliver(0), Step::read(0, 0)]]
+        .concat();
     let lost = [Step::clock(2), Step::write(0, 7), Step::lose(0), Step::clock(8)];
     let late = [Step::ask(0, 1), Step::deliver(0), Step::deliver(0), Step::clock(11), Step::read(0, 0)];
     [&both[..], &lost, &late].concat()

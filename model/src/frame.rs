@@ -65,7 +65,9 @@ fn read_fields(frame: &[u8; FRAME_BYTES]) -> Fields {
 fn fields_of(kind: &Kind) -> Fields {
     let none = Fields::default();
     match *kind {
-        Kind::Renew { object, number, epoch, version } => Fields { item: object, number, epoch, version, ..none },
+        Kind::Renew { object, number, epoch, version } => {
+            Fields { item: object, number, epoch, version, ..none }
+        }
         Kind::Grant(grant) => Fields {
             item: grant.object,
             present: grant.value.is_some().into(),

@@ -47,7 +47,9 @@ fn reads_show_the_posted_value_and_writes_end_in_time() {
             let server = &tables.server;
             match (record.kind, answer) {
                 (_, Answer::Refused(_)) => continue,
-                (READ, Answer::Shown(value)) => assert_eq!(value, server.value[record.object as usize]),
+                (READ, Answer::Shown(value)) => {
+                    assert_eq!(value, server.value[record.object as usize])
+                }
                 (CLOCK, _) => (0..32).for_each(|object| {
                     assert!(!server.stands(object) || server.write[object].latest_end >= record.clock);
                 }),

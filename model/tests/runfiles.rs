@@ -68,7 +68,9 @@ fn trailer_fields_must_agree() {
 #[test]
 fn setup_must_be_in_range() {
     let file = write(&[], &common::setup(), &[]);
-    for (place, byte) in [(0, 0), (0, 17), (1, 9), (2, 33), (3, 1), (4, 0), (11, 1), (12, 61), (17, 2), (20, 1)] {
+    for (place, byte) in
+        [(0, 0), (0, 17), (1, 9), (2, 33), (3, 1), (4, 0), (11, 1), (12, 61), (17, 2), (20, 1)]
+    {
         let mut file = file.clone();
         file[place] = byte;
         assert!(!accepted(&file), "byte {place} as {byte}");

@@ -77,7 +77,8 @@ fn look_for_mistakes(file: &[u8], found: &mut [bool]) {
 }
 
 fn check(program: &str, file: &[u8], which: &str) -> Result<(), String> {
-    let printed = |file: &[u8]| listing_by(program, file).map_err(|error| format!("compare: {program}: {error}"));
+    let printed =
+        |file: &[u8]| listing_by(program, file).map_err(|error| format!("compare: {program}: {error}"));
     if printed(file)? == listing(file) {
         return Ok(());
     }

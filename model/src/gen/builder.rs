@@ -123,7 +123,7 @@ impl Builder {
 
     /// A write of a value not seen before, to tell stale copies.
     pub fn write(&mut self, object: u8) {
-        let value = self.rng.next() >> self.rng.pick(&[0, 16, 40, 56]);
+        let value = self.rng.draw() >> self.rng.pick(&[0, 16, 40, 56]);
         self.push(Step::write(object, value));
     }
 

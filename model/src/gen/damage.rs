@@ -24,7 +24,7 @@ pub fn files(seed: u64) -> Vec<Vec<u8>> {
 fn base(seed: u64, rng: &mut Rng) -> Run {
     let mut run = run(seed, 10);
     run.steps.truncate(6);
-    run.note = (0..rng.range(3, 40)).map(|_| rng.next() as u8).collect();
+    run.note = (0..rng.range(3, 40)).map(|_| rng.draw() as u8).collect();
     run
 }
 
@@ -106,7 +106,7 @@ fn trailers(rng: &mut Rng, base: &Run, files: &mut Vec<Vec<u8>>) {
         files.push([body, &count.to_le_bytes(), &right(count).to_le_bytes()].concat());
     }
     for _ in 0..8 {
-        let (count, distance) = (rng.next() as u32, rng.next() as u32);
+        let (count, distance) = (rng.draw() as u32, rng.draw() as u32);
         files.push([body, &count.to_le_bytes(), &right(count).to_le_bytes()].concat());
         files.push([body, &(count % 10).to_le_bytes(), &(distance % 200).to_le_bytes()].concat());
     }
@@ -116,7 +116,7 @@ fn noise(rng: &mut Rng, files: &mut Vec<Vec<u8>>) {
     files.push(Vec::new());
     for _ in 0..30 {
         let len = rng.below(400);
-        files.push((0..len).map(|_| rng.next() as u8).collect());
+        files.push((0..len).map(|_| rng.draw() as u8).collect());
     }
     for len in [1, 7, 8, 48, 55, 56, 57, 64] {
         files.push(vec![0; len]);

@@ -14,5 +14,5 @@ pub fn any(rng: &mut Rng, steps: usize) -> Vec<u8> {
         _ if rng.percent(10) => room,
         _ => rng.below(60),
     };
-    (0..len.min(room)).map(|_| rng.next() as u8).collect()
+    (0..len.min(room)).map(|_| rng.draw() as u8).collect()
 }

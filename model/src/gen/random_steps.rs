@@ -32,12 +32,12 @@ fn any(b: &mut Builder) -> Step {
         40..=69 => Step::deliver(place),
         70..=74 => Step::lose(place),
         75..=79 => Step::double(place),
-        80..=87 => Step::write(object, b.rng.next() >> 48),
+        80..=87 => Step::write(object, b.rng.draw() >> 48),
         88..=95 => Step::clock(time(b)),
         96 => Step::restart_server(),
         97 => Step::restart_client(client),
-        98 => Step { kind: b.rng.next() as u8, ..Step::default() },
-        _ => Step::read(client.wrapping_add(b.rng.next() as u8), object),
+        98 => Step { kind: b.rng.draw() as u8, ..Step::default() },
+        _ => Step::read(client.wrapping_add(b.rng.draw() as u8), object),
     }
 }
 

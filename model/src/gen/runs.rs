@@ -56,7 +56,7 @@ fn scenes(b: &mut Builder, place: usize) {
             calm(b);
         }
         scene(b);
-        if place % 4 == 0 {
+        if place.is_multiple_of(4) {
             random_steps::take(b, 5);
         }
     }

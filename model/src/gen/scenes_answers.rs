@@ -206,9 +206,11 @@ fn renews_out_of_order(b: &mut Builder) {
             b.double(client, RENEW);
         }
     }
-    while b.queue_len() > 0 && !b.full() && b.steps.len() % 40 != 0 {
-        let last = b.queue_len() as u8 - 1;
-        b.push(Step::deliver(last));
+    for _ in 0..20 {
+        let Some(last) = b.queue_len().checked_sub(1) else {
+            break;
+        };
+        b.push(Step::deliver(last as u8));
         reads(b);
     }
     probe(b);
@@ -236,7 +238,9 @@ fn dropped_after_mark(b: &mut Builder) {
 /// An OFFER ends the leases on all objects of the volume.
 fn offer_empties_volume(b: &mut Builder) {
     let (client, object) = (b.any_client(), b.any_object());
-    let Some(other) = b.sibling(object) else { return };
+    let Some(other) = b.sibling(object) else {
+        return;
+    };
     calm(b);
     hold(b, client, other);
     hold(b, client, object);

@@ -4,7 +4,8 @@ use crate::gen::builder::Builder;
 use crate::gen::scenes::{exchange, hold, probe, reads, Scene};
 use crate::step_record::Step;
 
-pub const SCENES: &[Scene] = &[opening, plain_opening, volume_expiry, object_expiry, one_lease_alone, kept_alive];
+pub const SCENES: &[Scene] =
+    &[opening, plain_opening, volume_expiry, object_expiry, one_lease_alone, kept_alive];
 
 /// Some clients get some objects.
 pub fn opening(b: &mut Builder) {
@@ -59,7 +60,9 @@ fn object_expiry(b: &mut Builder) {
 /// changes the object: its old copy has one lease left.
 fn one_lease_alone(b: &mut Builder) {
     let (client, object) = (b.any_client(), b.any_object());
-    let Some(other) = b.sibling(object) else { return };
+    let Some(other) = b.sibling(object) else {
+        return;
+    };
     hold(b, client, object);
     let expiry = b.server().object_expiry[usize::from(object)][usize::from(client)];
     for _ in 0..12 {

@@ -46,7 +46,9 @@ fn fill(b: &mut Builder) {
 /// Empties a long list at all its places, slowly or at once.
 fn take_out(b: &mut Builder) {
     for _ in 0..20 {
-        let Some(last) = b.queue_len().checked_sub(1) else { break };
+        let Some(last) = b.queue_len().checked_sub(1) else {
+            break;
+        };
         let place = b.rng.below(last + 1) as u8;
         let step = b.rng.pick(&[Step::deliver, Step::lose]);
         b.push(step(place));
@@ -114,9 +116,9 @@ fn bad_times(b: &mut Builder) {
 /// Refusal 2, with any fields: the file's shape asks nothing of them.
 fn unknown_kinds(b: &mut Builder) {
     for _ in 0..4 {
-        let bits = b.rng.next();
+        let bits = b.rng.draw();
         let kind = b.rng.pick(&[0, 10, 11, 12, 255, bits as u8 | 16]);
-        let value = b.rng.next();
+        let value = b.rng.draw();
         b.push(Step {
             kind,
             client: (bits >> 8) as u8,

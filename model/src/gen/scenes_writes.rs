@@ -58,7 +58,9 @@ fn acknowledged(b: &mut Builder) {
 /// another object before the write ends.
 fn renew_while_waiting(b: &mut Builder) {
     let (client, object) = (b.any_client(), b.any_object());
-    let Some(other) = b.sibling(object) else { return };
+    let Some(other) = b.sibling(object) else {
+        return;
+    };
     hold(b, client, other);
     hold(b, client, object);
     b.write(object);
@@ -78,7 +80,9 @@ fn renew_while_waiting(b: &mut Builder) {
 /// must still be waited for.
 fn unreachable_but_leased(b: &mut Builder) {
     let (client, object) = (b.any_client(), b.any_object());
-    let Some(other) = b.sibling(object) else { return };
+    let Some(other) = b.sibling(object) else {
+        return;
+    };
     hold(b, client, object);
     let ticks = (b.setup.object_lease / 2).min(b.setup.volume_lease / 2);
     b.advance(ticks);
@@ -112,7 +116,9 @@ fn short_of_time(b: &mut Builder) {
 /// brings back the lowest.
 fn two_writes(b: &mut Builder) {
     let (client, object) = (b.any_client(), b.any_object());
-    let Some(other) = b.sibling(object) else { return };
+    let Some(other) = b.sibling(object) else {
+        return;
+    };
     for held in [object, other] {
         hold(b, client, held);
     }
@@ -133,7 +139,9 @@ fn two_writes(b: &mut Builder) {
 /// A client that is not waited for asks for an object being written.
 fn grant_during_write(b: &mut Builder) {
     let (client, object) = (b.any_client(), b.any_object());
-    let Some(asker) = b.other_client(client) else { return };
+    let Some(asker) = b.other_client(client) else {
+        return;
+    };
     if let Some(other) = b.sibling(object) {
         hold(b, asker, other);
     }
