@@ -42,7 +42,9 @@ pub fn routed(message: &Message) -> String {
 /// Every field that the label leaves out.
 pub fn fields(message: &Message) -> String {
     match message.kind {
-        Kind::Renew { object, epoch, version, .. } => format!("object {object}, epoch {epoch}, version {version}"),
+        Kind::Renew { object, epoch, version, .. } => {
+            format!("object {object}, epoch {epoch}, version {version}")
+        }
         Kind::Invalidate { epoch, .. } | Kind::Ack { epoch, .. } => format!("epoch {epoch}"),
         Kind::Offer { volume, epoch, .. } | Kind::Dropped { volume, epoch, .. } => {
             format!("volume {volume}, epoch {epoch}")

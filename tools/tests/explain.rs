@@ -88,7 +88,10 @@ fn refusals_name_what_is_there() {
         restart server\nask client 0 object 0\nread client 2 object 0\ndeliver 1\nkind 77 client 0 object 0 place 0 clock 0 value 0\n";
     let explained = listing(&parse(text.as_bytes()).unwrap());
     let lines: Vec<&str> = explained.lines().skip(2).collect();
-    assert_eq!(lines[0], "3 read client 2 object 0: refused 3: no such item: client 2 of 2, object 0 of 1, counted from 0");
+    assert_eq!(
+        lines[0],
+        "3 read client 2 object 0: refused 3: no such item: client 2 of 2, object 0 of 1, counted from 0"
+    );
     assert_eq!(lines[1], "4 deliver 1: refused 3: no such item: place 1 of 1, counted from 0");
     assert!(lines[2].ends_with(": refused 2: kind 77 is not one of 1 to 9"));
 }

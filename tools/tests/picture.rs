@@ -22,7 +22,10 @@ fn assert_well_formed(xml: &str) {
         let (tag, text) = piece.split_once('>').expect("a tag ends");
         assert_eq!(tag.matches('"').count() % 2, 0, "{tag}");
         for entity in tag.split('&').skip(1).chain(text.split('&').skip(1)) {
-            assert!(["amp;", "lt;", "gt;", "quot;"].iter().any(|known| entity.starts_with(known)), "{entity}");
+            assert!(
+                ["amp;", "lt;", "gt;", "quot;"].iter().any(|known| entity.starts_with(known)),
+                "{entity}"
+            );
         }
         assert!(text.chars().all(|c| c == '\n' || !c.is_control()), "{text:?}");
         match tag.strip_prefix('/') {
@@ -74,7 +77,8 @@ fn every_message_and_read_is_there() {
     for number in 2..50 {
         let run = run(22, number);
         let (picture, timeline) = (svg(&run, whole(&run)), Timeline::new(&run));
-        let answered = |answer: u8| timeline.steps.iter().filter(|view| view.answer.numbers().0 == answer).count();
+        let answered =
+            |answer: u8| timeline.steps.iter().filter(|view| view.answer.numbers().0 == answer).count();
         assert_eq!(count(&picture, "arrow "), timeline.flights.len() + 3, "run {number}");
         assert_eq!(count(&picture, "shown\""), answered(1) + 1);
         assert_eq!(count(&picture, "ask-first\""), answered(2) + 1);
@@ -90,7 +94,8 @@ fn windows_show_their_steps() {
     for from in 1..=run.steps.len() {
         for to in (from..=run.steps.len()).step_by(7) {
             let picture = svg(&run, Window { from, to });
-            let numbers: Vec<usize> = texts(&picture, "number").map(|number| number.parse().unwrap()).collect();
+            let numbers: Vec<usize> =
+                texts(&picture, "number").map(|number| number.parse().unwrap()).collect();
             assert!(numbers.into_iter().eq(from..=to));
             assert_eq!(texts(&picture, "step").count(), to - from + 1);
         }
@@ -120,9 +125,16 @@ fn the_page_stands_alone() {
         assert_eq!(page.replace("src=\\&quot;", "").matches(outside).count(), 0, "{outside}");
     }
     assert_eq!(page.matches("http:").count(), page.matches("'http://www.w3.org/2000/svg'").count());
-    assert_eq!(page.matches("<h1>note &quot;{listing} &lt;script src=\\&quot;x\\&quot;&gt; &amp; {style}&quot;</h1>").count(), 1);
+    assert_eq!(
+        page.matches(
+            "<h1>note &quot;{listing} &lt;script src=\\&quot;x\\&quot;&gt; &amp; {style}&quot;</h1>"
+        )
+        .count(),
+        1
+    );
     assert_eq!(page.matches("<script>").count(), 1);
-    for mark in ["{first}", "{signs}", "{corner}", "{header}", "{names}", "{lanes}", "{title}", "{subtitle}"] {
+    for mark in ["{first}", "{signs}", "{corner}", "{header}", "{names}", "{lanes}", "{title}", "{subtitle}"]
+    {
         assert!(!page.contains(mark), "{mark}");
     }
 }
@@ -143,7 +155,10 @@ fn the_program_draws_windows_and_turns_wrong_calls_away() {
     assert_eq!((part.status, part.output), (0, svg(&run, Window { from: 3, to: 9 }).into_bytes()));
     let rest = run_program(PICTURE, &["html", "--from", "15", "--to", "99"], &file);
     assert_eq!((rest.status, rest.output), (0, page(&run, Window { from: 15, to: 15 }).into_bytes()));
-    assert_eq!((status(&["--help"]), status(&[]), status(&["png"]), status(&["svg", "--from"])), (0, 2, 2, 2));
+    assert_eq!(
+        (status(&["--help"]), status(&[]), status(&["png"]), status(&["svg", "--from"])),
+        (0, 2, 2, 2)
+    );
     assert_eq!((status(&["svg", "--at", "3"]), status(&["svg", "--to", "x"])), (2, 2));
     let none = run_program(PICTURE, &["svg", "--from", "16"], &file);
     assert_eq!((none.status, none.errors.as_str()), (1, "no steps from 16 to 15: the run has 15\n"));

@@ -34,14 +34,14 @@ fn any_kind_with_any_fields_after_any_note() {
     for kind in 0..=255 {
         let any = Step {
             kind,
-            client: rng.next() as u8,
-            object: rng.next() as u8,
-            place: rng.next() as u8,
-            clock: rng.next() as u32,
-            value: rng.next(),
+            client: rng.draw() as u8,
+            object: rng.draw() as u8,
+            place: rng.draw() as u8,
+            clock: rng.draw() as u32,
+            value: rng.draw(),
         };
         let steps = [any.used_fields(), Step { kind, ..Step::default() }];
-        let note: Vec<u8> = (0..rng.below(300)).map(|_| rng.next() as u8).collect();
+        let note: Vec<u8> = (0..rng.below(300)).map(|_| rng.draw() as u8).collect();
         there_and_back(&write(&note, &setups::any(&mut rng), &steps));
     }
 }

@@ -97,7 +97,10 @@ fn a_bad_step_is_told() {
         ("read client 256 object 0", "found `256`, expected a number of the client from 0 to 255"),
         ("clock +4", "found `+4`, expected a time from 0 to 4294967295"),
         ("clock -1", "found `-1`, expected a time from 0 to 4294967295"),
-        ("write object 1 value 18446744073709551616", "found `18446744073709551616`, expected a value from 0"),
+        (
+            "write object 1 value 18446744073709551616",
+            "found `18446744073709551616`, expected a value from 0",
+        ),
         ("deliver", "found the end of the line, expected a place in the queue from 0 to 255"),
         ("restart all", "found `all`, expected `server` or `client`"),
         ("kind 9 client 0", "found `kind 9`, expected an unknown kind: 0, or 10 to 255"),
@@ -149,7 +152,10 @@ fn every_bad_line_is_told_once() {
 
 #[test]
 fn bytes_that_are_no_text_are_told() {
-    assert_eq!(parse(b"\n\xff").unwrap_err()[0].to_string(), "line 2: found bytes that are no text, expected UTF-8");
+    assert_eq!(
+        parse(b"\n\xff").unwrap_err()[0].to_string(),
+        "line 2: found bytes that are no text, expected UTF-8"
+    );
     assert_eq!(parse(b"# \0").unwrap_err()[0].to_string(), "line 1: found a zero byte, expected text");
 }
 

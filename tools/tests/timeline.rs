@@ -36,7 +36,9 @@ fn messages_to_a_full_queue_are_noted() {
     let setup = model::gen::setups::sized(2, 1, 1);
     let hold = |client| [Step::ask(client, 0), Step::deliver(0), Step::deliver(0), Step::deliver(0)];
     let granted = |client| [Step::ask(client, 0), Step::deliver(0), Step::deliver(0)];
-    let steps = [&hold(0)[..], &granted(0), &hold(1), &granted(1), &[Step::ask(0, 0)], &[Step::double(0); 62]].concat();
+    let steps =
+        [&hold(0)[..], &granted(0), &hold(1), &granted(1), &[Step::ask(0, 0)], &[Step::double(0); 62]]
+            .concat();
     let lost = |step: Step| {
         let steps = [&steps[..], &[step]].concat();
         let timeline = Timeline::new(&Run { note: Vec::new(), setup, steps });
@@ -45,8 +47,11 @@ fn messages_to_a_full_queue_are_noted() {
     assert_eq!((lost(Step::ask(1, 0)), lost(Step::write(0, 7)), lost(Step::double(3))), (0, 1, 0));
     let mut full = steps.clone();
     full.push(Step::ask(1, 0));
-    let timeline = |step| Timeline::new(&Run { note: Vec::new(), setup, steps: [&full[..], &[step]].concat() });
-    for (step, count) in [(Step::ask(1, 0), 1), (Step::write(0, 7), 2), (Step::double(3), 1), (Step::deliver(0), 0)] {
+    let timeline =
+        |step| Timeline::new(&Run { note: Vec::new(), setup, steps: [&full[..], &[step]].concat() });
+    for (step, count) in
+        [(Step::ask(1, 0), 1), (Step::write(0, 7), 2), (Step::double(3), 1), (Step::deliver(0), 0)]
+    {
         let flights = timeline(step).flights;
         assert_eq!(flights.iter().filter(|flight| flight.end == End::QueueFull).count(), count, "{step:?}");
     }
@@ -60,7 +65,7 @@ fn spans_cover_what_the_tables_hold() {
         let timeline = Timeline::new(&run);
         walk(&run, |moment| {
             let covers = |from: usize, to: Option<usize>| {
-                from <= moment.number && to.map_or(true, |to| moment.number < to)
+                from <= moment.number && to.is_none_or(|to| moment.number < to)
             };
             let spans = timeline.spans.iter().filter(|span| covers(span.from, span.to));
             let covered: BTreeMap<_, _> = spans.map(|span| (span.track, span.detail)).collect();

@@ -63,5 +63,9 @@ fn window(from: Option<usize>, to: Option<usize>, count: usize) -> Result<Window
     if empty || (1..=window.to).contains(&window.from) {
         return Ok(window);
     }
-    Err(Failure::Input(format!("no steps from {} to {}: the run has {count}", window.from, to.unwrap_or(count))))
+    Err(Failure::Input(format!(
+        "no steps from {} to {}: the run has {count}",
+        window.from,
+        to.unwrap_or(count)
+    )))
 }

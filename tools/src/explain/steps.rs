@@ -28,7 +28,8 @@ pub fn read(moment: &Moment) -> Vec<String> {
     } else if copy.version == 0 {
         reasons.push("no copy".into());
     }
-    for (what, expiry, told) in [("volume", volume_expiry, true), ("object", copy.expiry, copy.version != 0)] {
+    for (what, expiry, told) in [("volume", volume_expiry, true), ("object", copy.expiry, copy.version != 0)]
+    {
         if told && shown == alive(expiry, tables.clock) {
             reasons.push(lease(what, expiry, tables.clock));
         }
@@ -87,7 +88,11 @@ pub fn clock(moment: &Moment) -> Vec<String> {
     let mut reasons = Vec::new();
     for ((_, write), mut words) in moment.ended().into_iter().zip(completed(moment)) {
         if write.waiting != 0 {
-            words += &format!(", latest end {} passed, {} marked unreachable", write.latest_end, clients(write.waiting));
+            words += &format!(
+                ", latest end {} passed, {} marked unreachable",
+                write.latest_end,
+                clients(write.waiting)
+            );
         }
         reasons.push(words);
     }
@@ -117,7 +122,9 @@ pub fn restart_server(moment: &Moment) -> Vec<String> {
     let volumes = moment.volumes().map(|volume| {
         format!("volume {volume} has epoch {}, guard {}", server.epoch[volume], server.guard[volume])
     });
-    let cut_off = |(object, write): (usize, &Write)| format!("write of object {object}, value {}, cut off", write.value);
+    let cut_off = |(object, write): (usize, &Write)| {
+        format!("write of object {object}, value {}, cut off", write.value)
+    };
     volumes.chain(moment.ended().into_iter().map(cut_off)).collect()
 }
 

@@ -109,7 +109,10 @@ fn head(svg: &mut Svg, kind: &str, path: &Path) {
     let (way, tip) = (path.way(), path.to);
     let back = at(tip.x - 9.0 * way.x, tip.y - 9.0 * way.y);
     let side = at(-3.4 * way.y, 3.4 * way.x);
-    svg.shape(&format!("head {kind}"), &[tip, at(back.x + side.x, back.y + side.y), at(back.x - side.x, back.y - side.y)]);
+    svg.shape(
+        &format!("head {kind}"),
+        &[tip, at(back.x + side.x, back.y + side.y), at(back.x - side.x, back.y - side.y)],
+    );
 }
 
 /// What keeps labels apart: the flight's place in the list, and whether an

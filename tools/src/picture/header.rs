@@ -72,7 +72,7 @@ fn clock(svg: &mut Svg, layout: &Layout, number: usize, view: &StepView, y: f64)
     let x = layout.x(number);
     if view.clock != view.clock_before {
         svg.text("clock", at(x, y), &format!("to {}", view.clock));
-    } else if (number - layout.window.from) % AGAIN == 0 {
+    } else if (number - layout.window.from).is_multiple_of(AGAIN) {
         svg.text("clock again", at(x, y), &format!("at {}", view.clock));
     }
 }

@@ -44,8 +44,12 @@ pub struct Layout {
 
 impl Layout {
     pub fn new(timeline: &Timeline, window: Window) -> Layout {
-        let mut rows: BTreeMap<Row, f64> =
-            timeline.spans.iter().filter(|span| window.shows(span)).map(|span| (row(span.track), 0.0)).collect();
+        let mut rows: BTreeMap<Row, f64> = timeline
+            .spans
+            .iter()
+            .filter(|span| window.shows(span))
+            .map(|span| (row(span.track), 0.0))
+            .collect();
         let mut y = 8.0;
         rows.range_mut(..Row::Volume(0, 0)).for_each(|(_, top)| (*top, y) = (y, y + ROW));
         let server = y + BELOW_LINE;
@@ -83,7 +87,7 @@ impl Layout {
 impl Window {
     /// A span that ended before the window, or begins after it, is not in it.
     fn shows(&self, span: &Span) -> bool {
-        span.from <= self.to && span.to.map_or(true, |to| to >= self.from)
+        span.from <= self.to && span.to.is_none_or(|to| to >= self.from)
     }
 }
 
@@ -112,8 +116,8 @@ pub fn row(track: Track) -> Row {
         Track::ServerVolumeLease(client, volume)
         | Track::Unreachable(client, volume)
         | Track::VolumeLease(client, volume) => Row::Volume(client, volume),
-        Track::ServerObjectLease(client, object) | Track::ObjectLease(client, object) | Track::Copy(client, object) => {
-            Row::Object(client, object)
-        }
+        Track::ServerObjectLease(client, object)
+        | Track::ObjectLease(client, object)
+        | Track::Copy(client, object) => Row::Object(client, object),
     }
 }

@@ -1,6 +1,7 @@
 //! A picture of a run over time, as SVG or as a page that holds it.
 
 mod arrows;
+mod bars;
 mod header;
 mod lanes;
 pub mod layout;
@@ -8,6 +9,7 @@ mod legend;
 mod marks;
 mod page;
 pub mod svg;
+mod words;
 
 use model::gen::runs::Run;
 
@@ -41,7 +43,7 @@ impl Parts {
         lanes::names(&layout, NAMES, &mut names);
         marks::columns(timeline, &layout, &mut body);
         lanes::lines(&layout, &mut body);
-        lanes::bars(timeline, &layout, &mut body);
+        bars::draw(timeline, &layout, &mut body);
         arrows::draw(timeline, &layout, &mut body);
         marks::draw(timeline, &layout, &mut body);
         Parts { layout, header_height, header: header.0, names: names.0, lanes: body.0 }

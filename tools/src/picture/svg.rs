@@ -20,7 +20,11 @@ pub struct Svg(pub String);
 pub fn n(number: f64) -> String {
     let text = format!("{number:.1}");
     let text = text.strip_suffix(".0").unwrap_or(&text);
-    if text == "-0" { "0".into() } else { text.into() }
+    if text == "-0" {
+        "0".into()
+    } else {
+        text.into()
+    }
 }
 
 pub fn escaped(text: &str) -> String {

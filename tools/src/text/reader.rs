@@ -116,7 +116,10 @@ impl Reader {
             }
             Ok(_) => {
                 let room = FILE_BYTES - distance(self.steps.len());
-                Wrong::new(format!("a note of {} bytes", self.note.len()), format!("at most {room} with these steps"))
+                Wrong::new(
+                    format!("a note of {} bytes", self.note.len()),
+                    format!("at most {room} with these steps"),
+                )
             }
         };
         self.troubles.push(Trouble { line: self.first_step.unwrap_or(last), wrong });

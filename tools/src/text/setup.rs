@@ -85,9 +85,9 @@ impl Partial {
         let (clients, volumes, objects) = self.counts.ok_or_else(|| missing(COUNTS))?;
         let (volume_lease, object_lease, timeout) = self.ticks.ok_or_else(|| missing(TICKS))?;
         let mut volume_of = [0; OBJECTS];
-        for object in 0..usize::from(objects) {
+        for (object, volume) in volume_of.iter_mut().enumerate().take(objects.into()) {
             let without = || Wrong::new(format!("no volume of object {object} before"), VOLUME);
-            volume_of[object] = self.volume_of[object].ok_or_else(without)?;
+            *volume = self.volume_of[object].ok_or_else(without)?;
         }
         Ok(Setup { clients, volumes, objects, volume_lease, object_lease, timeout, volume_of })
     }

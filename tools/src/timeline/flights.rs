@@ -82,7 +82,10 @@ fn renew(moment: &Moment) -> Message {
     let number = moment.request_before(client).next;
     let epoch = moment.before.tables.clients.epoch[client][moment.setup.volume(object)];
     let version = moment.copy_before(client, object).version;
-    Message { client: moment.step.client, kind: Kind::Renew { object: moment.step.object, number, epoch, version } }
+    Message {
+        client: moment.step.client,
+        kind: Kind::Renew { object: moment.step.object, number, epoch, version },
+    }
 }
 
 fn invalidates(moment: &Moment) -> Vec<Message> {

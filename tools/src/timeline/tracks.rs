@@ -56,7 +56,8 @@ fn server(setup: &Setup, state: &State, tracks: &mut Tracks) {
     }
     for object in (0..usize::from(setup.objects)).filter(|&object| server.stands(object)) {
         let write = &server.write[object];
-        let detail = Detail { until: write.latest_end, version: server.version[object] + 1, value: write.value };
+        let detail =
+            Detail { until: write.latest_end, version: server.version[object] + 1, value: write.value };
         tracks.insert(Track::Write(object), detail);
     }
 }
@@ -64,13 +65,18 @@ fn server(setup: &Setup, state: &State, tracks: &mut Tracks) {
 fn volumes(setup: &Setup, state: &State, client: usize, tracks: &mut Tracks) {
     let (tables, clock) = (&state.tables, state.tables.clock);
     for volume in 0..usize::from(setup.volumes) {
-        let (own, noted) = (tables.clients.expiry[client][volume], tables.server.volume_expiry[volume][client]);
+        let (own, noted) =
+            (tables.clients.expiry[client][volume], tables.server.volume_expiry[volume][client]);
         let (known, epoch) = (tables.clients.epoch[client][volume], tables.server.epoch[volume]);
         if alive(own, clock) {
-            tracks.insert(Track::VolumeLease(client, volume), Detail { until: own, version: known, value: 0 });
+            tracks
+                .insert(Track::VolumeLease(client, volume), Detail { until: own, version: known, value: 0 });
         }
         if alive(noted, clock) {
-            tracks.insert(Track::ServerVolumeLease(client, volume), Detail { until: noted, version: epoch, value: 0 });
+            tracks.insert(
+                Track::ServerVolumeLease(client, volume),
+                Detail { until: noted, version: epoch, value: 0 },
+            );
         }
         if tables.server.unreachable[volume] >> client & 1 == 1 {
             tracks.insert(Track::Unreachable(client, volume), Detail::default());
@@ -91,7 +97,10 @@ fn objects(setup: &Setup, state: &State, client: usize, tracks: &mut Tracks) {
             tracks.insert(Track::ObjectLease(client, object), detail);
         }
         if alive(noted, clock) {
-            tracks.insert(Track::ServerObjectLease(client, object), Detail { until: noted, ..Detail::default() });
+            tracks.insert(
+                Track::ServerObjectLease(client, object),
+                Detail { until: noted, ..Detail::default() },
+            );
         }
     }
 }
