@@ -23,7 +23,7 @@ pub fn draw(timeline: &Timeline, layout: &Layout, svg: &mut Svg) {
             Track::Guard(_) => bar(layout, svg, "guard", span, top, from, to),
             Track::VolumeLease(..) => bar(layout, svg, "volume-lease", span, top, from, to),
             Track::ObjectLease(..) => bar(layout, svg, "object-lease", span, top, from, to),
-            Track::Copy(..) => svg.rect("copy", at(from, top + 15.0), to - from, 1.5),
+            Track::Copy(..) => svg.line("copy", at(from, top + 16.3), at(to, top + 16.3)),
             Track::ServerVolumeLease(..) | Track::ServerObjectLease(..) => {
                 svg.rect("noted", at(from, top + 2.0), to - from, 2.0)
             }

@@ -18,7 +18,7 @@ const SIGNS: [(&str, Sign); 14] = [
     ("column of a clock step: time passes", |svg, x, y| svg.rect("time", at(x, y - 7.0), 28.0, 14.0)),
     ("volume lease of the client", |svg, x, y| svg.rect("volume-lease", at(x, y - 5.5), 28.0, 11.0)),
     ("object lease of the client", |svg, x, y| svg.rect("object-lease", at(x, y - 5.5), 28.0, 11.0)),
-    ("copy held", |svg, x, y| svg.rect("copy", at(x, y), 28.0, 1.5)),
+    ("copy held", |svg, x, y| svg.line("copy", at(x, y), at(x + 28.0, y))),
     ("the same lease as the server notes it", |svg, x, y| svg.rect("noted", at(x, y - 1.0), 28.0, 2.0)),
     ("marked unreachable", |svg, x, y| svg.line("unreachable", at(x, y), at(x + 28.0, y))),
     ("write, to completion; red: its latest end", |svg, x, y| {
