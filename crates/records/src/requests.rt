@@ -1,0 +1,72 @@
+ghost use mathlib.Core.Path.{_≡_};
+ghost use Prim.Native.Nat.{_<_};
+ghost use lib.ListN.{getD, set};
+ghost use Rattle.protocol.specs.Tables.{noRequest};
+ghost use Rattle.protocol.specs.Client as client;
+use protocol::records::Request;
+
+// One client's request; where there is no such client, none.
+pub fn look(requests: &[Request], i: usize) -> Request
+    ensures { λ r. ⌜ r ≡ getD (now (requests .entry)) i noRequest ⌝ }
+{
+    if i < requests.len() {
+        return requests[i];
+    }
+    Request {
+        next: 0,
+        standing: false,
+        number: 0,
+        object: 0,
+    }
+}
+
+// One client's request stored; nothing where there is no such client.
+pub fn store(requests: &mut [Request], i: usize, r: Request)
+    ensures { λ _. ⌜ now (requests .exit) ≡ set (now (requests .entry)) i r ⌝ }
+{
+    if i < requests.len() {
+        requests[i] = r;
+    }
+}
+
+// "take the next number, replace the standing request" (01, step 3). Question 6 asks first whether the next number can grow.
+fn numbered(r: Request, object: u8) -> Request
+    requires { ⌜ r .next < 4294967295 ⌝ }
+    ensures { λ n. ⌜ n ≡ client.numbered r object ⌝ }
+{
+    Request {
+        next: r.next + 1,
+        standing: true,
+        number: r.next,
+        object: object,
+    }
+}
+
+// "end the request"; the next number stays.
+fn ended(r: Request) -> Request
+    ensures { λ n. ⌜ n ≡ client.ended r ⌝ }
+{
+    Request {
+        next: r.next,
+        standing: false,
+        number: 0,
+        object: 0,
+    }
+}
+
+// The next number is taken for a request about an object, which stands from now on.
+pub fn take_number(r: &mut Request, object: u8) -> u32
+    requires { ⌜ now r .next < 4294967295 ⌝ }
+    ensures { λ n. ⌜ (n ≡ now (r .entry) .next) × (now (r .exit) ≡ client.numbered (now (r .entry)) object) ⌝ }
+{
+    let n = numbered(*r, object);
+    *r = n;
+    n.number
+}
+
+// No request stands from now on.
+pub fn end_request(r: &mut Request)
+    ensures { λ _. ⌜ now (r .exit) ≡ client.ended (now (r .entry)) ⌝ }
+{
+    *r = ended(*r);
+}
