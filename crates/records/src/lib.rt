@@ -1,3 +1,4 @@
 // The clients' lent records: thin functions over the slice of copies and the slice of requests. Covered functions, on values, decide.
 pub mod copies;
 pub mod requests;
+pub mod sweep;
