@@ -1,9 +1,13 @@
 ghost use mathlib.Core.Path.{_≡_};
 ghost use Prim.Native.Nat.{_<_};
+ghost use mathlib.Core.Bool.{_&&_};
+ghost use lib.Dec.{eqb};
 ghost use lib.ListN.{getD, set};
 ghost use Rattle.protocol.specs.Tables.{noRequest};
+ghost use Rattle.protocol.specs.Sound.{requestSound, requestsSound};
 ghost use Rattle.protocol.specs.Client as client;
 use protocol::records::Request;
+use protocol::setup::Setup;
 
 // One client's request; where there is no such client, none.
 pub fn look(requests: &[Request], i: usize) -> Request
@@ -69,4 +73,31 @@ pub fn end_request(r: &mut Request)
     ensures { λ _. ⌜ now (r .exit) ≡ client.ended (now (r .entry)) ⌝ }
 {
     *r = ended(*r);
+}
+
+fn as_many(s: Setup, len: usize) -> bool
+    ensures { λ r. ⌜ r ≡ eqb len (s .clients) ⌝ }
+{
+    let clients = s.clients as usize;
+    len == clients
+}
+
+fn still_sound(ok: bool, r: Request, s: Setup) -> bool
+    ensures { λ b. ⌜ b ≡ (ok && requestSound s r) ⌝ }
+{
+    let object = r.object as u32;
+    ok & ((1 <= r.next) & (!r.standing | (object < s.objects)))
+}
+
+// Question 1, as far as it asks about requests: one a client, next numbers at least 1, and the object of a standing request exists.
+pub fn sound(requests: &[Request], s: Setup) -> bool
+    ensures { λ b. ⌜ b ≡ requestsSound s (now (requests .entry)) ⌝ }
+{
+    let mut ok = as_many(s, requests.len());
+    let mut k = 0;
+    while k < requests.len() {
+        ok = still_sound(ok, requests[k], s);
+        k += 1;
+    }
+    ok
 }
