@@ -1,0 +1,20 @@
+use borrow.Author.Needs.{needs}
+use Rattle.protocol.specs.Client.{clientRestarted}
+use Rattle.client.proofs.view.restart.Statement.{statement}
+use Rattle.client.proofs.view.restart.Tie as tie
+
+cast-n : tie.Need-cast-n
+cast-n c = search needs
+
+clear-requires : tie.Need-clear-requires
+clear-requires c κs = search needs
+
+clear-requires-2 : tie.Need-clear-requires-2
+clear-requires-2 c κs = search needs
+
+returns : tie.Need-returns
+unfolding clientRestarted
+returns c = rw (c .before .before .clear .ensures, c .clear2 .ensures)
+
+pub restart-spec : {M : Type 1} → statement M
+restart-spec = tie.close (tie.spec cast-n clear-requires clear-requires-2 returns)
