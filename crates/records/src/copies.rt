@@ -5,6 +5,7 @@ ghost use lib.Dec.{eqb};
 ghost use lib.ListN.{getD, set};
 ghost use Rattle.protocol.specs.Tables.{noCopy};
 ghost use Rattle.protocol.specs.Sound.{timeFits, copiesSound};
+use gate::records::copy_sound;
 use protocol::records::Copy;
 use protocol::setup::Setup;
 
@@ -43,7 +44,8 @@ fn as_many(s: Setup, len: usize) -> bool
 fn still_sound(ok: bool, c: Copy) -> bool
     ensures { λ r. ⌜ r ≡ (ok && timeFits (c .expiry)) ⌝ }
 {
-    ok & (c.expiry <= 2148483647)
+    let fits = copy_sound(c);
+    ok & fits
 }
 
 // Question 1, as far as it asks about copies: as many as there are clients and objects, and every expiry in range.

@@ -5,7 +5,10 @@ ghost use lib.Dec.{eqb};
 ghost use lib.ListN.{getD, set};
 ghost use Rattle.protocol.specs.Tables.{noRequest};
 ghost use Rattle.protocol.specs.Sound.{requestSound, requestsSound};
-ghost use Rattle.protocol.specs.Client as client;
+ghost use Rattle.protocol.specs.Client.{numbered, ended};
+use client::request::end;
+use client::request::number;
+use gate::records::request_sound;
 use protocol::records::Request;
 use protocol::setup::Setup;
 
@@ -33,46 +36,21 @@ pub fn store(requests: &mut [Request], i: usize, r: Request)
     }
 }
 
-// "take the next number, replace the standing request" (01, step 3). Question 6 asks first whether the next number can grow.
-fn numbered(r: Request, object: u8) -> Request
-    requires { ⌜ r .next < 4294967295 ⌝ }
-    ensures { λ n. ⌜ n ≡ client.numbered r object ⌝ }
-{
-    Request {
-        next: r.next + 1,
-        standing: true,
-        number: r.next,
-        object: object,
-    }
-}
-
-// "end the request"; the next number stays.
-fn ended(r: Request) -> Request
-    ensures { λ n. ⌜ n ≡ client.ended r ⌝ }
-{
-    Request {
-        next: r.next,
-        standing: false,
-        number: 0,
-        object: 0,
-    }
-}
-
 // The next number is taken for a request about an object, which stands from now on.
 pub fn take_number(r: &mut Request, object: u8) -> u32
     requires { ⌜ now r .next < 4294967295 ⌝ }
-    ensures { λ n. ⌜ (n ≡ now (r .entry) .next) × (now (r .exit) ≡ client.numbered (now (r .entry)) object) ⌝ }
+    ensures { λ n. ⌜ (n ≡ now (r .entry) .next) × (now (r .exit) ≡ numbered (now (r .entry)) object) ⌝ }
 {
-    let n = numbered(*r, object);
+    let n = number(*r, object);
     *r = n;
     n.number
 }
 
 // No request stands from now on.
 pub fn end_request(r: &mut Request)
-    ensures { λ _. ⌜ now (r .exit) ≡ client.ended (now (r .entry)) ⌝ }
+    ensures { λ _. ⌜ now (r .exit) ≡ ended (now (r .entry)) ⌝ }
 {
-    *r = ended(*r);
+    *r = end(*r);
 }
 
 fn as_many(s: Setup, len: usize) -> bool
@@ -85,8 +63,8 @@ fn as_many(s: Setup, len: usize) -> bool
 fn still_sound(ok: bool, r: Request, s: Setup) -> bool
     ensures { λ b. ⌜ b ≡ (ok && requestSound s r) ⌝ }
 {
-    let object = r.object as u32;
-    ok & ((1 <= r.next) & (!r.standing | (object < s.objects)))
+    let fits = request_sound(s, r);
+    ok & fits
 }
 
 // Question 1, as far as it asks about requests: one a client, next numbers at least 1, and the object of a standing request exists.

@@ -1,4 +1,4 @@
--- `records::requests::end_request` meets its contract: a walk of its MIR, by hand. The record is read, the covered `ended` is called on it, and what it made is stored. Assumes nothing.
+-- `records::requests::end_request` meets its contract: a walk of its MIR, by hand. The record is read, the covered `end` is called on it, and what it made is stored. Assumes nothing.
 use mathlib.Core.Path.{_≡_, refl, ap, subst}
 use Prim.Native.Nat.{ℕ}
 use mathlib.Core.List.{[], _∷_, List}
@@ -37,10 +37,10 @@ use Rattle.protocol.specs.declared.records.Request.{Request}
 use Rattle.protocol.specs.Client.{ended}
 use Rattle.protocol.proofs.records.Request as Q-
 use Rattle.protocol.proofs.records.Request.Laws as Q′
-use Rattle.records.proofs.requests.ended as ended-c
-use Rattle.records.proofs.requests.ended.Symbol as ended-def
-use Rattle.records.proofs.requests.ended.Symbol.{name as #records·requests·ended}
-use Rattle.records.proofs.requests.ended.Met as ended-thm
+use Rattle.client.proofs.request.end as end-c
+use Rattle.client.proofs.request.end.Symbol as end-def
+use Rattle.client.proofs.request.end.Symbol.{name as #client·request·end}
+use Rattle.client.proofs.request.end.Met as end-thm
 use Rattle.records.proofs.requests.end_request.Key.{name as #records·requests·end-request}
 use Rattle.records.proofs.requests.end_request as this
 use Rattle.records.proofs.requests.end_request.Statement as stated
@@ -52,8 +52,8 @@ Q = Q-.the-row
 abbrev stayed : Stays (this.ended .signature .params) (this.ended .kept)
 stayed = (stay-ref (0 ∷ []) tt (plain (λ _. Q)), tt)
 
-abbrev On-ended : {M : Type 1} (𝓤 : URA M) (H : Heap 𝓤) (A : Atoms 𝓤) (mem : Memory → SProp 𝓤) (run : Routine → Fun 𝓤) → Contract 𝓤
-On-ended 𝓤 H A mem run = tripleOf 𝓤 H A ended-c.signature (ended-c.spec 𝓤 H A mem run)
+abbrev On-end : {M : Type 1} (𝓤 : URA M) (H : Heap 𝓤) (A : Atoms 𝓤) (mem : Memory → SProp 𝓤) (run : Routine → Fun 𝓤) → Contract 𝓤
+On-end 𝓤 H A mem run = tripleOf 𝓤 H A end-c.signature (end-c.spec 𝓤 H A mem run)
 
 module _ {M : Type 1} (𝓤 : URA M) (H : Heap 𝓤) (A : Atoms 𝓤) (W : Given 𝓤 H A) (at-mem : Memory → SProp 𝓤) (run : Routine → Fun 𝓤) (κ : Lft) (q : Share) (b o : ℕ) (γ : GName) (h : Request) where
   abbrev x : Request → RefT Request
@@ -74,17 +74,17 @@ module _ {M : Type 1} (𝓤 : URA M) (H : Heap 𝓤) (A : Atoms 𝓤) (W : Given
   abbrev Post : Val → SProp 𝓤
   Post = walkOf 𝓤 H A this.ended stayed (this.clauses 𝓤 H A at-mem run) .post (((κ, tt), (q, tt), tt, a, at), tt)
 
-  abbrev args-ended : Request × (Unit {0})
-  args-ended = (h, tt)
+  abbrev args-end : Request × (Unit {0})
+  args-end = (h, tt)
 
-  abbrev to-ended : On-ended 𝓤 H A at-mem run .Ghost
-  to-ended = ((tt, tt, tt, args-ended, (vq h ∷ [], tt)), tt)
+  abbrev to-end : On-end 𝓤 H A at-mem run .Ghost
+  to-end = ((tt, tt, tt, args-end, (vq h ∷ [], tt)), tt)
 
-  goes-ended : Is Q h (vq h ∷ []) → ent 𝓤 (emp 𝓤) (On-ended 𝓤 H A at-mem run .pre to-ended)
-  goes-ended is-h = qed W [] ∵ nothing ! $ owned ! Q (Is Q) (LL.makes Q-.the-type Q′.the-plain 𝓤 H A) h _ is-h $ fjoin ! $ nothing ! $ join ! $ frame ! $ done !
+  goes-end : Is Q h (vq h ∷ []) → ent 𝓤 (emp 𝓤) (On-end 𝓤 H A at-mem run .pre to-end)
+  goes-end is-h = qed W [] ∵ nothing ! $ owned ! Q (Is Q) (LL.makes Q-.the-type Q′.the-plain 𝓤 H A) h _ is-h $ fjoin ! $ nothing ! $ join ! $ frame ! $ done !
 
-  got-ended : (r : Request) → ent 𝓤 (ensured 𝓤 H A ended-c.ended (ended-c.clauses 𝓤 H A at-mem run) tt args-ended tt r) (fact 𝓤 (r ≡ r₀))
-  got-ended r = exE 𝓤 _ (λ ws. snd∗ 𝓤 (sem 𝓤 H A (lasts ended-c.ended tt args-ended ws)) (fact 𝓤 (r ≡ r₀)))
+  got-end : (r : Request) → ent 𝓤 (ensured 𝓤 H A end-c.ended (end-c.clauses 𝓤 H A at-mem run) tt args-end tt r) (fact 𝓤 (r ≡ r₀))
+  got-end r = exE 𝓤 _ (λ ws. snd∗ 𝓤 (sem 𝓤 H A (lasts end-c.ended tt args-end ws)) (fact 𝓤 (r ≡ r₀)))
 
   exits : (r : Request) → r ≡ r₀ → Is Q r (vq r ∷ []) → ent 𝓤 (⋆ 𝓤 H A (‵ (fobs γ (Q .coded .code r)) ∷ ‵ (fbor κ (Body (mem Q) b o γ)) ∷ ‵ (flft κ q) ∷ [])) (Post vunit)
   exits r e is =
@@ -92,7 +92,7 @@ module _ {M : Type 1} (𝓤 : URA M) (H : Heap 𝓤) (A : Atoms 𝓤) (W : Given
       suffices ! _ (ends-at 𝓤 H A this.ended stayed (this.clauses 𝓤 H A at-mem run) W (((κ, tt), (q, tt), tt, a, at), tt) vunit tt (r, tt) (tt, tt)) $ says ! e $
       nothing ! $ move ! (3 ∷ 0 ∷ []) $ join ! $ frame ! $ feqI ! (List Val) (vptr b o ∷ []) (vptr b o ∷ []) refl $ fjoin3 ! $ nothing ! $ move ! (1 ∷ 0 ∷ []) $ fjoin ! $ frame ! $ feqI ! (List Val) (vunit ∷ []) (vunit ∷ []) refl $ done !
 
-  module _ (𝓣 : Tables 𝓤 H) (fm : FmC 𝓤 H (W .laws) (𝓣 .C)) (known-ended : Triple 𝓤 (𝓣 .C #records·requests·ended) (On-ended 𝓤 H A at-mem run)) where
+  module _ (𝓣 : Tables 𝓤 H) (fm : FmC 𝓤 H (W .laws) (𝓣 .C)) (known-end : Triple 𝓤 (𝓣 .C #client·request·end) (On-end 𝓤 H A at-mem run)) where
     walk : ent 𝓤 (onEntry 𝓤 H A this.signature (κ, tt) (q, tt) a at) (WpFn 𝓤 H (𝓣 .C) (𝓣 .Λ) code.function (vptr b o ∷ []) Post)
     walk =
         qed W ((‵ (flft κ q) ⊛ ‵ ftrue) ∷ ‵ (owns (MutRef (named 0) κ Q ∷ []) a at) ∷ []) ∵ enter ! (𝓣 .C) (𝓣 .Λ) code.function (vptr b o ∷ []) _ $
@@ -101,10 +101,10 @@ module _ {M : Type 1} (𝓤 : URA M) (H : Heap 𝓤) (A : Atoms 𝓤) (W : Given
         move ! (2 ∷ 3 ∷ 0 ∷ []) $ opens ! tt Q {h = h} b o (λ vs. spelt ! Q (Is Q) (shows 𝓤 H A Q) (LL.vals Q-.the-type Q′.the-laws) (LL.tells Q-.the-type Q′.the-laws) fullShare h vs b o $
         use1 W (‵ (fat fullShare Q′.mir b o (vq h))) (W .laws .raw-at fullShare Q′.mir b o (vq h)) $ move ! (1 ∷ []) $ facts ! Q (Is Q) (shows 𝓤 H A Q) h (vq h ∷ []) (λ is-h.
         assigns ! (of-opd ! (load ! (from ! (hop ! (look ! 10 refl) (stop !))) (look ! 0 refl))) (from ! (stop !)) (init ! 6 refl (LL.lawful Q-.the-type Q′.the-laws 𝓤 H A W .typed h _ is-h .0)) $
-        use0 W (raw (On-ended 𝓤 H A at-mem run .pre to-ended)) (goes-ended is-h) $
-        calls-at ! fm (On-ended 𝓤 H A at-mem run) known-ended to-ended (and-then ! (load ! (from ! (stop !)) (look ! 7 refl)) (no-more !)) (λ w.
-        use1 W (later (some (λ (r : Request). (‵ ftrue ⊛ ‵ (Q .own r (w ∷ []))) ⊛ raw (ensured 𝓤 H A ended-c.ended (ended-c.clauses 𝓤 H A at-mem run) tt args-ended tt r)))) (id⊢ 𝓤 _) $ await ! tt $ pick ! (λ r.
-        split ! $ move ! (1 ∷ []) $ use1 W (raw (fact 𝓤 (r ≡ r₀))) (got-ended r) $ heard ! (r ≡ r₀) (λ e. split ! $ drop ! $ facts ! Q (Is Q) (shows 𝓤 H A Q) r (w ∷ []) (λ is-w. let is : Is Q r (vq r ∷ []) = subst (λ (vs : List Val). Is Q r vs) (LL.tells Q-.the-type Q′.the-laws r (w ∷ []) is-w) is-w in
+        use0 W (raw (On-end 𝓤 H A at-mem run .pre to-end)) (goes-end is-h) $
+        calls-at ! fm (On-end 𝓤 H A at-mem run) known-end to-end (and-then ! (load ! (from ! (stop !)) (look ! 7 refl)) (no-more !)) (λ w.
+        use1 W (later (some (λ (r : Request). (‵ ftrue ⊛ ‵ (Q .own r (w ∷ []))) ⊛ raw (ensured 𝓤 H A end-c.ended (end-c.clauses 𝓤 H A at-mem run) tt args-end tt r)))) (id⊢ 𝓤 _) $ await ! tt $ pick ! (λ r.
+        split ! $ move ! (1 ∷ []) $ use1 W (raw (fact 𝓤 (r ≡ r₀))) (got-end r) $ heard ! (r ≡ r₀) (λ e. split ! $ drop ! $ facts ! Q (Is Q) (shows 𝓤 H A Q) r (w ∷ []) (λ is-w. let is : Is Q r (vq r ∷ []) = subst (λ (vs : List Val). Is Q r vs) (LL.tells Q-.the-type Q′.the-laws r (w ∷ []) is-w) is-w in
         land ! (from ! (stop !)) (init ! 8 refl (LL.lawful Q-.the-type Q′.the-laws 𝓤 H A W .typed r _ is-w .0)) $ rewrite ! 8 (λ (u : Val). ‵ (fat fullShare Q′.mir l₂ 0 u)) (ap only (LL.tells Q-.the-type Q′.the-laws r _ is-w)) refl $
         assigns ! (of-opd ! (load ! (from ! (stop !)) (look ! 8 refl))) (from ! (hop ! (look ! 10 refl) (stop !))) (store ! 0 refl (LL.lawful Q-.the-type Q′.the-laws 𝓤 H A W .typed r _ is .0)) $
         assigns ! (of-opd ! (unit-lit !)) (from ! (stop !)) (init ! 12 refl (tt, tt)) $
@@ -115,15 +115,15 @@ module _ {M : Type 1} (𝓤 : URA M) (H : Heap 𝓤) (A : Atoms 𝓤) (W : Given
         keep ! (0 ∷ 1 ∷ 2 ∷ []) $ by ! (exits r e is)))))))))))
 
 module _ {M : Type 1} (𝓤 : URA M) (H : Heap 𝓤) (A : Atoms 𝓤) (W : Given 𝓤 H A) (mem : Memory → SProp 𝓤) (run : Routine → Fun 𝓤) where
-  this-walks : (𝓣 : Tables 𝓤 H) → Triple 𝓤 (𝓣 .C #records·requests·ended) (On-ended 𝓤 H A mem run) → Walks 𝓤 H A this.ended stayed (WpFn 𝓤 H (𝓣 .C) (𝓣 .Λ) code.function) (this.clauses 𝓤 H A mem run)
-  this-walks 𝓣 known-ended = walked 𝓤 H A this.ended stayed (this.clauses 𝓤 H A mem run) (WpFn 𝓤 H (𝓣 .C) (𝓣 .Λ) code.function) (λ κs. (ptr-vals, tt)) (λ κs. (mut-tells (named 0) (κs .0) Q, tt))
-      (λ κs qs bounds a g are. via 𝓤 _ (fst∗ 𝓤 _ (emp 𝓤)) (walk 𝓤 H A W mem run (κs .0) (qs .0) (a .0 .ptr .0) (a .0 .ptr .1) (a .0 .name) (a .0 .now) 𝓣 (fmOf 𝓤 H (W .laws) 𝓣) known-ended))
+  this-walks : (𝓣 : Tables 𝓤 H) → Triple 𝓤 (𝓣 .C #client·request·end) (On-end 𝓤 H A mem run) → Walks 𝓤 H A this.ended stayed (WpFn 𝓤 H (𝓣 .C) (𝓣 .Λ) code.function) (this.clauses 𝓤 H A mem run)
+  this-walks 𝓣 known-end = walked 𝓤 H A this.ended stayed (this.clauses 𝓤 H A mem run) (WpFn 𝓤 H (𝓣 .C) (𝓣 .Λ) code.function) (λ κs. (ptr-vals, tt)) (λ κs. (mut-tells (named 0) (κs .0) Q, tt))
+      (λ κs qs bounds a g are. via 𝓤 _ (fst∗ 𝓤 _ (emp 𝓤)) (walk 𝓤 H A W mem run (κs .0) (qs .0) (a .0 .ptr .0) (a .0 .ptr .1) (a .0 .name) (a .0 .now) 𝓣 (fmOf 𝓤 H (W .laws) 𝓣) known-end))
 
 this-meets : {M : Type 1} (𝓤 : URA M) (H : Heap 𝓤) (A : Atoms 𝓤) → Given 𝓤 H A → (mem : Memory → SProp 𝓤) (run : Routine → Fun 𝓤) (𝓣 : Tables 𝓤 H)
-    → Triple 𝓤 (𝓣 .C #records·requests·ended) (On-ended 𝓤 H A mem run) → Meets 𝓤 H A this.signature (WpFn 𝓤 H (𝓣 .C) (𝓣 .Λ) code.function) (this.spec 𝓤 H A mem run)
-this-meets 𝓤 H A W mem run 𝓣 known-ended =
+    → Triple 𝓤 (𝓣 .C #client·request·end) (On-end 𝓤 H A mem run) → Meets 𝓤 H A this.signature (WpFn 𝓤 H (𝓣 .C) (𝓣 .Λ) code.function) (this.spec 𝓤 H A mem run)
+this-meets 𝓤 H A W mem run 𝓣 known-end =
     walk-meets 𝓤 H A this.ended stayed W (goes-ref 𝓤 H A W 1 0 tt (plain (λ _. Q)), tt) (this.clauses 𝓤 H A mem run)
-    (WpFn 𝓤 H (𝓣 .C) (𝓣 .Λ) code.function) (WpFn-mono 𝓤 H (W .laws) 𝓣 code.function) (this-walks 𝓤 H A W mem run 𝓣 known-ended)
+    (WpFn 𝓤 H (𝓣 .C) (𝓣 .Λ) code.function) (WpFn-mono 𝓤 H (W .laws) 𝓣 code.function) (this-walks 𝓤 H A W mem run 𝓣 known-end)
 
 pub end-request-spec : {M : Type 1} → stated.statement M
 unfolding code.routine tablesOf
@@ -131,4 +131,4 @@ end-request-spec 𝓤 H 𝓜 𝓖 𝓡 =
     entered 𝓤 H (tripleOf 𝓤 H (𝓖 .A) this.signature (this.spec 𝓤 H (𝓖 .A) (𝓜 .mem) (𝓡 .run)))
     (tables 𝓤 H 𝓜 𝓡 code.env .C) (tables 𝓤 H 𝓜 𝓡 code.env .Λ) #records·requests·end-request code.function (code.unfolded 𝓤 H 𝓜 𝓡)
     (this-meets 𝓤 H (𝓖 .A) (givenOf 𝓤 H 𝓜 𝓖) (𝓜 .mem) (𝓡 .run) (tablesOf 𝓤 H 𝓜 (tables 𝓤 H 𝓜 𝓡 code.env))
-    (cited 𝓤 H (On-ended 𝓤 H (𝓖 .A) (𝓜 .mem) (𝓡 .run)) 𝓜 𝓡 code.env #records·requests·ended ended-def.routine code.calls-records·requests·ended (ended-thm.met 𝓤 H 𝓜 𝓖 𝓡)))
+    (cited 𝓤 H (On-end 𝓤 H (𝓖 .A) (𝓜 .mem) (𝓡 .run)) 𝓜 𝓡 code.env #client·request·end end-def.routine code.calls-client·request·end (end-thm.met 𝓤 H 𝓜 𝓖 𝓡)))
