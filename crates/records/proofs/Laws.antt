@@ -12,6 +12,7 @@ use borrow.Author.Tests.{ltb-true, ltb-false, lt-ltb, le-ltb, eq-eqb, ne-eqb}
 use Rattle.laws.specs.Choice.{true-or-false}
 use Rattle.laws.specs.Loop.{foldFrom}
 use Rattle.protocol.specs.declared.records.Copy.{Copy}
+use Rattle.protocol.specs.declared.records.Request.{Request}
 use Rattle.protocol.specs.declared.setup.Setup.{Setup}
 use Rattle.protocol.specs.declared.step.Sweep.{Sweep}
 use Rattle.protocol.specs.declared.step.Sweep.the-variants.{Keep, Expire, Erase}
@@ -19,6 +20,8 @@ use Rattle.protocol.specs.Setup.{volumeOf}
 use Rattle.protocol.specs.Tables.{noCopy}
 use Rattle.protocol.specs.Client.{swept, sweepAt, sweptAll, sweeps}
 use Rattle.records.specs.Places.{stopOf}
+use Rattle.records.specs.declared.turn.Turn.the-variants.{Keep as KeepIt, Take, End}
+use Rattle.records.specs.Turns.{isOver, turnOf}
 
 -- an element past the end
 pub past-end : (l : List ℕ) (i n : ℕ) → length l ≡ n → n ≤ i → 0 ≡ getD l i 0
@@ -110,3 +113,17 @@ module _ (s : Setup) (g : Sweep) (first : ℕ) where
 
       cut : first < length l → length l - first ≤ n → Same (stopOf first n (length l) - first)
       cut h k = rw (← stop-end first n (length l) h k) (pass-cut l first (length l - first) n k (omega arith))
+
+-- by which turn a request became another one
+module _ (before after : Request) where
+  pub turn-end : (b : Bool) → after .next ≡ before .next → b ≡ isOver after → b ≡ true → End ≡ turnOf before after
+  unfolding turnOf
+  turn-end b e a f = rw (eq-eqb _ _ e, sym a ∙ f)
+
+  pub turn-keep : (b : Bool) → after .next ≡ before .next → b ≡ isOver after → b ≡ false → KeepIt ≡ turnOf before after
+  unfolding turnOf
+  turn-keep b e a f = rw (eq-eqb _ _ e, sym a ∙ f)
+
+  pub turn-take : (after .next ≡ before .next → ⊥) → Take (after .object) ≡ turnOf before after
+  unfolding turnOf
+  turn-take n = rw (ne-eqb _ _ n)

@@ -2,3 +2,4 @@
 pub mod copies;
 pub mod requests;
 pub mod sweep;
+pub mod turn;
