@@ -63,7 +63,7 @@ use Rattle.protocol.proofs.step.Sweep.Laws as G′
 use denote.Struct.Laws as LL
 use denote.Enum.Laws as EL
 use Rattle.records.specs.Places.{stopOf}
-use Rattle.records.proofs.Lent.{lend-mut, back-mut, lend-shr-at, back-shr, Part}
+use Rattle.records.specs.Lent.{lend-mut, back-mut, lend-shr-at, back-shr, Part}
 use Rattle.records.proofs.Laws.{sweep-stops}
 use Rattle.records.proofs.sweep.stop_at as stop-at-c
 use Rattle.records.proofs.sweep.stop_at.Symbol as stop-at-def

@@ -57,7 +57,7 @@ use Rattle.records.proofs.turn.Turn.Laws as Y′
 use denote.Struct.Laws as LL
 use denote.Enum.Laws as EL
 use Rattle.records.specs.Turns.{turned, CanTurn}
-use Rattle.records.proofs.Lent.{lies-in, lies-out}
+use Rattle.records.specs.Lent.{lies-in, lies-out}
 use Rattle.records.proofs.turn.apply as apply-c
 use Rattle.records.proofs.turn.apply.Symbol as apply-def
 use Rattle.records.proofs.turn.apply.Symbol.{name as #records·turn·apply}
