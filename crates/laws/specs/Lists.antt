@@ -4,8 +4,8 @@ use native.Mathlib.Nat.{not-suc-le-zero, le-of-suc-le-suc}
 use native.Mathlib.Numerals.{add-one}
 use native.Mathlib.Omega.{arith}
 use mathlib.Core.List.{List, [], _∷_, _++_}
-use mathlib.Core.Path.{_≡_, refl, sym, ap}
-use lib.ListN.{length, getD, set, take}
+use mathlib.Core.Path.{_≡_, refl, sym, ap, _∙_}
+use lib.ListN.{length, getD, set, take, length-append}
 
 module _ {ℓ} {A : Type ℓ} where
   unfoldable pub removeAt : List A → ℕ → List A
@@ -23,6 +23,13 @@ module _ {ℓ} {A : Type ℓ} where
   -- what one turn of the loop that closes the gap does
   pub remove-step : (d : A) (l : List A) (j : ℕ) → j + 1 < length l → removeAt (set l j (getD l (j + 1) d)) (j + 1) ≡ removeAt l j
   remove-step d l j h = rw add-one (step d l j (omega arith))
+
+  -- a removal that fills up at the end keeps the length
+  pub length-remove : (b : A) (l : List A) (i : ℕ) → i < length l → length (removeAt l i ++ (b ∷ [])) ≡ length l
+  unfolding removeAt
+  length-remove b [] i h = absurd (omega arith)
+  length-remove b (x ∷ l) zero h = length-append l (b ∷ []) ∙ omega arith
+  length-remove b (x ∷ l) (suc i) h = ap suc (length-remove b l i (le-of-suc-le-suc h))
 
   -- the last place is written
   pub set-last : (b : A) (l : List A) (n : ℕ) → length l ≡ suc n → set l n b ≡ removeAt l n ++ (b ∷ [])

@@ -12,4 +12,7 @@ pub mod Decide
 pub mod World
 pub mod Ledger
 pub mod Agreement
+pub mod Soundness
+pub mod Bookkeeping
+pub mod History
 pub mod Edges

@@ -1,0 +1,259 @@
+-- Every accepted step keeps the ledger and the tables together.
+use Prim.Native.Nat.{ℕ, zero, suc, _+_, _<_, _≤_}
+use native.Mathlib.Omega.{arith}
+use mathlib.Core.Bool.{Bool, true, false, cond, _&&_}
+use mathlib.Core.List.{List, [], _∷_, _++_, map}
+use mathlib.Core.Path.{_≡_, refl, sym, ap, _∙_}
+use lib.Dec.{ltb, leb, eqb, eqb·suc-zero}
+use lib.ListN.{length}
+use borrow.Author.Tests.{eqb-true, ltb-true}
+use Rattle.laws.specs.Choice.{cond-keeps, and-true, not-both}
+use Rattle.laws.specs.Loop.{listFrom}
+use Rattle.protocol.specs.declared.message.Kind.{Kind}
+use Rattle.protocol.specs.declared.message.Kind.the-variants.{Renew, Grant, Invalidate, Ack, Offer, Dropped}
+use Rattle.protocol.specs.declared.message.Message.{Message}
+use Rattle.protocol.specs.declared.message.Payload.{Payload}
+use Rattle.protocol.specs.declared.records.Copy.{Copy}
+use Rattle.protocol.specs.declared.records.Request.{Request}
+use Rattle.protocol.specs.declared.setup.Setup.{Setup}
+use Rattle.protocol.specs.declared.step.Answer.{Answer}
+use Rattle.protocol.specs.declared.step.Answer.the-variants.{Done, Shown, AskFirst, Delivered}
+use Rattle.protocol.specs.declared.step.Counted.{Counted}
+use Rattle.protocol.specs.declared.step.Decision.{Decision}
+use Rattle.protocol.specs.declared.step.Received.{Received}
+use Rattle.protocol.specs.declared.step.Step.{Step}
+use Rattle.protocol.specs.declared.tables.Tables.{Tables}
+use Rattle.protocol.specs.Setup.{volumeOf}
+use Rattle.protocol.specs.Messages.{messageAt}
+use Rattle.protocol.specs.Tables.{seenAt, standingAt}
+use Rattle.protocol.specs.Writes.{Staged, unstaged, latestEnd, begun, ready, settled, settling, written, writeStaged, clockStaged}
+use Rattle.protocol.specs.Server.{noted, offered, volumeRenewed, objectRenewed, granted, lowestWaited, mustDrop, renewedBy, renewed, ackTaken, acked, ackStaged, dropTaken, dropped, ofVolume, dropStaged, readyIn, serverRestarted}
+use Rattle.protocol.specs.Client.{showable, stands, grantTaken}
+use Rattle.protocol.specs.Sound.{kindSound}
+use Rattle.protocol.specs.Answers.{doneOrCompleted, answerNumber, answerValue, reported, completedAnswer}
+use Rattle.protocol.specs.Decide.{uncounted, kept, answered, counting, received, grantReceived, invalidateReceived, offerReceived, taken, performed, readDecided, askDecided, deliverDecided, restartDecided}
+use Rattle.protocol.specs.Ledger.{Event, accepted, completed as done, cutOff, shown, clocked, completing, receiptStaged, deliveryStaged, readEvents, happening, Ledger, book, bookAll}
+use Rattle.protocol.specs.Soundness.Steps.{Ranges, Accepted, by-kind, object-exists, place-exists, queue-fits, none-stands, clock-performed, read-performed, ask-performed, write-performed, deliver-performed, lose-performed, double-performed, server-performed, client-performed}
+use Rattle.protocol.specs.Soundness.Shape.{Shape, clock-shape, begun-shape, written-shape, taken-shape, acked-shape, dropped-shape}
+use Rattle.protocol.specs.Soundness.Bounds.{Bounded, named-at}
+use Rattle.protocol.specs.Bookkeeping.Booked.{Booked, SameWrites, same-booked, begun-booked, cut-completes, restarted-booked}
+use Rattle.protocol.specs.Bookkeeping.Settled.{OpenEach, Settlement, StagedOn, settlingOf, settle, done-completes, ready-stands, due-stands}
+
+-- ---- what an answer reports
+pub reported-completed : (n : ℕ) → reported (completedAnswer n) ≡ n
+reported-completed zero = refl
+reported-completed (suc n) = rw (eqb·suc-zero n, eqb·suc-zero n)
+
+pub reported-delivered : (m : Message) (n : ℕ) → reported (Delivered m n) ≡ n
+reported-delivered m zero = refl
+reported-delivered m (suc n) = rw (eqb·suc-zero n)
+
+pub book-append : (l : Ledger) (es fs : List Event) → bookAll l (es ++ fs) ≡ bookAll (bookAll l es) fs
+unfolding bookAll
+book-append l [] fs = refl
+book-append l (e ∷ es) fs = book-append (book l e) es fs
+
+-- a decision, and what the ledger l becomes with it
+pub record Recorded (s : Setup) (l : Ledger) (g : Decision) (m : Ledger) : Type 0 where
+  pub booked : Booked s (g .outcome .tables) m
+  pub reports : m .completes ≡ l .completes + reported (g .outcome .answer)
+
+-- ---- what leaves every write alone
+pub objects-same : (t u : Tables) → u .objects ≡ t .objects → SameWrites t u
+objects-same t u e = record { value = rw e; standing = rw e; pending = rw e; end = rw e }
+
+renewed-same : (s : Setup) (t : Tables) (d o n e w : ℕ) → SameWrites t (renewed s t d o n e w)
+unfolding renewed renewedBy granted noted offered volumeRenewed objectRenewed
+renewed-same s t d o n e w =
+    let v = volumeOf s o in
+    let u = noted t d n in
+    cond-keeps (SameWrites t) (leb n (seenAt t d)) (λ _. objects-same t _ refl) (λ _.
+    cond-keeps (SameWrites t) (mustDrop u d v e) (λ _. objects-same t _ refl) (λ _.
+    cond-keeps (SameWrites t) (ltb (lowestWaited s u d v) (s .objects)) (λ _. objects-same t _ refl) (λ _.
+    cond-keeps (SameWrites t) (standingAt u o) (λ _. objects-same t _ refl)
+    (λ _. record { value = refl; standing = refl; pending = refl; end = refl }))))
+
+-- ---- what is staged
+unstaged-on : (s : Setup) (t : Tables) → Shape t → StagedOn s t (unstaged t)
+unstaged-on s t k = record { same = objects-same t t refl; shape = k; stands = λ u o e. not-both e refl; fits = omega arith }
+
+pub clock-on : (s : Setup) (t : Tables) (x : ℕ) → Shape t → StagedOn s t (clockStaged s t x)
+clock-on s t x k = record { same = objects-same t _ refl; shape = clock-shape t x k; stands = due-stands s; fits = omega arith }
+
+pub write-on : (s : Setup) (t : Tables) (o x : ℕ) → o < s .objects → Shape t → StagedOn s (begun s t o x) (writeStaged s t o x)
+unfolding written
+write-on s t o x p k = record { same = objects-same _ _ refl; shape = written-shape s t o x k; stands = ready-stands s; fits = omega arith }
+
+acked-same : (t : Tables) (d o : ℕ) → SameWrites t (acked t d o)
+unfolding acked
+acked-same t d o = objects-same t _ refl
+
+ack-on : (s : Setup) (t : Tables) (d o e w : ℕ) → o < s .objects → Shape t → StagedOn s t (ackStaged s t d o e w)
+unfolding ackStaged
+ack-on s t d o e w p k =
+    cond-keeps (StagedOn s t) (ackTaken s t o e w)
+    (λ _. record { same = acked-same t d o; shape = acked-shape t d o k; stands = ready-stands s; fits = omega arith }) (λ _. unstaged-on s t k)
+
+dropped-same : (s : Setup) (t : Tables) (d v : ℕ) → SameWrites t (dropped s t d v)
+unfolding dropped
+dropped-same s t d v = objects-same t _ refl
+
+drop-on : (s : Setup) (t : Tables) (d v n e : ℕ) → Shape t → StagedOn s t (dropStaged s t d v n e)
+unfolding dropStaged
+drop-on s t d v n e k =
+    cond-keeps (StagedOn s t) (dropTaken t d v n e)
+    (λ _. record {
+      same = dropped-same s t d v;
+      shape = dropped-shape s t d v k;
+      stands = λ u o f. ready-stands s u o (and-true (ofVolume s v o) (ready s u o) f .1);
+      fits = omega arith;
+    })
+    (λ _. unstaged-on s t k)
+
+-- ---- a message received
+uncounted-settles : (s : Setup) (t u : Tables) (l : Ledger) → SameWrites t u → Booked s t l → Settlement s l 0 (uncounted u) []
+unfolding bookAll OpenEach
+uncounted-settles s t u l e h = record { booked = same-booked s t u l e h; counts = omega arith; opens = tt }
+
+module _ (s : Setup) (rs : Ranges s) (t : Tables) (k : Shape t) (c : Copy) (r : Request) (d : ℕ) (l : Ledger) (h : Booked s t l) where
+  grant-settles : (o n x e w y : ℕ) (v : Payload) → Settlement s l 0 (grantReceived s t c r d o n x e w y v .counted) []
+  unfolding grantReceived
+  grant-settles o n x e w y v =
+      cond-keeps (λ (g : Received). Settlement s l 0 (g .counted) []) (grantTaken c r n w v)
+      (λ _. uncounted-settles s t _ l (objects-same t _ refl) h) (λ _. uncounted-settles s t _ l (objects-same t _ refl) h)
+
+  invalidate-settles : (o e w : ℕ) → Settlement s l 0 (invalidateReceived t r d o e w .counted) []
+  unfolding invalidateReceived
+  invalidate-settles o e w = uncounted-settles s t _ l (objects-same t _ refl) h
+
+  offer-settles : (v n e : ℕ) → Settlement s l 0 (offerReceived t c r d v n e .counted) []
+  unfolding offerReceived
+  offer-settles v n e =
+      cond-keeps (λ (g : Received). Settlement s l 0 (g .counted) []) (stands r n)
+      (λ _. uncounted-settles s t _ l (objects-same t _ refl) h) (λ _. uncounted-settles s t _ l (objects-same t _ refl) h)
+
+  pub received-settles : (q : Kind) → kindSound s q ≡ true → Settlement s l 0 (received s t c r d q .counted) (settlingOf s (receiptStaged s t d q))
+  unfolding received settling
+  received-settles (Renew o n e w) f = uncounted-settles s t _ l (renewed-same s t d o n e w) h
+  received-settles (Grant o n x e w y v) f = grant-settles o n x e w y v
+  received-settles (Invalidate o e w) f = invalidate-settles o e w
+  received-settles (Ack o e w) f = settle s rs t _ l (ack-on s t d o e w (ltb-true _ _ f) k) h
+  received-settles (Offer v n e) f = offer-settles v n e
+  received-settles (Dropped v n e) f = settle s rs t _ l (drop-on s t d v n e k) h
+
+-- ---- the events of an accepted step, by its kind
+module _ (s : Setup) (t : Tables) (c : Copy) (x : Step) where
+  pub clock-happening : x .kind ≡ 1 → happening s t c x ≡ completing s (clockStaged s t (x .clock)) ++ (clocked (x .clock) ∷ [])
+  unfolding happening
+  clock-happening e = rw e
+
+  pub read-happening : x .kind ≡ 2 → happening s t c x ≡ readEvents s t c (x .client) (x .object)
+  unfolding happening
+  read-happening e = rw e
+
+  pub ask-happening : x .kind ≡ 3 → happening s t c x ≡ []
+  unfolding happening
+  ask-happening e = rw e
+
+  pub write-happening : x .kind ≡ 4
+      → happening s t c x ≡ accepted (x .object) (x .value) (latestEnd s t (x .object)) ∷ completing s (writeStaged s t (x .object) (x .value))
+  unfolding happening
+  write-happening e = rw e
+
+  pub deliver-happening : x .kind ≡ 5 → happening s t c x ≡ completing s (deliveryStaged s t (x .place))
+  unfolding happening
+  deliver-happening e = rw e
+
+  pub lose-happening : x .kind ≡ 6 → happening s t c x ≡ []
+  unfolding happening
+  lose-happening e = rw e
+
+  pub double-happening : x .kind ≡ 7 → happening s t c x ≡ []
+  unfolding happening
+  double-happening e = rw e
+
+  pub server-happening : x .kind ≡ 8 → happening s t c x ≡ map cutOff (listFrom (standingAt t) 0 (s .objects))
+  unfolding happening
+  server-happening e = rw e
+
+  pub client-happening : x .kind ≡ 9 → happening s t c x ≡ []
+  unfolding happening
+  client-happening e = rw e
+
+accepted-completes : (l : Ledger) (o x e : ℕ) → book l (accepted o x e) .completes ≡ l .completes
+unfolding book
+accepted-completes l o x e = refl
+
+-- ---- an accepted step
+module _ (s : Setup) (rs : Ranges s) (t : Tables) (k : Shape t) (b : Bounded s t) (c : Copy) (r : Request) (l : Ledger) (h : Booked s t l) where
+  clock-recorded : (x : ℕ) → Recorded s l (counting c r (settled s (clockStaged s t x))) (bookAll l (completing s (clockStaged s t x) ++ (clocked x ∷ [])))
+  unfolding bookAll book
+  clock-recorded x =
+      let g = clockStaged s t x in
+      let q = settle s rs t g l (clock-on s t x k) h in
+      rw (book-append l (completing s g) (clocked x ∷ []))
+      (record { booked = q .booked; reports = done-completes l (settlingOf s g) ∙ omega (arith, q .counts, reported-completed (settled s g .count)) })
+
+  write-recorded : (o x : ℕ) → o < s .objects → standingAt t o ≡ false
+      → Recorded s l (counting c r (settled s (writeStaged s t o x))) (bookAll l (accepted o x (latestEnd s t o) ∷ completing s (writeStaged s t o x)))
+  unfolding bookAll
+  write-recorded o x p v =
+      let g = writeStaged s t o x in
+      let m = book l (accepted o x (latestEnd s t o)) in
+      let q = settle s rs (begun s t o x) g m (write-on s t o x p k) (begun-booked s rs t k l h o x p v) in
+      record {
+        booked = q .booked;
+        reports = done-completes m (settlingOf s g) ∙ omega (arith, q .counts, reported-completed (settled s g .count), accepted-completes l o x (latestEnd s t o));
+      }
+
+  deliver-recorded : (i : ℕ) → i < 64 → Recorded s l (deliverDecided s t c r i) (bookAll l (completing s (deliveryStaged s t i)))
+  unfolding deliverDecided
+  deliver-recorded i p =
+      let m = messageAt (t .queue) i in
+      let a = and-true (ltb (m .client) (s .clients)) (kindSound s (m .kind)) (named-at s rs t i b) in
+      let q =
+      received-settles s rs (taken t i) (taken-shape t i p k) c r (m .client) l (same-booked s t (taken t i) l (objects-same t _ refl) h) (m .kind) (a .1) in
+      record {
+        booked = q .booked;
+        reports =
+            done-completes l (settlingOf s (deliveryStaged s t i))
+            ∙ omega (arith, q .counts, reported-delivered m (received s (taken t i) c r (m .client) (m .kind) .counted .count));
+      }
+
+  -- a step that leaves every write alone and reports none
+  quiet : (g : Decision) → SameWrites t (g .outcome .tables) → reported (g .outcome .answer) ≡ 0 → Recorded s l g l
+  quiet g e f = record { booked = same-booked s t _ l e h; reports = omega (arith, f) }
+
+  read-recorded : (d o : ℕ) → Recorded s l (readDecided s t c r d o) (bookAll l (readEvents s t c d o))
+  unfolding readDecided bookAll book
+  read-recorded d o = go (showable s t c d o)
+    where
+      go : (f : Bool)
+          → Recorded s l (cond f (answered (kept c r) t (Shown (c .value))) (answered (kept c r) t AskFirst)) (bookAll l (cond f (shown d o (c .value) ∷ []) []))
+      go true = quiet _ (objects-same t _ refl) refl
+      go false = quiet _ (objects-same t _ refl) refl
+
+  ask-recorded : (d o : ℕ) → Recorded s l (askDecided s t c r d o) l
+  unfolding askDecided
+  ask-recorded d o = quiet _ (objects-same t _ refl) refl
+
+  restart-recorded : (d : ℕ) → Recorded s l (restartDecided s t c r d) l
+  unfolding restartDecided
+  restart-recorded d = quiet _ (objects-same t _ refl) refl
+
+  server-recorded : Recorded s l (answered (kept c r) (serverRestarted s t) Done) (bookAll l (map cutOff (listFrom (standingAt t) 0 (s .objects))))
+  server-recorded = record { booked = restarted-booked s t l h; reports = cut-completes l (listFrom (standingAt t) 0 (s .objects)) ∙ omega arith }
+
+  pub performed-recorded : (f : Bool) (x : Step) → Accepted s t f r x → Recorded s l (performed s t c r x) (bookAll l (happening s t c x))
+  unfolding bookAll
+  performed-recorded f x a =
+      by-kind (Recorded s l (performed s t c r x) (bookAll l (happening s t c x))) x (a .knows)
+      (λ e. rw (clock-performed s t c r x e, clock-happening s t c x e) (clock-recorded (x .clock)))
+      (λ e. rw (read-performed s t c r x e, read-happening s t c x e) (read-recorded (x .client) (x .object)))
+      (λ e. rw (ask-performed s t c r x e, ask-happening s t c x e) (ask-recorded (x .client) (x .object)))
+      (λ e. rw (write-performed s t c r x e, write-happening s t c x e) (write-recorded (x .object) (x .value) (object-exists a (rw e)) (none-stands a e)))
+      (λ e. rw (deliver-performed s t c r x e, deliver-happening s t c x e) (deliver-recorded (x .place) (omega (arith, place-exists a (rw e), queue-fits a))))
+      (λ e. rw (lose-performed s t c r x e, lose-happening s t c x e) (quiet _ (objects-same t _ refl) refl))
+      (λ e. rw (double-performed s t c r x e, double-happening s t c x e) (quiet _ (objects-same t _ refl) refl))
+      (λ e. rw (server-performed s t c r x e, server-happening s t c x e) server-recorded)
+      (λ e. rw (client-performed s t c r x e, client-happening s t c x e) (restart-recorded (x .client)))
