@@ -12,7 +12,7 @@ use protocol::setup::Setup;
 use protocol::step::Sweep;
 
 // "A lease is alive when its expiry is greater than the clock.": by the client's clock.
-pub fn alive(clock: u32, expiry: u32) -> bool
+fn alive(clock: u32, expiry: u32) -> bool
     ensures { λ r. ⌜ r ≡ clientAlive clock expiry ⌝ }
 {
     clock < expiry
@@ -28,7 +28,7 @@ pub fn showable(clock: u32, lease: u32, c: Copy) -> bool
 }
 
 // Whether what a GRANT says of the value can be stored: "Without a value and with another version held: nothing."
-pub fn storable(c: Copy, version: u32, payload: Payload) -> bool
+fn storable(c: Copy, version: u32, payload: Payload) -> bool
     ensures { λ r. ⌜ r ≡ storable c version payload ⌝ }
 {
     match payload {

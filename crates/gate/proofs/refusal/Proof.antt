@@ -1,6 +1,6 @@
 use borrow.Author.Needs.{needs}
 use Rattle.gate.proofs.Laws.{refusal-ranged, refusal-unranged}
-use Rattle.gate.specs.Range.{ranged}
+use Rattle.protocol.specs.SoundLaws.{ranged}
 use mathlib.Core.Path.{sym, _∙_}
 use Rattle.gate.proofs.refusal.Statement.{statement}
 use Rattle.gate.proofs.refusal.Tie as tie
