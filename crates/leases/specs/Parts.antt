@@ -1,10 +1,10 @@
 -- The rules of writes, over the single tables that a function is lent.
-use Prim.Native.Nat.{ℕ, _+_, _-_, min, max, _<_, _≤_}
+use Prim.Native.Nat.{ℕ, _+_, min, max, _<_, _≤_}
 use mathlib.Core.Bool.{Bool, true, false, cond, not, _&&_, _||_}
 use mathlib.Core.List.{List}
 use mathlib.Core.Path.{_≡_}
 use lib.ListN.{getD, set}
-use Rattle.laws.specs.Loop.{foldFrom, firstFrom}
+use Rattle.laws.specs.Loop.{foldFrom}
 use Rattle.laws.specs.Store.{storeEach, always}
 use Rattle.protocol.specs.declared.message.Queue.{Queue}
 use Rattle.protocol.specs.declared.message.Kind.the-variants.{Invalidate}
@@ -38,12 +38,6 @@ latestBy clock m volume object guard = max (max (clock + m) (min volume object))
 -- whether client d is waited for on object o
 abbrev pub waitingFor : List Bool → ℕ → ℕ → Bool
 waitingFor waiting o d = getD waiting (byObject d o) false
-
--- r is the first number from `from` on, and below n, that passes; n where there is none
-pub record Found (p : ℕ → Bool) (from n r : ℕ) : Type 0 where
-  pub is : r ≡ firstFrom p from (n - from)
-  pub low : from ≤ r
-  pub high : r ≤ n
 
 -- one client marked unreachable, if it is still waited for
 abbrev pub markOne : List Bool → ℕ → ℕ → List Bool → ℕ → List Bool
