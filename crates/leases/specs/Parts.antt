@@ -1,7 +1,7 @@
 -- The rules of writes, over the single tables that a function is lent.
 use Prim.Native.Nat.{ℕ, _+_, min, max, _<_, _≤_}
 use mathlib.Core.Bool.{Bool, true, false, cond, not, _&&_, _||_}
-use mathlib.Core.List.{List}
+use mathlib.Core.List.{List, []}
 use mathlib.Core.Path.{_≡_}
 use lib.ListN.{getD, set}
 use Rattle.laws.specs.Loop.{foldFrom}
@@ -9,9 +9,10 @@ use Rattle.laws.specs.Store.{storeEach, always}
 use Rattle.protocol.specs.declared.message.Queue.{Queue}
 use Rattle.protocol.specs.declared.message.Kind.the-variants.{Invalidate}
 use Rattle.protocol.specs.declared.setup.Setup.{Setup}
+use Rattle.protocol.specs.declared.tables.Tables.{Tables}
 use Rattle.protocol.specs.Setup.{volumeOf}
-use Rattle.protocol.specs.Messages.{message, pushed}
-use Rattle.protocol.specs.Tables.{byVolume, byObject}
+use Rattle.protocol.specs.Messages.{message, pushed, emptyQueue}
+use Rattle.protocol.specs.Tables.{byVolume, byObject, freshSessions, freshViews}
 use Rattle.protocol.specs.Leases.{serverAlive}
 
 -- what an object's volume is known to be, and the bounds that come with it
@@ -52,3 +53,15 @@ notifyOne waiting o e w q d = cond (waitingFor waiting o d) (pushed q (message d
 
 abbrev pub notifiedBy : List Bool → ℕ → ℕ → ℕ → Queue → ℕ → Queue
 notifiedBy waiting o e w q n = foldFrom (notifyOne waiting o e w) q 0 n
+
+-- tables that hold what the tests of a standing write read
+abbrev pub scene : ℕ → List ℕ → List Bool → List ℕ → List Bool → Tables
+scene clock guard standing end waiting = record {
+  clock = clock;
+  volumes = record { epoch = []; expiry = []; guard = guard };
+  sessions = freshSessions;
+  objects = record { value = []; version = []; expiry = []; standing = standing; pending = []; end = end };
+  holders = record { lease = []; waiting = waiting };
+  views = freshViews;
+  queue = emptyQueue;
+}

@@ -20,10 +20,10 @@ use Rattle.protocol.specs.Leases.{serverAlive, guardPassed, endOver}
 use Rattle.protocol.specs.Writes.{ready, due, waited, completed, completeIf, settled, opened, begun, notified, written, writeStaged}
 use Rattle.protocol.specs.Server.{ofVolume, readyIn}
 use Rattle.protocol.specs.SoundLaws.{Growing, completed-keeps}
-use Rattle.leases.specs.Parts.{Placed, waitingFor, notifiedBy}
+use Rattle.leases.specs.Parts.{Placed, waitingFor, notifiedBy, scene}
 use Rattle.writes.specs.declared.pass.Pass.{Pass}
 use Rattle.writes.specs.declared.pass.Pass.the-variants.{Clock, Volume}
-use Rattle.writes.specs.Passes.{scene, sceneOf, passes, passStaged, oneStaged}
+use Rattle.writes.specs.Passes.{sceneOf, passes, passStaged, oneStaged}
 
 -- ---- when a write is ready, and when it is due
 

@@ -1,30 +1,16 @@
 -- The passes in object order that complete writes, by the test that they go by.
 use Prim.Native.Nat.{ℕ}
 use mathlib.Core.Bool.{Bool}
-use mathlib.Core.List.{List, []}
 use Rattle.protocol.specs.declared.setup.Setup.{Setup}
 use Rattle.protocol.specs.declared.step.Counted.{Counted}
 use Rattle.protocol.specs.declared.tables.Tables.{Tables}
-use Rattle.protocol.specs.Messages.{emptyQueue}
-use Rattle.protocol.specs.Tables.{freshSessions, freshViews}
+use Rattle.leases.specs.Parts.{scene}
 use Rattle.protocol.specs.Writes.{Staged, due, ready}
 use Rattle.protocol.specs.Server.{readyIn}
 use Rattle.writes.specs.declared.pass.Pass.{Pass}
 use Rattle.writes.specs.declared.pass.Pass.the-variants.{Clock, Volume}
 
--- tables that hold what the tests of a standing write read
-abbrev pub scene : ℕ → List ℕ → List Bool → List ℕ → List Bool → Tables
-scene clock guard standing end waiting = record {
-  clock = clock;
-  volumes = record { epoch = []; expiry = []; guard = guard };
-  sessions = freshSessions;
-  objects = record { value = []; version = []; expiry = []; standing = standing; pending = []; end = end };
-  holders = record { lease = []; waiting = waiting };
-  views = freshViews;
-  queue = emptyQueue;
-}
-
--- the same of whole tables
+-- what the tests of a standing write read of the tables
 abbrev pub sceneOf : Tables → Tables
 sceneOf t = scene (t .clock) (t .volumes .guard) (t .objects .standing) (t .objects .end) (t .holders .waiting)
 

@@ -1,11 +1,11 @@
-// When a standing write completes. The tables that the tests read are lent; `scene` of specs/ is tables that hold them.
+// When a standing write completes. The tables that the tests read are lent; `scene` is tables that hold them.
 ghost use mathlib.Core.Path.{_≡_};
 ghost use mathlib.Core.Bool.{Bool, true};
 ghost use mathlib.Core.List.{[]};
 ghost use Prim.Native.Nat.{ℕ, _<_};
 ghost use Rattle.protocol.specs.Setup.{inRange};
 ghost use Rattle.protocol.specs.Writes.{ready, due};
-ghost use Rattle.writes.specs.Passes.{scene};
+ghost use Rattle.leases.specs.Parts.{scene};
 use leases::place;
 use leases::time;
 use leases::waiting;

@@ -2,7 +2,8 @@ use mathlib.Core.Path.{_≡_, refl}
 use Prim.Native.Nat.{_≤_, _-_}
 use Rattle.laws.specs.Loop.{firstFrom, first-again}
 use Rattle.laws.specs.Skip.{found-stop, found-end}
-use Rattle.writes.specs.Passes.{scene, passes}
+use Rattle.leases.specs.Parts.{scene}
+use Rattle.writes.specs.Passes.{passes}
 use borrow.Author.Needs.{needs}
 use Rattle.writes.proofs.pass.next_passing.Statement.{statement}
 use Rattle.writes.proofs.pass.next_passing.Tie as tie
