@@ -1,4 +1,4 @@
--- What each way through a function, and each turn of a pass, comes to.
+-- What each way through a function, and each turn of a loop, comes to.
 use Prim.Native.Nat.{ℕ, zero, suc, _+_, _-_, _<_, _≤_}
 use native.Mathlib.Omega.{arith}
 use mathlib.Core.Bool.{Bool, true, false, cond, not, _&&_, _||_}
@@ -21,9 +21,9 @@ use Rattle.protocol.specs.Writes.{ready, due, waited, completed, completeIf, se
 use Rattle.protocol.specs.Server.{ofVolume, readyIn}
 use Rattle.protocol.specs.SoundLaws.{Growing, completed-keeps}
 use Rattle.leases.specs.Parts.{Placed, waitingFor, notifiedBy, scene}
-use Rattle.writes.specs.declared.pass.Pass.{Pass}
-use Rattle.writes.specs.declared.pass.Pass.the-variants.{Clock, Volume}
-use Rattle.writes.specs.Passes.{sceneOf, passes, passStaged, oneStaged}
+use Rattle.writes.specs.declared.settle.Trigger.{Trigger}
+use Rattle.writes.specs.declared.settle.Trigger.the-variants.{Clock, Volume}
+use Rattle.writes.specs.Triggers.{sceneOf, triggered, triggerStaged, oneStaged}
 
 -- ---- when a write is ready, and when it is due
 
@@ -38,10 +38,10 @@ or-out true false x e = refl
 or-out false b x e = refl
 
 module _ (s : Setup) (t : Tables) (o : ℕ) where
-  pub ready-yes : (v : ℕ) (any passed : Bool) → Placed s o v → standingAt t o ≡ true → any ≡ anyFrom (waitingFor (t .holders .waiting) o) 0 (s .clients)
-      → passed ≡ not (serverAlive (t .clock) (guardAt t v)) → (not any && passed) ≡ ready s t o
+  pub ready-yes : (v : ℕ) (any late : Bool) → Placed s o v → standingAt t o ≡ true → any ≡ anyFrom (waitingFor (t .holders .waiting) o) 0 (s .clients)
+      → late ≡ not (serverAlive (t .clock) (guardAt t v)) → (not any && late) ≡ ready s t o
   unfolding ready waited guardPassed
-  ready-yes v any passed p h a b = rw (h, a, b, p .is)
+  ready-yes v any late p h a b = rw (h, a, b, p .is)
 
   pub ready-no : standingAt t o ≡ false → false ≡ ready s t o
   unfolding ready
@@ -72,63 +72,63 @@ module _ (s : Setup) (t : Tables) (o : ℕ) (r : Bool) (e : r ≡ ready s (scene
   unfolding settled foldFrom
   one-no h = rw (sym same-ready ∙ h)
 
--- ---- the test of a pass
+-- ---- whether a trigger completes a write
 
-module _ (s : Setup) (p : Pass) (clock : ℕ) (guard : List ℕ) (standing : List Bool) (end : List ℕ) (waiting : List Bool) (o : ℕ) where
-  pub by-clock : (r : Bool) → p ≡ Clock → r ≡ due s (scene clock guard standing end waiting) o → r ≡ passes s p (scene clock guard standing end waiting) o
-  unfolding passes
+module _ (s : Setup) (p : Trigger) (clock : ℕ) (guard : List ℕ) (standing : List Bool) (end : List ℕ) (waiting : List Bool) (o : ℕ) where
+  pub by-clock : (r : Bool) → p ≡ Clock → r ≡ due s (scene clock guard standing end waiting) o → r ≡ triggered s p (scene clock guard standing end waiting) o
+  unfolding triggered
   by-clock r q e = rw q e
 
   pub by-volume : (r : Bool) (v w : ℕ) → p ≡ Volume v → Placed s o w → w ≡ v → r ≡ ready s (scene clock guard standing [] waiting) o
-      → r ≡ passes s p (scene clock guard standing end waiting) o
-  unfolding passes ready waited guardPassed
+      → r ≡ triggered s p (scene clock guard standing end waiting) o
+  unfolding triggered ready waited guardPassed
   by-volume r v w q a b e = rw (q, eq-eqb (volumeOf s o) v (sym (a .is) ∙ b)) e
 
-  pub by-other : (v w : ℕ) → p ≡ Volume v → Placed s o w → (w ≡ v → ⊥) → false ≡ passes s p (scene clock guard standing end waiting) o
-  unfolding passes
+  pub by-other : (v w : ℕ) → p ≡ Volume v → Placed s o w → (w ≡ v → ⊥) → false ≡ triggered s p (scene clock guard standing end waiting) o
+  unfolding triggered
   by-other v w q a b = rw (q, ne-eqb (volumeOf s o) v (λ e. b (a .is ∙ e)))
 
--- ---- a pass
+-- ---- writes completed in object order
 
 module _ (s : Setup) where
-  same-passes : (p : Pass) (u : Tables) → passes s p (sceneOf u) ≡ passes s p u
-  unfolding passes due ready waited guardPassed
-  same-passes Clock u = refl
-  same-passes (Volume v) u = refl
+  same-triggered : (p : Trigger) (u : Tables) → triggered s p (sceneOf u) ≡ triggered s p u
+  unfolding triggered due ready waited guardPassed
+  same-triggered Clock u = refl
+  same-triggered (Volume v) u = refl
 
-  stands : (p : Pass) (u : Tables) (o : ℕ) → passes s p u o ≡ true → standingAt u o ≡ true
-  unfolding passes due ready
+  stands : (p : Trigger) (u : Tables) (o : ℕ) → triggered s p u o ≡ true → standingAt u o ≡ true
+  unfolding triggered due ready
   stands Clock u o e = and-true (standingAt u o) _ e .0
   stands (Volume v) u o e = and-true (standingAt u o) _ (and-true (ofVolume s v o) _ e .1) .0
 
-  idle : (p : Pass) (c : Counted) (j : ℕ) → passes s p (c .tables) j ≡ false → completeIf (passes s p) s c j ≡ c
+  idle : (p : Trigger) (c : Counted) (j : ℕ) → triggered s p (c .tables) j ≡ false → completeIf (triggered s p) s c j ≡ c
   idle p c j h = rw h
 
-  module _ (p : Pass) (from o : ℕ) (u : Tables) (l : from ≤ s .objects) (f : Found (passes s p (sceneOf u)) from (s .objects) o) where
-    found : o ≡ firstFrom (passes s p u) from (s .objects - from)
-    found = rw same-passes at (f .is)
+  module _ (p : Trigger) (from o : ℕ) (u : Tables) (l : from ≤ s .objects) (f : Found (triggered s p (sceneOf u)) from (s .objects) o) where
+    found : o ≡ firstFrom (triggered s p u) from (s .objects - from)
+    found = rw same-triggered at (f .is)
 
-    pass-hits : o < s .objects → passes s p u o ≡ true
-    pass-hits h = first-is (passes s p u) (s .objects) from o l found h
+    hits : o < s .objects → triggered s p u o ≡ true
+    hits h = first-is (triggered s p u) (s .objects) from o l found h
 
-    pub pass-version : Growing s (u .objects) → o < s .objects → versionAt u o < 4294967295
-    pass-version g h = g .below o h (stands p u o (pass-hits h))
+    pub settle-version : Growing s (u .objects) → o < s .objects → versionAt u o < 4294967295
+    settle-version g h = g .below o h (stands p u o (hits h))
 
-    module _ (n : ℕ) (A : Counted) (i : foldFrom (completeIf (passes s p) s) (record { count = n; tables = u }) from (s .objects - from) ≡ A) where
-      skipped : foldFrom (completeIf (passes s p) s) (record { count = n; tables = u }) o (s .objects - o) ≡ A
-      skipped = fold-skip (completeIf (passes s p) s) (λ (c : Counted). passes s p (c .tables)) (idle p) (s .objects) from o (record { count = n; tables = u }) A l found i
+    module _ (n : ℕ) (A : Counted) (i : foldFrom (completeIf (triggered s p) s) (record { count = n; tables = u }) from (s .objects - from) ≡ A) where
+      skipped : foldFrom (completeIf (triggered s p) s) (record { count = n; tables = u }) o (s .objects - o) ≡ A
+      skipped = fold-skip (completeIf (triggered s p) s) (λ (c : Counted). triggered s p (c .tables)) (idle p) (s .objects) from o (record { count = n; tables = u }) A l found i
 
-      pub pass-end : s .objects ≤ o → record { count = n; tables = u } ≡ A
-      pass-end h = fold-end (completeIf (passes s p) s) (s .objects) o (record { count = n; tables = u }) A h skipped
+      pub settle-end : s .objects ≤ o → record { count = n; tables = u } ≡ A
+      settle-end h = fold-end (completeIf (triggered s p) s) (s .objects) o (record { count = n; tables = u }) A h skipped
 
-      pub pass-again : (w : Tables) → o < s .objects → w ≡ completed s u o
-          → foldFrom (completeIf (passes s p) s) (record { count = n + 1; tables = w }) (o + 1) (s .objects - (o + 1)) ≡ A
-      pass-again w h e =
-          fold-again (completeIf (passes s p) s) (s .objects) o (record { count = n; tables = u }) (record { count = n + 1; tables = w }) A h
-          (rw (pass-hits h, e)) skipped
+      pub settle-again : (w : Tables) → o < s .objects → w ≡ completed s u o
+          → foldFrom (completeIf (triggered s p) s) (record { count = n + 1; tables = w }) (o + 1) (s .objects - (o + 1)) ≡ A
+      settle-again w h e =
+          fold-again (completeIf (triggered s p) s) (s .objects) o (record { count = n; tables = u }) (record { count = n + 1; tables = w }) A h
+          (rw (hits h, e)) skipped
 
-  pub pass-grows : (u w : Tables) (o : ℕ) → Growing s (u .objects) → w ≡ completed s u o → Growing s (w .objects)
-  pass-grows u w o g e = rw e (completed-keeps s u o g)
+  pub settle-grows : (u w : Tables) (o : ℕ) → Growing s (u .objects) → w ≡ completed s u o → Growing s (w .objects)
+  settle-grows u w o g e = rw e (completed-keeps s u o g)
 
 -- ---- a write accepted
 

@@ -4,7 +4,7 @@ ghost use Prim.Native.Nat.{ℕ, _<_};
 ghost use Rattle.protocol.specs.Setup.{inRange};
 ghost use Rattle.protocol.specs.Tables.{standingAt, versionAt};
 ghost use Rattle.protocol.specs.Writes.{completed, settled};
-ghost use Rattle.writes.specs.Passes.{oneStaged};
+ghost use Rattle.writes.specs.Triggers.{oneStaged};
 use crate::test;
 use leases::place;
 use leases::waiting;

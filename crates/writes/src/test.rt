@@ -27,8 +27,8 @@ pub fn ready<'a>(
     let v = place::volume_of(s, o);
     if standing[o] {
         let any = waiting::waited(waiting, o, s.clients as usize);
-        let passed = time::guard_passed(clock, guard[v]);
-        return !any & passed;
+        let late = time::guard_passed(clock, guard[v]);
+        return !any & late;
     }
     false
 }

@@ -1,7 +1,7 @@
 use Rattle.writes.proofs.Laws.{by-clock, by-volume, by-other}
 use borrow.Author.Needs.{needs}
-use Rattle.writes.proofs.pass.passing.Statement.{statement}
-use Rattle.writes.proofs.pass.passing.Tie as tie
+use Rattle.writes.proofs.settle.triggered.Statement.{statement}
+use Rattle.writes.proofs.settle.triggered.Tie as tie
 
 enum-told : tie.Need-enum-told
 enum-told c = search needs
@@ -27,8 +27,8 @@ returns-2 c = search by-clock
 returns-3 : tie.Need-returns-3
 returns-3 c = search (by-other, c .if1 .left)
 
-pub passing-spec : {M : Type 1} → statement M
-passing-spec =
+pub triggered-spec : {M : Type 1} → statement M
+triggered-spec =
     tie.close
     (tie.spec
     enum-told

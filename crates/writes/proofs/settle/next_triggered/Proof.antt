@@ -3,13 +3,13 @@ use Prim.Native.Nat.{_≤_, _-_}
 use Rattle.laws.specs.Loop.{firstFrom, first-again}
 use Rattle.laws.specs.Skip.{found-stop, found-end}
 use Rattle.leases.specs.Parts.{scene}
-use Rattle.writes.specs.Passes.{passes}
+use Rattle.writes.specs.Triggers.{triggered}
 use borrow.Author.Needs.{needs}
-use Rattle.writes.proofs.pass.next_passing.Statement.{statement}
-use Rattle.writes.proofs.pass.next_passing.Tie as tie
+use Rattle.writes.proofs.settle.next_triggered.Statement.{statement}
+use Rattle.writes.proofs.settle.next_triggered.Tie as tie
 
 abbrev Inv-loop : tie.InvT-loop
-Inv-loop s p clock guard standing end waiting from n o₀ o = (from ≤ o) × (o ≤ s .objects) × (firstFrom (passes s p (scene clock guard standing end waiting)) o (s .objects - o) ≡ firstFrom (passes s p (scene clock guard standing end waiting)) from (s .objects - from))
+Inv-loop s p clock guard standing end waiting from n o₀ o = (from ≤ o) × (o ≤ s .objects) × (firstFrom (triggered s p (scene clock guard standing end waiting)) o (s .objects - o) ≡ firstFrom (triggered s p (scene clock guard standing end waiting)) from (s .objects - from))
 
 abbrev μ-loop : tie.MeasureT-loop
 μ-loop s p clock guard standing end waiting from n o₀ o = s .objects - o
@@ -20,8 +20,8 @@ cast-n c = search needs
 loop-holds : tie.Need-loop-holds Inv-loop μ-loop
 loop-holds c = (search needs, search needs, refl)
 
-passing-requires : tie.Need-passing-requires Inv-loop μ-loop
-passing-requires c κs = search needs
+triggered-requires : tie.Need-triggered-requires Inv-loop μ-loop
+triggered-requires c κs = search needs
 
 add-o : tie.Need-add-o Inv-loop μ-loop
 add-o c = search needs
@@ -38,15 +38,15 @@ returns c = search found-end
 returns-2 : tie.Need-returns-2 Inv-loop μ-loop
 returns-2 c = search found-stop
 
-pub next-passing-spec : {M : Type 1} → statement M
-next-passing-spec =
+pub next-triggered-spec : {M : Type 1} → statement M
+next-triggered-spec =
     tie.close
     (tie.spec
     Inv-loop
     μ-loop
     cast-n
     loop-holds
-    passing-requires
+    triggered-requires
     add-o
     loop-less
     loop-again

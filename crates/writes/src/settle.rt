@@ -1,4 +1,4 @@
-// The passes in object order that complete writes.
+// Going through the standing writes in object order.
 ghost use mathlib.Core.Path.{_≡_};
 ghost use mathlib.Core.Bool.{Bool, true};
 ghost use Prim.Native.Nat.{ℕ, _≤_, _<_};
@@ -8,7 +8,7 @@ ghost use Rattle.protocol.specs.SoundLaws.{Growing};
 ghost use Rattle.protocol.specs.Writes.{settled, clockStaged};
 ghost use Rattle.laws.specs.Skip.{Found};
 ghost use Rattle.leases.specs.Parts.{scene};
-ghost use Rattle.writes.specs.Passes.{passes, passStaged};
+ghost use Rattle.writes.specs.Triggers.{triggered, triggerStaged};
 use crate::complete;
 use crate::test;
 use leases::place;
@@ -16,16 +16,17 @@ use protocol::setup::Setup;
 use protocol::step::Counted;
 use protocol::tables::Tables;
 
-// Which writes a pass completes: those that are due at a clock step, or those of a volume that are ready.
-pub enum Pass {
+// What makes the server go through its standing writes: a clock step, which completes those that are due, or a DROPPED, which completes those of a
+// volume that are ready.
+pub enum Trigger {
     Clock,
     Volume(usize),
 }
 
-// Whether a pass completes the write of o.
-pub fn passing<'a>(
+// Whether the write of o is completed then.
+pub fn triggered<'a>(
     s: Setup,
-    p: Pass,
+    p: Trigger,
     clock: u32,
     guard: &'a [u32; 8],
     standing: &'a [bool; 32],
@@ -35,11 +36,11 @@ pub fn passing<'a>(
 ) -> bool
     requires { ⌜ inRange s ≡ true ⌝ }
     requires { ⌜ o < s .objects ⌝ }
-    ensures { λ r. ⌜ r ≡ passes s p (scene clock (now (guard .entry)) (now (standing .entry)) (now (end .entry)) (now (waiting .entry))) o ⌝ }
+    ensures { λ r. ⌜ r ≡ triggered s p (scene clock (now (guard .entry)) (now (standing .entry)) (now (end .entry)) (now (waiting .entry))) o ⌝ }
 {
     match p {
-        Pass::Clock => test::due(s, clock, guard, standing, end, waiting, o),
-        Pass::Volume(v) => {
+        Trigger::Clock => test::due(s, clock, guard, standing, end, waiting, o),
+        Trigger::Volume(v) => {
             if place::volume_of(s, o) == v {
                 return test::ready(s, clock, guard, standing, waiting, o);
             }
@@ -48,10 +49,10 @@ pub fn passing<'a>(
     }
 }
 
-// The next object whose write the pass completes, or the number of objects.
-pub fn next_passing<'a>(
+// The next object whose write is completed, or the number of objects.
+pub fn next_triggered<'a>(
     s: Setup,
-    p: Pass,
+    p: Trigger,
     clock: u32,
     guard: &'a [u32; 8],
     standing: &'a [bool; 32],
@@ -61,7 +62,7 @@ pub fn next_passing<'a>(
 ) -> usize
     requires { ⌜ inRange s ≡ true ⌝ }
     requires { ⌜ from ≤ s .objects ⌝ }
-    ensures { λ r. ⌜ Found (passes s p (scene clock (now (guard .entry)) (now (standing .entry)) (now (end .entry)) (now (waiting .entry)))) from (s .objects) r ⌝ }
+    ensures { λ r. ⌜ Found (triggered s p (scene clock (now (guard .entry)) (now (standing .entry)) (now (end .entry)) (now (waiting .entry)))) from (s .objects) r ⌝ }
 {
     let n = s.objects as usize;
     let mut o = from;
@@ -69,25 +70,25 @@ pub fn next_passing<'a>(
         if n <= o {
             break o;
         }
-        if passing(s, p, clock, guard, standing, end, waiting, o) {
+        if triggered(s, p, clock, guard, standing, end, waiting, o) {
             break o;
         }
         o += 1;
     }
 }
 
-// "In object order, complete each standing write" that the pass asks for, and count them.
-pub fn settle(s: Setup, p: Pass, t: Tables) -> Counted
+// "In object order, complete each standing write" that is triggered, and count them.
+pub fn settle(s: Setup, p: Trigger, t: Tables) -> Counted
     requires { ⌜ inRange s ≡ true ⌝ }
     requires { ⌜ Growing s (t .objects) ⌝ }
-    ensures { λ r. ⌜ r ≡ settled s (passStaged s p t) ⌝ }
+    ensures { λ r. ⌜ r ≡ settled s (triggerStaged s p t) ⌝ }
 {
     let n = s.objects as usize;
     let mut u = t;
     let mut count: u32 = 0;
     let mut from = 0;
     loop {
-        let o = next_passing(
+        let o = next_triggered(
             s,
             p,
             u.clock,
@@ -118,5 +119,5 @@ pub fn tick(s: Setup, t: Tables, x: u32) -> Counted
 {
     let mut u = t;
     u.clock = x;
-    settle(s, Pass::Clock, u)
+    settle(s, Trigger::Clock, u)
 }
