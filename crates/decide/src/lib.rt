@@ -15,7 +15,7 @@ use protocol::tables::Tables;
 
 pub mod deliver;
 pub mod perform;
-pub mod target;
+pub mod records;
 
 // One step, for any input; `sound` says whether all lent records are.
 pub fn decide(s: Setup, t: Tables, sound: bool, c: Copy, r: Request, x: Step) -> Decision
