@@ -17,6 +17,9 @@ use protocol::step::Outcome;
 use protocol::step::Received;
 use protocol::step::Sweep;
 use protocol::tables::Tables;
+use renewals::receive::receive_renew;
+use server::ack::receive_ack;
+use server::dropped::receive_dropped;
 
 // The server received: the client's records stay.
 fn by_server(c: Copy, r: Request, n: Counted) -> Received
@@ -58,15 +61,7 @@ pub fn receive(s: Setup, t: Tables, c: Copy, r: Request, client: u8, k: Kind) ->
             epoch,
             version,
         } => {
-            let u = renewals::receive::receive_renew(
-                s,
-                t,
-                d,
-                object as usize,
-                number,
-                epoch,
-                version,
-            );
+            let u = receive_renew(s, t, d, object as usize, number, epoch, version);
             by_server(c, r, uncounted(u))
         }
         Kind::Grant {
@@ -100,11 +95,7 @@ pub fn receive(s: Setup, t: Tables, c: Copy, r: Request, client: u8, k: Kind) ->
             object,
             epoch,
             version,
-        } => by_server(
-            c,
-            r,
-            server::ack::receive_ack(s, t, d, object as usize, epoch, version),
-        ),
+        } => by_server(c, r, receive_ack(s, t, d, object as usize, epoch, version)),
         Kind::Offer {
             volume,
             number,
@@ -117,7 +108,7 @@ pub fn receive(s: Setup, t: Tables, c: Copy, r: Request, client: u8, k: Kind) ->
         } => by_server(
             c,
             r,
-            server::dropped::receive_dropped(s, t, d, volume as usize, number, epoch),
+            receive_dropped(s, t, d, volume as usize, number, epoch),
         ),
     }
 }
