@@ -1,12 +1,7 @@
-use Rattle.decide.proofs.Laws.{target-delivered, target-named}
 use borrow.Author.Needs.{needs}
-use Rattle.decide.proofs.target.target.Statement.{statement}
-use Rattle.decide.proofs.target.target.Tie as tie
-use Rattle.decide.proofs.target.target.Reads as reads
-use Rattle.decide.proofs.target.target.Lts as lts
-use Rattle.decide.proofs.target.object_of.Reads as object-of-reads
-use Rattle.decide.proofs.target.target_at.Reads as target-at-reads
-use Rattle.queue.proofs.message_at.Reads as message-at-reads
+use Rattle.decide.proofs.Laws.{target-delivered, target-named}
+use Rattle.decide.proofs.records.target.Statement.{statement}
+use Rattle.decide.proofs.records.target.Tie as tie
 
 cast-message-at : tie.Need-cast-message-at
 cast-message-at c = search needs

@@ -1,9 +1,7 @@
-use Rattle.decide.proofs.Laws.{object-granted}
 use borrow.Author.Needs.{needs}
-use Rattle.decide.proofs.target.object_of.Statement.{statement}
-use Rattle.decide.proofs.target.object_of.Tie as tie
-use Rattle.decide.proofs.target.object_of.Reads as reads
-use Rattle.decide.proofs.target.object_of.Lts as lts
+use Rattle.decide.proofs.Laws.{object-granted}
+use Rattle.decide.proofs.records.object_of.Statement.{statement}
+use Rattle.decide.proofs.records.object_of.Tie as tie
 
 enum-known-k : tie.Need-enum-known-k
 enum-known-k c = search needs
