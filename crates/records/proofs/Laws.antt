@@ -1,5 +1,5 @@
 -- What each way through a function's tests found, put together.
-use Prim.Native.Nat.{ℕ, zero, suc, _+_, _-_, _*_, _^_, _≤_, _<_}
+use Prim.Native.Nat.{ℕ, zero, suc, _+_, _-_, _≤_, _<_}
 use native.Mathlib.Omega.{arith}
 use mathlib.Core.Bool.{Bool, true, false, _&&_}
 use mathlib.Core.List.{List}
@@ -26,14 +26,6 @@ use Rattle.records.specs.Turns.{isOver, turnOf}
 -- an element past the end
 pub past-end : (l : List ℕ) (i n : ℕ) → length l ≡ n → n ≤ i → 0 ≡ getD l i 0
 past-end l i n e h = sym (List·getD-eq-default l 0 {n = i} (rw e h))
-
--- two counts of 32 bits, multiplied
-pub mul-fits : (a b : ℕ) → a < 4294967296 → b < 4294967296 → a * b < 2 ^ 64
-mul-fits a b h k = omega (arith, mul-most a b 4294967295 (omega arith))
-  where
-    mul-most : (c o m : ℕ) → o ≤ m → c * o ≤ c * m
-    mul-most zero o m h = omega arith
-    mul-most (suc c) o m h = omega (arith, mul-most c o m h)
 
 -- an answer so far, and one more test
 pub and-again : (ok p q : Bool) {r : Bool} → (ok && (p && q)) ≡ r → ((ok && p) && q) ≡ r

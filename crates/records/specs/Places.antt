@@ -1,5 +1,6 @@
 -- Places in a lent list, and what stands there.
-use Prim.Native.Nat.{ℕ, _+_, _-_}
+use Prim.Native.Nat.{ℕ, zero, suc, _+_, _-_, _*_, _^_, _≤_, _<_}
+use native.Mathlib.Omega.{arith}
 use mathlib.Core.Bool.{Bool, cond, _&&_}
 use lib.Dec.{ltb, eqb}
 use Rattle.protocol.specs.declared.records.Copy.{Copy}
@@ -11,3 +12,11 @@ stopOf first n len = cond (ltb first len) (cond (ltb n (len - first)) (first + n
 -- nothing of a copy is left
 abbrev pub isNone : Copy → Bool
 isNone c = eqb (c .version) 0 && (eqb (c .value) 0 && eqb (c .expiry) 0)
+
+-- how many records there are fits: two counts of 32 bits, multiplied
+pub mul-fits : (a b : ℕ) → a < 4294967296 → b < 4294967296 → a * b < 2 ^ 64
+mul-fits a b h k = omega (arith, mul-most a b 4294967295 (omega arith))
+  where
+    mul-most : (c o m : ℕ) → o ≤ m → c * o ≤ c * m
+    mul-most zero o m h = omega arith
+    mul-most (suc c) o m h = omega (arith, mul-most c o m h)

@@ -1,19 +1,11 @@
 -- What each way through a function's tests found, put together.
-use Prim.Native.Nat.{ℕ, zero, suc, _*_, _^_, _≤_, _<_}
+use Prim.Native.Nat.{ℕ, _≤_, _<_}
 use native.Mathlib.Omega.{arith}
 use mathlib.Core.Path.{_≡_}
 use lib.Dec.{ltb}
 use borrow.Author.Tests.{ltb-true, lt-ltb, le-ltb}
 use Rattle.laws.specs.Choice.{cond-keeps}
 use Rattle.step.specs.Owned.{atMost}
-
--- two counts of 32 bits, multiplied
-pub mul-fits : (a b : ℕ) → a < 4294967296 → b < 4294967296 → a * b < 2 ^ 64
-mul-fits a b h k = omega (arith, mul-most a b 4294967295 (omega arith))
-  where
-    mul-most : (c o m : ℕ) → o ≤ m → c * o ≤ c * m
-    mul-most zero o m h = omega arith
-    mul-most (suc c) o m h = omega (arith, mul-most c o m h)
 
 pub all-of : (most n : ℕ) → n < most → n ≡ atMost most n
 unfolding atMost

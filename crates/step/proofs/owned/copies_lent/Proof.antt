@@ -1,4 +1,5 @@
-use Rattle.step.proofs.Laws.{all-of, mul-fits, no-more}
+use Rattle.records.specs.Places.{mul-fits}
+use Rattle.step.proofs.Laws.{all-of, no-more}
 use borrow.Author.Needs.{needs}
 use Rattle.step.proofs.owned.copies_lent.Statement.{statement}
 use Rattle.step.proofs.owned.copies_lent.Tie as tie
