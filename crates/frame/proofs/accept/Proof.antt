@@ -1,0 +1,28 @@
+use borrow.Author.Needs.{needs}
+use Rattle.frame.proofs.Laws.{accept-yes, accept-no}
+use Rattle.frame.proofs.accept.Statement.{statement}
+use Rattle.frame.proofs.accept.Tie as tie
+use Rattle.frame.proofs.accept.Reads as reads
+use Rattle.frame.proofs.accept.Lts as lts
+use Rattle.frame.proofs.fields.fields_of.Reads as fields-of-reads
+use Rattle.frame.proofs.fields.message_in.Reads as message-in-reads
+use Rattle.frame.proofs.fields.same.Reads as same-reads
+
+message-in-requires : tie.Need-message-in-requires
+message-in-requires c κs = search needs
+
+fields-of-requires : tie.Need-fields-of-requires
+fields-of-requires c κs = search needs
+
+same-requires : tie.Need-same-requires
+same-requires c κs = search needs
+
+returns : tie.Need-returns
+returns c = search (accept-yes, needs)
+
+returns-2 : tie.Need-returns-2
+returns-2 c = search (accept-no, needs)
+
+pub accept-spec : {M : Type 1} → statement M
+accept-spec =
+    tie.close (tie.spec message-in-requires fields-of-requires same-requires returns returns-2)

@@ -1,0 +1,23 @@
+use borrow.Author.Needs.{needs}
+use Rattle.frame.proofs.Laws.{decode-yes, decode-no}
+use Rattle.frame.proofs.decode.Statement.{statement}
+use Rattle.frame.proofs.decode.Tie as tie
+use Rattle.frame.proofs.decode.Reads as reads
+use Rattle.frame.proofs.decode.Lts as lts
+use Rattle.frame.proofs.accept.Reads as accept-reads
+use Rattle.frame.proofs.place.read.Reads as read-reads
+
+read-requires : tie.Need-read-requires
+read-requires c κs = search needs
+
+accept-requires : tie.Need-accept-requires
+accept-requires c κs = search needs
+
+returns : tie.Need-returns
+returns c = search (decode-yes, needs)
+
+returns-2 : tie.Need-returns-2
+returns-2 c = search (decode-no, needs)
+
+pub decode-spec : {M : Type 1} → statement M
+decode-spec = tie.close (tie.spec read-requires accept-requires returns returns-2)

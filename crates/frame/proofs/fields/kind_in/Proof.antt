@@ -1,0 +1,33 @@
+use borrow.Author.Needs.{needs}
+use Rattle.frame.proofs.Laws.{kind-2, kind-3, kind-4, kind-5, kind-6, kind-else}
+use Rattle.frame.proofs.fields.kind_in.Statement.{statement}
+use Rattle.frame.proofs.fields.kind_in.Tie as tie
+use Rattle.frame.proofs.fields.kind_in.Reads as reads
+use Rattle.frame.proofs.fields.kind_in.Lts as lts
+use Rattle.frame.proofs.fields.payload_in.Reads as payload-in-reads
+
+payload-in-requires : tie.Need-payload-in-requires
+payload-in-requires c κs = search needs
+
+returns : tie.Need-returns
+returns c = search (kind-2, needs)
+
+returns-2 : tie.Need-returns-2
+returns-2 c = search (kind-3, needs)
+
+returns-3 : tie.Need-returns-3
+returns-3 c = search (kind-4, needs)
+
+returns-4 : tie.Need-returns-4
+returns-4 c = search (kind-5, needs)
+
+returns-5 : tie.Need-returns-5
+returns-5 c = search (kind-6, needs)
+
+returns-6 : tie.Need-returns-6
+returns-6 c = search (kind-else, needs)
+
+pub kind-in-spec : {M : Type 1} → statement M
+kind-in-spec =
+    tie.close
+    (tie.spec payload-in-requires returns returns-2 returns-3 returns-4 returns-5 returns-6)

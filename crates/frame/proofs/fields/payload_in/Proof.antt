@@ -1,0 +1,15 @@
+use borrow.Author.Needs.{needs}
+use Rattle.frame.proofs.Laws.{same-payload, with-payload}
+use Rattle.frame.proofs.fields.payload_in.Statement.{statement}
+use Rattle.frame.proofs.fields.payload_in.Tie as tie
+use Rattle.frame.proofs.fields.payload_in.Reads as reads
+use Rattle.frame.proofs.fields.payload_in.Lts as lts
+
+returns : tie.Need-returns
+returns c = search (same-payload, needs)
+
+returns-2 : tie.Need-returns-2
+returns-2 c = search (with-payload, needs)
+
+pub payload-in-spec : {M : Type 1} → statement M
+payload-in-spec = tie.close (tie.spec returns returns-2)

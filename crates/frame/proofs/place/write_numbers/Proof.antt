@@ -1,0 +1,40 @@
+use borrow.Author.Needs.{needs}
+use Rattle.frame.proofs.Laws.{numbers-stored}
+use Rattle.frame.proofs.place.write_numbers.Statement.{statement}
+use Rattle.frame.proofs.place.write_numbers.Tie as tie
+use Rattle.frame.proofs.place.write_numbers.Reads as reads
+use Rattle.frame.proofs.place.write_numbers.Lts as lts
+use Rattle.layout.proofs.write_u32.Reads as write-u32-reads
+
+write-u32-requires : tie.Need-write-u32-requires
+write-u32-requires c κs = search needs
+
+write-u32-requires-2 : tie.Need-write-u32-requires-2
+write-u32-requires-2 c κs = search needs
+
+write-u32-requires-3 : tie.Need-write-u32-requires-3
+write-u32-requires-3 c κs = search needs
+
+write-u32-requires-4 : tie.Need-write-u32-requires-4
+write-u32-requires-4 c κs = search needs
+
+write-u32-requires-5 : tie.Need-write-u32-requires-5
+write-u32-requires-5 c κs = search needs
+
+same-length : tie.Need-same-length
+same-length c = search needs
+
+returns : tie.Need-returns
+returns c = numbers-stored _ _ _ _ _ _ _ (c .before .before .before .before .before .before .before .before .before .before .before .before .before .before .before .before .before .before .write-u32 .ensures) (c .before .before .before .before .before .before .before .before .before .before .before .before .before .before .write-u322 .ensures) (c .before .before .before .before .before .before .before .before .before .before .write-u323 .ensures) (c .before .before .before .before .before .before .write-u324 .ensures) (c .before .before .write-u325 .ensures)
+
+pub write-numbers-spec : {M : Type 1} → statement M
+write-numbers-spec =
+    tie.close
+    (tie.spec
+    write-u32-requires
+    write-u32-requires-2
+    write-u32-requires-3
+    write-u32-requires-4
+    write-u32-requires-5
+    same-length
+    returns)

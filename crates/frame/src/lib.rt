@@ -1,0 +1,52 @@
+// A message as a frame of 32 bytes, and back (01, "Frame, run file and listing").
+pub mod fields;
+mod place;
+
+ghost use mathlib.Core.Path.{_≡_};
+ghost use Rattle.frame.specs.Frame.{accepted, Decodes, Encodes};
+use crate::fields::Fields;
+use protocol::message::Message;
+
+// What stands in bytes: a message, or no frame of one, which is 8 (`decodedNumber`).
+pub enum Decoded {
+    Accepted(Message),
+    Refused,
+}
+
+// The frame is in the output; or that is shorter than a frame, which is 8 (`encodedNumber`).
+pub enum Encoded {
+    Written,
+    Refused,
+}
+
+// A frame is right where it is the one of the message that it holds: so no field that the kind lacks, no kind and no mark of a value is left unasked.
+fn accept(f: Fields) -> Decoded
+    ensures { λ r. ⌜ r ≡ accepted f ⌝ }
+{
+    let m = fields::message_in(f);
+    if fields::same(fields::fields_of(m), f) {
+        return Decoded::Accepted(m);
+    }
+    Decoded::Refused
+}
+
+// The message of a frame, for any bytes.
+pub fn decode(s: &[u8]) -> Decoded
+    ensures { λ r. ⌜ Decodes (now (s .entry)) r ⌝ }
+{
+    if s.len() == 32 {
+        return accept(place::read(s));
+    }
+    Decoded::Refused
+}
+
+// Writes the message's frame to the output's first 32 bytes, if it has so many. The others keep what they held.
+pub fn encode(m: Message, out: &mut [u8]) -> Encoded
+    ensures { λ r. ⌜ Encodes m (now (out .entry)) (now (out .exit)) r ⌝ }
+{
+    if 32 <= out.len() {
+        place::write(out, fields::fields_of(m));
+        return Encoded::Written;
+    }
+    Encoded::Refused
+}

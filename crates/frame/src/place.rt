@@ -1,0 +1,55 @@
+// Where each field of a frame stands.
+ghost use Prim.Native.Nat.{ℕ, _≤_};
+ghost use mathlib.Core.Path.{_≡_};
+ghost use lib.ListN.{length};
+ghost use Rattle.layout.specs.Number.{Stored};
+ghost use Rattle.frame.specs.Frame.{head, numbers, laid, fieldsIn};
+use crate::fields::Fields;
+
+pub fn read(s: &[u8]) -> Fields
+    requires { ⌜ 32 ≤ length (now s) ⌝ }
+    ensures { λ r. ⌜ r ≡ fieldsIn (now (s .entry)) ⌝ }
+{
+    Fields {
+        kind: s[0],
+        client: s[1],
+        object: s[2],
+        present: s[3],
+        number: layout::read_u32(s, 4),
+        lease: layout::read_u32(s, 8),
+        epoch: layout::read_u32(s, 12),
+        version: layout::read_u32(s, 16),
+        expiry: layout::read_u32(s, 20),
+        value: layout::read_u64(s, 24),
+    }
+}
+
+fn write_head(out: &mut [u8], f: Fields)
+    requires { ⌜ 4 ≤ length (now out) ⌝ }
+    ensures { λ _. ⌜ Stored (now (out .entry)) (now (out .exit)) 0 (head f) ⌝ }
+{
+    out[0] = f.kind;
+    out[1] = f.client;
+    out[2] = f.object;
+    out[3] = f.present;
+}
+
+fn write_numbers(out: &mut [u8], f: Fields)
+    requires { ⌜ 24 ≤ length (now out) ⌝ }
+    ensures { λ _. ⌜ Stored (now (out .entry)) (now (out .exit)) 4 (numbers f) ⌝ }
+{
+    layout::write_u32(out, 4, f.number);
+    layout::write_u32(out, 8, f.lease);
+    layout::write_u32(out, 12, f.epoch);
+    layout::write_u32(out, 16, f.version);
+    layout::write_u32(out, 20, f.expiry);
+}
+
+pub fn write(out: &mut [u8], f: Fields)
+    requires { ⌜ 32 ≤ length (now out) ⌝ }
+    ensures { λ _. ⌜ Stored (now (out .entry)) (now (out .exit)) 0 (laid f) ⌝ }
+{
+    write_head(out, f);
+    write_numbers(out, f);
+    layout::write_u64(out, 24, f.value);
+}

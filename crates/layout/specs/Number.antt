@@ -1,0 +1,103 @@
+-- Numbers in bytes, the lowest byte first (01: "little endian"), for any width.
+use Prim.Native.Nat.{ℕ, zero, suc, _+_, _*_, _/_, _%_, _<_, _≤_}
+use native.Mathlib.Numerals.{add-one}
+use native.Mathlib.Omega.{arith}
+use mathlib.Core.List.{List, [], _∷_, _++_}
+use mathlib.Core.Path.{_≡_, refl, sym, ap, _∙_}
+use lib.ListN.{length, getD, set, drop}
+use lib.Seq.{sets, drop-cons}
+
+-- the number that these bytes make
+unfoldable pub littleEndian : List ℕ → ℕ
+littleEndian [] = 0
+littleEndian (b ∷ l) = b + 256 * littleEndian l
+
+-- the w lowest bytes of n
+unfoldable pub bytesOf : ℕ → ℕ → List ℕ
+bytesOf zero n = []
+bytesOf (suc w) n = n % 256 ∷ bytesOf w (n / 256)
+
+-- how many numbers w bytes can hold
+unfoldable pub limit : ℕ → ℕ
+limit zero = 1
+limit (suc w) = 256 * limit w
+
+-- the w bytes of l from place p on; past the end of l they are 0
+unfoldable pub bytesAt : List ℕ → ℕ → ℕ → List ℕ
+bytesAt l p zero = []
+bytesAt l p (suc w) = getD l p 0 ∷ bytesAt l (p + 1) w
+
+-- the number that stands in w bytes at place p
+abbrev pub numberAt : List ℕ → ℕ → ℕ → ℕ
+numberAt l p w = littleEndian (bytesAt l p w)
+
+-- each element is a byte
+abbrev pub Bytes : List ℕ → Type 0
+Bytes l = (i : ℕ) → getD l i 0 < 256
+
+-- m is l with the bytes b at place p, and as long: what a caller of a store goes by
+pub record Stored (l m : List ℕ) (p : ℕ) (b : List ℕ) : Type 0 where
+  pub stored : m ≡ sets l p b
+  pub long : length m ≡ length l
+
+pub length-bytes : (w n : ℕ) → length (bytesOf w n) ≡ w
+unfolding bytesOf
+length-bytes zero n = refl
+length-bytes (suc w) n = ap suc (length-bytes w (n / 256))
+
+-- stores one after the other
+sets-then : (l : List ℕ) (p : ℕ) (a b : List ℕ) → sets (sets l p a) (p + length a) b ≡ sets l p (a ++ b)
+sets-then l p [] b = rw (nothing p)
+  where
+    nothing : (p : ℕ) → p + 0 ≡ p
+    nothing p = omega arith
+sets-then l p (x ∷ a) b =
+    let e : p + length (x ∷ a) ≡ suc p + length a = omega arith in
+    rw e (sets-then (set l p x) (suc p) a b)
+
+pub stored-then : (l m r : List ℕ) (p q : ℕ) (a b : List ℕ) → Stored l m p a → Stored m r q b → p + length a ≡ q → Stored l r p (a ++ b)
+stored-then l m r p q a b f g e = record { stored = g .stored ∙ rw (f .stored, ← e) (sets-then l p a b); long = g .long ∙ f .long }
+
+-- the same where the first are the bytes of a number
+pub number-stored : (l m r : List ℕ) (p w n : ℕ) (b : List ℕ) → Stored l m p (bytesOf w n) → Stored m r (p + w) b → Stored l r p (bytesOf w n ++ b)
+number-stored l m r p w n b f g = stored-then l m r p (p + w) (bytesOf w n) b f g (rw length-bytes)
+
+-- a number is read back as it was written
+pub read-back : (w n : ℕ) → n < limit w → littleEndian (bytesOf w n) ≡ n
+unfolding littleEndian bytesOf limit
+read-back zero n h = omega arith
+read-back (suc w) n h = rw (read-back w (n / 256) (omega arith)) (omega arith)
+
+-- bytes are written back as they were read
+pub write-back : (l : List ℕ) → Bytes l → (p w : ℕ) → bytesOf w (numberAt l p w) ≡ bytesAt l p w
+unfolding littleEndian bytesOf bytesAt
+write-back l b p zero = refl
+write-back l b p (suc w) = split (getD l p 0) (numberAt l (p + 1) w) (b p) (write-back l b (p + 1) w)
+  where
+    split : (x n : ℕ) → x < 256 → bytesOf w n ≡ bytesAt l (p + 1) w → (x + 256 * n) % 256 ∷ bytesOf w ((x + 256 * n) / 256) ≡ x ∷ bytesAt l (p + 1) w
+    split x n h e =
+        let low : (x + 256 * n) % 256 ≡ x = omega arith in
+        let high : (x + 256 * n) / 256 ≡ n = omega arith in
+        rw (low, high, e)
+
+-- what w bytes make is below their limit
+pub number-below : (l : List ℕ) → Bytes l → (p w : ℕ) → numberAt l p w < limit w
+unfolding littleEndian bytesAt limit
+number-below l b p zero = omega arith
+number-below l b p (suc w) = omega (arith, b p, number-below l b (p + 1) w)
+
+-- bytes taken out of a list and what follows them are the list from there on
+pub bytes-then : (l : List ℕ) (p w : ℕ) → p + w ≤ length l → bytesAt l p w ++ drop (p + w) l ≡ drop p l
+unfolding bytesAt
+bytes-then l p zero h = rw (nothing p)
+  where
+    nothing : (p : ℕ) → p + 0 ≡ p
+    nothing p = omega arith
+bytes-then l p (suc w) h =
+    let one : p + suc w ≡ p + 1 + w = omega arith in
+    let here : p < length l = omega arith in
+    rw one (ap (_∷_ (getD l p 0)) (bytes-then l (p + 1) w (omega arith)) ∙ rw add-one (sym (drop-cons l p 0 here)))
+
+-- the same through the number
+pub number-then : (l : List ℕ) → Bytes l → (p w : ℕ) → p + w ≤ length l → bytesOf w (numberAt l p w) ++ drop (p + w) l ≡ drop p l
+number-then l b p w h = rw (write-back l b p w) (bytes-then l p w h)

@@ -1,0 +1,37 @@
+use Rattle.runfile.proofs.Laws.{note-long, formed-by, note-yes, note-no}
+use borrow.Author.Needs.{needs}
+use Rattle.runfile.proofs.note.Statement.{statement}
+use Rattle.runfile.proofs.note.Tie as tie
+use Rattle.runfile.proofs.note.Reads as reads
+use Rattle.runfile.proofs.note.Lts as lts
+use Rattle.runfile.proofs.shape.setup_place.Reads as setup-place-reads
+use Rattle.runfile.proofs.shape.well_formed.Reads as well-formed-reads
+
+well-formed-requires : tie.Need-well-formed-requires
+well-formed-requires c κs = search needs
+
+setup-place-requires : tie.Need-setup-place-requires
+setup-place-requires c κs = search (formed-by, needs)
+
+slice-aggregate-result : tie.Need-slice-aggregate-result
+slice-aggregate-result c = search (note-long, needs)
+
+returns : tie.Need-returns
+returns c = search (note-yes, needs)
+
+slice-aggregate-result-2 : tie.Need-slice-aggregate-result-2
+slice-aggregate-result-2 c = search needs
+
+returns-2 : tie.Need-returns-2
+returns-2 c = search (note-no, needs)
+
+pub note-spec : {M : Type 1} → statement M
+note-spec =
+    tie.close
+    (tie.spec
+    well-formed-requires
+    setup-place-requires
+    slice-aggregate-result
+    returns
+    slice-aggregate-result-2
+    returns-2)

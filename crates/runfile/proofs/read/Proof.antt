@@ -1,0 +1,48 @@
+use Rattle.runfile.proofs.Laws.{formed-by, setup-there, read-yes, read-no}
+use borrow.Author.Needs.{needs}
+use Rattle.runfile.proofs.read.Statement.{statement}
+use Rattle.runfile.proofs.read.Tie as tie
+use Rattle.runfile.proofs.read.Reads as reads
+use Rattle.runfile.proofs.read.Lts as lts
+use Rattle.runfile.proofs.record.setup_in.Reads as setup-in-reads
+use Rattle.runfile.proofs.refused.Reads as refused-reads
+use Rattle.runfile.proofs.shape.count_of.Reads as count-of-reads
+use Rattle.runfile.proofs.shape.setup_place.Reads as setup-place-reads
+use Rattle.runfile.proofs.shape.well_formed.Reads as well-formed-reads
+
+well-formed-requires : tie.Need-well-formed-requires
+well-formed-requires c κs = search needs
+
+setup-place-requires : tie.Need-setup-place-requires
+setup-place-requires c κs = search (formed-by, needs)
+
+setup-in-requires : tie.Need-setup-in-requires
+setup-in-requires c κs = search (setup-there, needs)
+
+count-of-requires : tie.Need-count-of-requires
+count-of-requires c κs = search (formed-by, needs)
+
+add-t6 : tie.Need-add-t6
+add-t6 c = search needs
+
+returns : tie.Need-returns
+returns c = search (read-yes, needs)
+
+refused-requires : tie.Need-refused-requires
+refused-requires c κs = search needs
+
+returns-2 : tie.Need-returns-2
+returns-2 c = search (read-no, needs)
+
+pub read-spec : {M : Type 1} → statement M
+read-spec =
+    tie.close
+    (tie.spec
+    well-formed-requires
+    setup-place-requires
+    setup-in-requires
+    count-of-requires
+    add-t6
+    returns
+    refused-requires
+    returns-2)

@@ -1,0 +1,80 @@
+// The reader of run files: a note, the setup, the steps and a trailer (01, "Frame, run file and listing").
+mod record;
+mod shape;
+
+ghost use Prim.Native.Nat.{ℕ};
+ghost use mathlib.Core.Path.{_≡_};
+ghost use Rattle.runfile.specs.File.{noContents, contentsOf, noteOf, stepAt};
+use protocol::setup::Setup;
+use protocol::step::Step;
+
+// What a run file holds: the setup, how many steps, and where their records begin. `refusal` is 9 for a file that is not shaped as 01 says, and 0
+// for one that is; the other fields of a refused file are 0.
+pub struct Contents {
+    pub refusal: u8,
+    pub setup: Setup,
+    pub count: u32,
+    pub first: usize,
+}
+
+fn refused() -> Contents
+    ensures { λ r. ⌜ r ≡ noContents ⌝ }
+{
+    let volume = [0u8; 32];
+    let setup = Setup {
+        clients: 0,
+        volumes: 0,
+        objects: 0,
+        tv: 0,
+        t: 0,
+        m: 0,
+        volume,
+    };
+    Contents {
+        refusal: 9,
+        setup,
+        count: 0,
+        first: 0,
+    }
+}
+
+// What a file holds, for any bytes.
+pub fn read(file: &[u8]) -> Contents
+    ensures { λ r. ⌜ r ≡ contentsOf (now (file .entry)) ⌝ }
+{
+    if shape::well_formed(file) {
+        let at = shape::setup_place(file);
+        return Contents {
+            refusal: 0,
+            setup: record::setup_in(file, at),
+            count: shape::count_of(file),
+            first: at + 48,
+        };
+    }
+    refused()
+}
+
+// The note: the part of the file before the setup. A refused file's is the empty part at its start.
+pub fn note(file: &[u8]) -> &[u8]
+    ensures { λ r. ⌜ now r ≡ noteOf (now (file .entry)) ⌝ }
+{
+    if shape::well_formed(file) {
+        let at = shape::setup_place(file);
+        return &file[..at];
+    }
+    &file[..0]
+}
+
+// Record k of the steps that begin at `first`, as `read` gave it. Where the file has no such record, a step with nothing in it.
+pub fn step_at(file: &[u8], first: usize, k: usize) -> Step
+    ensures { λ r. ⌜ r ≡ stepAt (now (file .entry)) first k ⌝ }
+{
+    let n = file.len();
+    if n < first {
+        return record::no_step();
+    }
+    if k < (n - first) / 16 {
+        return record::step_in(file, first + 16 * k);
+    }
+    record::no_step()
+}

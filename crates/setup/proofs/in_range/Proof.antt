@@ -1,0 +1,46 @@
+use borrow.Author.Needs.{needs}
+use Rattle.protocol.specs.Setup.{inRange}
+use Rattle.setup.proofs.in_range.Statement.{statement}
+use Rattle.setup.proofs.in_range.Tie as tie
+use Rattle.setup.proofs.in_range.Reads as reads
+use Rattle.setup.proofs.in_range.Lts as lts
+use Rattle.setup.proofs.between.Reads as between-reads
+use Rattle.setup.proofs.volumes_fit.Reads as volumes-fit-reads
+
+between-requires : tie.Need-between-requires
+between-requires c κs = search needs
+
+between-requires-2 : tie.Need-between-requires-2
+between-requires-2 c κs = search needs
+
+between-requires-3 : tie.Need-between-requires-3
+between-requires-3 c κs = search needs
+
+between-requires-4 : tie.Need-between-requires-4
+between-requires-4 c κs = search needs
+
+between-requires-5 : tie.Need-between-requires-5
+between-requires-5 c κs = search needs
+
+between-requires-6 : tie.Need-between-requires-6
+between-requires-6 c κs = search needs
+
+volumes-fit-requires : tie.Need-volumes-fit-requires
+volumes-fit-requires c κs = search needs
+
+returns : tie.Need-returns
+unfolding inRange
+returns c = cc
+
+pub in-range-spec : {M : Type 1} → statement M
+in-range-spec =
+    tie.close
+    (tie.spec
+    between-requires
+    between-requires-2
+    between-requires-3
+    between-requires-4
+    between-requires-5
+    between-requires-6
+    volumes-fit-requires
+    returns)

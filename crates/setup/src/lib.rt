@@ -1,0 +1,47 @@
+// A setup in range, and fresh tables for one (01, "Tables").
+pub mod fresh;
+
+ghost use Prim.Native.Nat.{ℕ, _-_, _<_, _≤_};
+ghost use lib.Dec.{ltb, leb, eqb};
+ghost use mathlib.Core.Bool.{Bool, cond, _&&_};
+ghost use mathlib.Core.Path.{_≡_};
+ghost use Rattle.laws.specs.Loop.{allFrom};
+ghost use Rattle.protocol.specs.Setup.{between, volumeFits, inRange};
+use protocol::setup::Setup;
+
+fn between(low: u32, high: u32, n: u32) -> bool
+    ensures { λ r. ⌜ r ≡ between low high n ⌝ }
+{
+    (low <= n) & (n <= high)
+}
+
+// An object's volume exists, and a slot past the objects holds 0.
+fn volume_fits(o: usize, v: u8, objects: u32, volumes: u32) -> bool
+    ensures { λ r. ⌜ r ≡ cond (ltb o objects) (ltb v volumes) (eqb v 0) ⌝ }
+{
+    if o < objects as usize {
+        return (v as u32) < volumes;
+    }
+    v == 0
+}
+
+fn volumes_fit(s: Setup) -> bool
+    ensures { λ r. ⌜ r ≡ allFrom (volumeFits s) 0 32 ⌝ }
+{
+    let mut ok = true;
+    let mut o = 0;
+    while o < 32 {
+        ok = ok & volume_fits(o, s.volume[o], s.objects, s.volumes);
+        o += 1;
+    }
+    ok
+}
+
+// Whether the setup is in range, whatever it holds.
+pub fn in_range(s: Setup) -> bool
+    ensures { λ r. ⌜ r ≡ inRange s ⌝ }
+{
+    let counts = between(1, 16, s.clients) & between(1, 8, s.volumes) & between(1, 32, s.objects);
+    let ticks = counts & between(1, 3600, s.tv) & between(1, 1000000, s.t) & between(1, 60, s.m);
+    ticks & volumes_fit(s)
+}
