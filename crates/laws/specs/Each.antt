@@ -1,13 +1,12 @@
 -- What holds of each element of a table, and stores that keep it.
-use Prim.Native.Nat.{ℕ, zero, suc, _+_, _<_, _≤_}
-use native.Mathlib.Nat.{le-of-suc-le-suc}
+use Prim.Native.Nat.{ℕ, zero, suc, _<_}
 use native.Mathlib.Omega.{arith}
-use mathlib.Core.Bool.{Bool, true, false, cond}
+use mathlib.Core.Bool.{Bool, false}
 use mathlib.Core.List.{List, [], _∷_}
 use mathlib.Core.Path.{_≡_, refl}
 use lib.ListN.{length, getD, set, replicate}
 use Rattle.laws.specs.Choice.{cond-keeps}
-use Rattle.laws.specs.Loop.{foldFrom, fold-keeps-in}
+use Rattle.laws.specs.Loop.{fold-keeps-in}
 use Rattle.laws.specs.Lists.{All}
 use Rattle.laws.specs.Store.{storeAt, storeEach}
 

@@ -4,3 +4,4 @@ pub mod Store
 pub mod Lists
 pub mod Each
 pub mod Count
+pub mod Skip

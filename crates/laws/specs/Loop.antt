@@ -146,9 +146,9 @@ module _ (p : ℕ → Bool) (N j : ℕ) where
   all-again true A h i = all-step h ∙ i
   all-again false A h i = i
 
-  -- the same where r is what the body's call gave
-  pub all-again-by : (ok r A : Bool) → j < N → r ≡ p j → (ok && allFrom p j (N - j)) ≡ A → (ok && r && allFrom p (j + 1) (N - (j + 1))) ≡ A
-  all-again-by ok r A h e i = rw e (all-again ok A h i)
+  -- the same where a call gave r
+  pub all-by : (ok r A : Bool) → j < N → r ≡ p j → (ok && allFrom p j (N - j)) ≡ A → (ok && r && allFrom p (j + 1) (N - (j + 1))) ≡ A
+  all-by ok r A h e i = rw e (all-again ok A h i)
 
   pub all-end : (ok A : Bool) → N ≤ j → (ok && allFrom p j (N - j)) ≡ A → ok ≡ A
   all-end true A h i = sym (all-none p N j h) ∙ i

@@ -11,9 +11,11 @@ use Rattle.laws.specs.Loop.{countFrom}
 use Rattle.protocol.specs.declared.setup.Setup.{Setup}
 use Rattle.protocol.specs.declared.step.Answer.{Answer}
 use Rattle.protocol.specs.declared.step.Step.{Step}
+use Rattle.protocol.specs.Tables.{valueAt}
 use Rattle.protocol.specs.Answers.{reported}
-use Rattle.protocol.specs.World.{World, freshWorld, stepped}
+use Rattle.protocol.specs.World.{World, freshWorld, stepped, ran, answers}
 use Rattle.protocol.specs.Ledger.{Event, accepted, completed, cutOff, shown, clocked, events, Open, none, write, isOpen}
+use Rattle.protocol.specs.Agreement.{standingWrite}
 
 -- events told on top of those told before
 unfoldable pub told : List Event → List Event → List Event
@@ -118,3 +120,14 @@ EndsInTime h =
 -- "accepted = completed + cut off + open"
 abbrev pub AddsUp : Setup → List Event → Type 0
 AddsUp s h = howOften isAcceptance h ≡ howOften isCompletion h + howOften isCutOff h + stillOpen s h
+
+-- together, of a run from fresh tables
+pub record HistoryAgrees (s : Setup) (xs : List Step) : Type 0 where
+  pub shows : ShowsLast (history s xs)
+  pub ends : EndsInTime (history s xs)
+  pub tallies : AddsUp s (history s xs)
+  -- "the numbers of writes completed that the steps reported add up to completed"
+  pub reports : reportedIn (answers s (freshWorld s) xs) ≡ howOften isCompletion (history s xs)
+  -- each object's value in the server's tables is that of the write completed last, and the standing write is the one still open
+  pub values : (o : ℕ) → o < s .objects → valueAt (ran s (freshWorld s) xs .tables) o ≡ lastCompleted o (history s xs)
+  pub writes : (o : ℕ) → o < s .objects → standingWrite (ran s (freshWorld s) xs .tables) o ≡ openIn o (history s xs)

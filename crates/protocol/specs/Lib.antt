@@ -6,6 +6,7 @@ pub mod Writes
 pub mod Server
 pub mod Client
 pub mod Sound
+pub mod SoundLaws
 pub mod Answers
 pub mod Gate
 pub mod Decide

@@ -9,7 +9,7 @@ use lib.Dec.{leb, eqb}
 use lib.ListN.{length, getD, set, take}
 use lib.Seq.{take-suc-set, take-length, length-take-le}
 use borrow.Author.Tests.{le-leb, lt-leb}
-use Rattle.laws.specs.Loop.{allFrom, all-again-by}
+use Rattle.laws.specs.Loop.{allFrom, all-by}
 use Rattle.layout.specs.Number.{bytesAt}
 use Rattle.protocol.specs.declared.setup.Setup.{Setup}
 use Rattle.protocol.specs.declared.step.Step.{Step}
@@ -41,7 +41,7 @@ module _ (l v : List ℕ) (p o : ℕ) where
 pub steps-again : (l : List ℕ) (first N k : ℕ) (x : Step) (ok r A : Bool) → k < N → x ≡ stepIn l (placeOf first k) → r ≡ stepFits x
     → (ok && allFrom (stepFitsAt l first) k (N - k)) ≡ A
     → (ok && r && allFrom (stepFitsAt l first) (k + 1) (N - (k + 1))) ≡ A
-steps-again l first N k x ok r A h f e i = all-again-by (stepFitsAt l first) N k ok r A h (e ∙ ap stepFits f) i
+steps-again l first N k x ok r A h f e i = all-by (stepFitsAt l first) N k ok r A h (e ∙ ap stepFits f) i
 
 module _ (l : List ℕ) where
   pub too-short : length l < 56 → false ≡ measured l

@@ -1,39 +1,36 @@
 -- Demand 3, all of it but one thing: that a client which may show its copy has the server's value. That is asked of an invariant P of worlds.
-use Prim.Native.Nat.{ℕ, zero, suc, _+_, _*_, _<_, _≤_}
+use Prim.Native.Nat.{ℕ, _+_, _<_, _≤_}
 use native.Mathlib.Omega.{arith}
 use mathlib.Core.Bool.{Bool, true, false, cond}
 use mathlib.Core.List.{List, [], _∷_}
 use mathlib.Core.Logic.{⊎-elim}
 use mathlib.Core.Path.{_≡_, refl, sym, ap, _∙_}
-use lib.Dec.{eqb}
 use borrow.Author.Tests.{eqb-true}
 use Rattle.laws.specs.Choice.{cond-keeps, true-or-false, not-both}
 use Rattle.protocol.specs.declared.records.Copy.{Copy}
 use Rattle.protocol.specs.declared.records.Request.{Request}
 use Rattle.protocol.specs.declared.setup.Setup.{Setup}
-use Rattle.protocol.specs.declared.step.Answer.{Answer}
 use Rattle.protocol.specs.declared.step.Answer.the-variants.{Shown}
-use Rattle.protocol.specs.declared.step.Counted.{Counted}
 use Rattle.protocol.specs.declared.step.Decision.{Decision}
 use Rattle.protocol.specs.declared.step.Step.{Step}
 use Rattle.protocol.specs.declared.tables.Tables.{Tables}
 use Rattle.protocol.specs.Setup.{inRange}
-use Rattle.protocol.specs.Tables.{valueAt, standingAt, pendingAt, endAt, freshTables}
+use Rattle.protocol.specs.Tables.{valueAt, standingAt, pendingAt, endAt}
 use Rattle.protocol.specs.Writes.{settled, clockStaged}
 use Rattle.protocol.specs.Client.{showable}
 use Rattle.protocol.specs.Answers.{reported, isRefused}
 use Rattle.protocol.specs.Gate.{isClock}
-use Rattle.protocol.specs.Decide.{performed, readDecided}
+use Rattle.protocol.specs.Decide.{readDecided}
 use Rattle.protocol.specs.World.{World, freshWorld, stepped, answerOf}
-use Rattle.protocol.specs.Ledger.{Open, none, write, accepts, happening, events, Ledger, emptyLedger, bookAll, Books, booked}
+use Rattle.protocol.specs.Ledger.{none, write, accepts, events, Ledger, emptyLedger, bookAll, Books, freshBooks, booked}
 use Rattle.protocol.specs.Agreement.{standingWrite, Agrees, AgreesFrom, AgreesThroughout}
-use Rattle.protocol.specs.Soundness.Steps.{Accepted, accepted, ranges, setup-in-range, copyOf, requestOf, performedOf, tables-after, accepted-answer, refused-answer, refused-keeps, clock-performed, read-performed}
+use Rattle.protocol.specs.Soundness.Steps.{accepted, ranges, setup-in-range, copyOf, requestOf, tables-after, accepted-answer, refused-answer, refused-keeps, clock-performed, read-performed}
 use Rattle.protocol.specs.Soundness.Answered.{accepted-of, refused-is-refused}
 use Rattle.protocol.specs.Soundness.Question.{SoundWorld, stepped-sound, fresh-sound}
 use Rattle.protocol.specs.Bookkeeping.Booked.{Booked, fresh-booked}
-use Rattle.protocol.specs.Bookkeeping.Settled.{Ended, clock-ended}
-use Rattle.protocol.specs.Bookkeeping.Kept.{Recorded, performed-recorded}
-use Rattle.protocol.specs.Bookkeeping.Shown.{copyAt, ReadShown, shown-read}
+use Rattle.protocol.specs.Bookkeeping.Settled.{clock-ended}
+use Rattle.protocol.specs.Bookkeeping.Kept.{performed-recorded}
+use Rattle.protocol.specs.Bookkeeping.Shown.{copyAt, shown-read}
 
 -- a client that may show its copy of an object has the server's value
 abbrev pub ReadsCurrent : Setup → World → Type 0
@@ -116,21 +113,31 @@ step-agrees s w x n l k h e c =
 abbrev pub booksOf : World → Ledger → Books
 booksOf w l = record { world = w; ledger = l }
 
--- What is still asked of demand 3: an invariant P that every step of a sound world keeps and under which every client reads what is current.
-module _ {κ} (s : Setup) (P : World → Type κ)
-    (kept : (w : World) (x : Step) → SoundWorld s w → P w → P (stepped s w x))
-    (current : (w : World) → SoundWorld s w → P w → ReadsCurrent s w) where
+pub books-fresh : (s : Setup) → freshBooks s ≡ booksOf (freshWorld s) emptyLedger
+books-fresh s = refl
+
+pub books-step : (s : Setup) (w : World) (l : Ledger) (x : Step) → booked s (booksOf w l) x ≡ booksOf (stepped s w x) (bookAll l (events s w x))
+unfolding booked
+books-step s w l x = refl
+
+-- What is still asked of demand 3: an invariant that fresh tables have, that every step of a sound world keeps, and under which every client reads what
+-- is current.
+pub record Invariant {κ} (s : Setup) (P : World → Type κ) : Type κ where
+  pub fresh : P (freshWorld s)
+  pub kept : (w : World) (x : Step) → SoundWorld s w → P w → P (stepped s w x)
+  pub current : (w : World) → SoundWorld s w → P w → ReadsCurrent s w
+
+module _ {κ} (s : Setup) (P : World → Type κ) (v : Invariant s P) where
   pub agrees-from : (w : World) (n : ℕ) (l : Ledger) (xs : List Step) → SoundWorld s w → P w → Booked s (w .tables) l → n ≡ l .completes
       → AgreesFrom s w n (booksOf w l) xs
   unfolding AgreesFrom booked
   agrees-from w n l [] k i h e = tt
   agrees-from w n l (x ∷ xs) k i h e =
       let b = step-booked s w x l k h in
-      (step-agrees s w x n l k h e (current w k i), agrees-from (stepped s w x) (n + reported (answerOf s w x)) (bookAll l (events s w x)) xs (stepped-sound s w x k) (kept w x k i) (b .keeps) (omega (arith, e, b .reports)))
+      (step-agrees s w x n l k h e (v .current w k i), agrees-from (stepped s w x) (n + reported (answerOf s w x)) (bookAll l (events s w x)) xs (stepped-sound s w x k) (v .kept w x k i) (b .keeps) (omega (arith, e, b .reports)))
 
-  -- demand 3, from fresh tables
-  pub agrees-throughout : inRange s ≡ true → P (freshWorld s) → (xs : List Step) → AgreesThroughout s xs
-  agrees-throughout i p xs = agrees-from (freshWorld s) 0 emptyLedger xs (fresh-sound s i) p (fresh-booked s) refl
+  agrees-in-range : inRange s ≡ true → (xs : List Step) → AgreesThroughout s xs
+  agrees-in-range i xs = agrees-from (freshWorld s) 0 emptyLedger xs (fresh-sound s i) (v .fresh) (fresh-booked s) refl
 
 -- ---- out of range every step is refused, and nothing happens
 module _ (s : Setup) (i : inRange s ≡ false) where
@@ -159,5 +166,10 @@ module _ (s : Setup) (i : inRange s ≡ false) where
       let b = refused-step s w x l h (never-accepted w x) in
       (refused-agrees w x n l h e, out-of-range-from (stepped s w x) (n + reported (answerOf s w x)) (bookAll l (events s w x)) xs (b .keeps) (omega (arith, e, b .reports)))
 
-  pub agrees-out-of-range : (xs : List Step) → AgreesThroughout s xs
+  agrees-out-of-range : (xs : List Step) → AgreesThroughout s xs
   agrees-out-of-range xs = out-of-range-from (freshWorld s) 0 emptyLedger xs (fresh-booked s) refl
+
+-- demand 3 for every setup whatever and every list of steps, from such an invariant where the setup is in range
+pub agrees-throughout {κ} : (s : Setup) (P : World → Type κ) → (inRange s ≡ true → Invariant s P) → (xs : List Step) → AgreesThroughout s xs
+agrees-throughout s P v xs =
+    ⊎-elim (λ i. agrees-in-range s P (v i) i xs) (λ i. agrees-out-of-range s i xs) (true-or-false (inRange s))

@@ -1,25 +1,24 @@
 -- The ledger against the server's tables, and what one event changes.
 use Prim.Native.Nat.{ℕ, zero, suc, _+_, _<_, _≤_}
 use native.Mathlib.Omega.{arith}
-use mathlib.Core.Bool.{Bool, true, false, cond, not, _&&_}
-use mathlib.Core.List.{List, [], _∷_, _++_, map}
+use mathlib.Core.Bool.{Bool, true, false, cond}
+use mathlib.Core.List.{List, [], _∷_, map}
 use mathlib.Core.Logic.{⊎-elim}
 use mathlib.Core.Path.{_≡_, refl, sym, ap, _∙_}
 use lib.Dec.{eqb}
-use lib.ListN.{length, getD, set, replicate}
+use lib.ListN.{length}
 use lib.Seq.{getD-set-same, getD-set-other}
-use borrow.Author.Tests.{eqb-true, eq-eqb, ne-eqb}
-use Rattle.laws.specs.Choice.{same?, true-or-false, not-both}
+use borrow.Author.Tests.{eq-eqb, ne-eqb}
+use Rattle.laws.specs.Choice.{same?, true-or-false}
 use Rattle.laws.specs.Loop.{listFrom, countFrom}
 use Rattle.laws.specs.Each.{replicate-at}
 use Rattle.laws.specs.Count.{count-same, count-none, count-less, list-count}
 use Rattle.protocol.specs.declared.setup.Setup.{Setup}
-use Rattle.protocol.specs.declared.tables.Objects.{Objects}
 use Rattle.protocol.specs.declared.tables.Tables.{Tables}
 use Rattle.protocol.specs.Tables.{valueAt, standingAt, pendingAt, endAt, freshTables}
 use Rattle.protocol.specs.Writes.{latestEnd, opened, begun, posted, completed}
 use Rattle.protocol.specs.Server.{serverRestarted}
-use Rattle.protocol.specs.Ledger.{Event, accepted, completed as done, cutOff, Open, none, write, isOpen, openOr, Ledger, emptyLedger, updated, book, bookAll, openCount}
+use Rattle.protocol.specs.Ledger.{accepted, completed as done, cutOff, none, write, isOpen, Ledger, emptyLedger, updated, book, bookAll, openCount}
 use Rattle.protocol.specs.Agreement.{standingWrite}
 use Rattle.protocol.specs.Soundness.Steps.{Ranges}
 use Rattle.protocol.specs.Soundness.Shape.{Shape}

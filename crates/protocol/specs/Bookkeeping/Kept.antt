@@ -1,12 +1,11 @@
 -- Every accepted step keeps the ledger and the tables together.
-use Prim.Native.Nat.{ℕ, zero, suc, _+_, _<_, _≤_}
+use Prim.Native.Nat.{ℕ, zero, suc, _+_, _<_}
 use native.Mathlib.Omega.{arith}
-use mathlib.Core.Bool.{Bool, true, false, cond, _&&_}
+use mathlib.Core.Bool.{Bool, true, false, cond}
 use mathlib.Core.List.{List, [], _∷_, _++_, map}
-use mathlib.Core.Path.{_≡_, refl, sym, ap, _∙_}
-use lib.Dec.{ltb, leb, eqb, eqb·suc-zero}
-use lib.ListN.{length}
-use borrow.Author.Tests.{eqb-true, ltb-true}
+use mathlib.Core.Path.{_≡_, refl, _∙_}
+use lib.Dec.{ltb, leb, eqb·suc-zero}
+use borrow.Author.Tests.{ltb-true}
 use Rattle.laws.specs.Choice.{cond-keeps, and-true, not-both}
 use Rattle.laws.specs.Loop.{listFrom}
 use Rattle.protocol.specs.declared.message.Kind.{Kind}
@@ -16,9 +15,7 @@ use Rattle.protocol.specs.declared.message.Payload.{Payload}
 use Rattle.protocol.specs.declared.records.Copy.{Copy}
 use Rattle.protocol.specs.declared.records.Request.{Request}
 use Rattle.protocol.specs.declared.setup.Setup.{Setup}
-use Rattle.protocol.specs.declared.step.Answer.{Answer}
 use Rattle.protocol.specs.declared.step.Answer.the-variants.{Done, Shown, AskFirst, Delivered}
-use Rattle.protocol.specs.declared.step.Counted.{Counted}
 use Rattle.protocol.specs.declared.step.Decision.{Decision}
 use Rattle.protocol.specs.declared.step.Received.{Received}
 use Rattle.protocol.specs.declared.step.Step.{Step}
@@ -26,15 +23,15 @@ use Rattle.protocol.specs.declared.tables.Tables.{Tables}
 use Rattle.protocol.specs.Setup.{volumeOf}
 use Rattle.protocol.specs.Messages.{messageAt}
 use Rattle.protocol.specs.Tables.{seenAt, standingAt}
-use Rattle.protocol.specs.Writes.{Staged, unstaged, latestEnd, begun, ready, settled, settling, written, writeStaged, clockStaged}
-use Rattle.protocol.specs.Server.{noted, offered, volumeRenewed, objectRenewed, granted, lowestWaited, mustDrop, renewedBy, renewed, ackTaken, acked, ackStaged, dropTaken, dropped, ofVolume, dropStaged, readyIn, serverRestarted, stale, beingWritten}
+use Rattle.protocol.specs.Writes.{unstaged, latestEnd, begun, ready, settled, settling, written, writeStaged, clockStaged}
+use Rattle.protocol.specs.Server.{noted, offered, volumeRenewed, objectRenewed, granted, lowestWaited, mustDrop, renewedBy, renewed, ackTaken, acked, ackStaged, dropTaken, dropped, ofVolume, dropStaged, serverRestarted, stale, beingWritten}
 use Rattle.protocol.specs.Client.{showable, stands, grantTaken}
 use Rattle.protocol.specs.Sound.{kindSound}
-use Rattle.protocol.specs.Answers.{doneOrCompleted, answerNumber, answerValue, reported, completedAnswer}
+use Rattle.protocol.specs.Answers.{reported, completedAnswer}
 use Rattle.protocol.specs.Decide.{uncounted, kept, answered, counting, received, grantReceived, invalidateReceived, offerReceived, taken, performed, readDecided, askDecided, deliverDecided, restartDecided}
-use Rattle.protocol.specs.Ledger.{Event, accepted, completed as done, cutOff, shown, clocked, completing, receiptStaged, deliveryStaged, readEvents, happening, Ledger, book, bookAll}
+use Rattle.protocol.specs.Ledger.{Event, accepted, cutOff, shown, clocked, completing, receiptStaged, deliveryStaged, readEvents, happening, Ledger, book, bookAll}
 use Rattle.protocol.specs.Soundness.Steps.{Ranges, Accepted, by-kind, object-exists, place-exists, queue-fits, none-stands, clock-performed, read-performed, ask-performed, write-performed, deliver-performed, lose-performed, double-performed, server-performed, client-performed}
-use Rattle.protocol.specs.Soundness.Shape.{Shape, clock-shape, begun-shape, written-shape, taken-shape, acked-shape, dropped-shape}
+use Rattle.protocol.specs.Soundness.Shape.{Shape, clock-shape, written-shape, taken-shape, acked-shape, dropped-shape}
 use Rattle.protocol.specs.Soundness.Bounds.{Bounded, named-at}
 use Rattle.protocol.specs.Bookkeeping.Booked.{Booked, SameWrites, same-booked, begun-booked, cut-completes, restarted-booked}
 use Rattle.protocol.specs.Bookkeeping.Settled.{OpenEach, Settlement, StagedOn, settlingOf, settle, done-completes, ready-stands, due-stands}

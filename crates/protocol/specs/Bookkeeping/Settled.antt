@@ -2,14 +2,14 @@
 use Prim.Native.Nat.{ℕ, zero, suc, _+_, _<_, _≤_}
 use native.Mathlib.Omega.{arith}
 use mathlib.Core.Bool.{Bool, true, false, cond, not, _&&_, _||_}
-use mathlib.Core.List.{List, [], _∷_, _++_, map}
+use mathlib.Core.List.{List, [], _∷_, map}
 use mathlib.Core.Logic.{⊎-elim}
 use mathlib.Core.Path.{_≡_, refl, sym, ap, _∙_}
 use lib.Dec.{ltb}
-use lib.ListN.{length, getD, set}
+use lib.ListN.{length}
 use lib.Seq.{getD-set-other}
 use borrow.Author.Tests.{ltb-false}
-use Rattle.laws.specs.Choice.{same?, true-or-false, not-both, and-true, cond-keeps}
+use Rattle.laws.specs.Choice.{same?, not-both, and-true, cond-keeps}
 use Rattle.laws.specs.Loop.{foldFrom}
 use Rattle.laws.specs.Each.{cleared}
 use Rattle.laws.specs.Count.{fold-reaches}
@@ -20,7 +20,7 @@ use Rattle.protocol.specs.Setup.{volumeOf}
 use Rattle.protocol.specs.Tables.{standingAt, endAt}
 use Rattle.protocol.specs.Leases.{guardPassed, endOver}
 use Rattle.protocol.specs.Writes.{waited, ready, due, posted, completed, Staged, completeIf, settled, settling, clockStaged}
-use Rattle.protocol.specs.Ledger.{Event, completed as done, completing, isOpen, Ledger, book, bookAll}
+use Rattle.protocol.specs.Ledger.{completed as done, isOpen, Ledger, book, bookAll}
 use Rattle.protocol.specs.Soundness.Steps.{Ranges}
 use Rattle.protocol.specs.Soundness.Shape.{Shape, completed-shape}
 use Rattle.protocol.specs.Bookkeeping.Booked.{Booked, SameWrites, same-booked, standing-opened, completed-booked}

@@ -1,27 +1,26 @@
 -- What a step that is answered "shown" was: a read of a copy that may be shown.
-use Prim.Native.Nat.{ℕ, zero, suc, _+_, _*_, _<_, _≤_}
+use Prim.Native.Nat.{ℕ, _+_, _*_, _<_}
 use native.Mathlib.Omega.{arith}
 use mathlib.Core.Bool.{Bool, true, false, cond}
 use mathlib.Core.Path.{_≡_, refl, sym, ap, _∙_}
 use lib.Dec.{eqb}
 use lib.ListN.{getD}
-use Rattle.laws.specs.Choice.{cond-keeps, not-both}
-use Rattle.protocol.specs.declared.message.Message.{Message}
+use Rattle.laws.specs.Choice.{cond-keeps}
 use Rattle.protocol.specs.declared.records.Copy.{Copy}
 use Rattle.protocol.specs.declared.records.Request.{Request}
 use Rattle.protocol.specs.declared.setup.Setup.{Setup}
 use Rattle.protocol.specs.declared.step.Answer.{Answer}
-use Rattle.protocol.specs.declared.step.Answer.the-variants.{Done, Shown, AskFirst, Delivered}
+use Rattle.protocol.specs.declared.step.Answer.the-variants.{Done, Shown, AskFirst}
 use Rattle.protocol.specs.declared.step.Decision.{Decision}
 use Rattle.protocol.specs.declared.step.Step.{Step}
 use Rattle.protocol.specs.declared.tables.Tables.{Tables}
 use Rattle.protocol.specs.Messages.{messageAt}
-use Rattle.protocol.specs.Tables.{noCopy, valueAt}
+use Rattle.protocol.specs.Tables.{noCopy}
 use Rattle.protocol.specs.Writes.{settled, writeStaged, clockStaged}
 use Rattle.protocol.specs.Client.{showable}
 use Rattle.protocol.specs.Answers.{answerNumber, doneOrCompleted, isRefused, completedAnswer}
 use Rattle.protocol.specs.Decide.{received, taken, performed, answered, kept, readDecided, askDecided, deliverDecided, restartDecided}
-use Rattle.protocol.specs.World.{World, target, targetAt, answerOf}
+use Rattle.protocol.specs.World.{World, target, answerOf}
 use Rattle.protocol.specs.Ledger.{accepts}
 use Rattle.protocol.specs.Soundness.Steps.{Accepted, accepted, copyOf, requestOf, accepted-answer, by-kind, client-exists, object-exists, clock-performed, read-performed, ask-performed, write-performed, deliver-performed, lose-performed, double-performed, server-performed, client-performed}
 use Rattle.protocol.specs.Soundness.Answered.{accepted-of}

@@ -1,6 +1,5 @@
 -- One run worked through: a write completes at once, one by ACK, one by its latest end, one is cut off, and reads show what was completed last.
 use Prim.Native.Nat.{ℕ}
-use mathlib.Core.Bool.{Bool}
 use mathlib.Core.List.{List, [], _∷_, map}
 use mathlib.Core.Path.{_≡_, refl}
 use lib.ListN.{replicate}
@@ -8,7 +7,6 @@ use Rattle.laws.specs.Loop.{foldFrom, anyFrom, allFrom, firstFrom, listFrom}
 use Rattle.laws.specs.Lists.{removeAt}
 use Rattle.laws.specs.Store.{storeEach}
 use Rattle.protocol.specs.declared.setup.Setup.{Setup}
-use Rattle.protocol.specs.declared.step.Answer.{Answer}
 use Rattle.protocol.specs.declared.step.Step.{Step}
 use Rattle.protocol.specs.Setup.{inRange}
 use Rattle.protocol.specs.Messages.{pushed, removed}
@@ -21,7 +19,7 @@ use Rattle.protocol.specs.Sound.{queueSound, tablesSound, copiesSound, r
 use Rattle.protocol.specs.Answers.{answerNumber, answerValue}
 use Rattle.protocol.specs.Gate.{known, exists, timely, vacant, growable, refusalOfStep, refusal}
 use Rattle.protocol.specs.Decide.{grantReceived, invalidateReceived, offerReceived, received, readDecided, askDecided, deliverDecided, performed, decided}
-use Rattle.protocol.specs.World.{World, freshWorld, target, decision, stepped, answers}
+use Rattle.protocol.specs.World.{freshWorld, target, decision, stepped, answers}
 use Rattle.protocol.specs.Ledger.{Event, accepted, completed as done, cutOff, shown, clocked, happening, events}
 use Rattle.protocol.specs.History.{told, historyFrom, history}
 

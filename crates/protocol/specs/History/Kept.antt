@@ -1,19 +1,17 @@
 -- Every step of a run makes lawful history.
-use Prim.Native.Nat.{ℕ, zero, suc, _+_, _<_, _≤_}
+use Prim.Native.Nat.{ℕ, _+_, _<_}
 use native.Mathlib.Omega.{arith}
 use mathlib.Core.Bool.{Bool, true, false, cond}
-use mathlib.Core.List.{List, [], _∷_, _++_, map}
+use mathlib.Core.List.{List, [], _∷_, _++_}
 use mathlib.Core.Logic.{⊎-elim}
 use mathlib.Core.Path.{_≡_, refl, sym, ap, _∙_}
-use lib.Dec.{ltb, eqb}
-use borrow.Author.Tests.{eq-eqb}
+use lib.Dec.{ltb}
 use Rattle.laws.specs.Choice.{true-or-false, and-true}
-use Rattle.laws.specs.Loop.{listFrom, countFrom}
+use Rattle.laws.specs.Loop.{listFrom}
 use Rattle.laws.specs.Count.{count-same}
 use Rattle.protocol.specs.declared.records.Copy.{Copy}
 use Rattle.protocol.specs.declared.records.Request.{Request}
 use Rattle.protocol.specs.declared.setup.Setup.{Setup}
-use Rattle.protocol.specs.declared.step.Decision.{Decision}
 use Rattle.protocol.specs.declared.step.Step.{Step}
 use Rattle.protocol.specs.declared.tables.Tables.{Tables}
 use Rattle.protocol.specs.Setup.{inRange}
@@ -25,19 +23,19 @@ use Rattle.protocol.specs.Sound.{kindSound}
 use Rattle.protocol.specs.Answers.{reported}
 use Rattle.protocol.specs.Decide.{taken}
 use Rattle.protocol.specs.World.{World, freshWorld, stepped, answerOf, ran, answers}
-use Rattle.protocol.specs.Ledger.{Event, accepted, completed, cutOff, shown, clocked, completing, deliveryStaged, readEvents, happening, accepts, events, Open, none, write, isOpen, Ledger, emptyLedger, book, bookAll, openCount}
+use Rattle.protocol.specs.Ledger.{Event, accepted, shown, clocked, completing, deliveryStaged, readEvents, happening, accepts, events, none, isOpen, Ledger, openCount}
 use Rattle.protocol.specs.Agreement.{standingWrite}
-use Rattle.protocol.specs.Soundness.Steps.{Accepted, accepted as answered-yes, Ranges, ranges, setup-in-range, copyOf, requestOf, by-kind, client-exists, object-exists, place-exists, queue-fits, none-stands}
+use Rattle.protocol.specs.Soundness.Steps.{accepted as answered-yes, Ranges, ranges, setup-in-range, copyOf, requestOf, by-kind, client-exists, object-exists, place-exists, queue-fits, none-stands}
 use Rattle.protocol.specs.Soundness.Shape.{Shape, taken-shape}
 use Rattle.protocol.specs.Soundness.Bounds.{Bounded, named-at}
 use Rattle.protocol.specs.Soundness.Question.{SoundWorld, stepped-sound, fresh-sound}
 use Rattle.protocol.specs.Bookkeeping.Booked.{Booked, same-booked, vacant-opened, begun-booked, fresh-booked}
-use Rattle.protocol.specs.Bookkeeping.Settled.{OpenEach, settlingOf, settle, clock-ended}
+use Rattle.protocol.specs.Bookkeeping.Settled.{settlingOf, settle, clock-ended}
 use Rattle.protocol.specs.Bookkeeping.Kept.{objects-same, clock-on, write-on, received-settles, clock-happening, read-happening, ask-happening, write-happening, deliver-happening, lose-happening, double-happening, server-happening, client-happening}
-use Rattle.protocol.specs.Bookkeeping.Shown.{copyAt, copy-read}
-use Rattle.protocol.specs.Bookkeeping.Agreed.{ReadsCurrent, opened-write, step-booked}
-use Rattle.protocol.specs.History.{told, historyFrom, history, lastCompleted, openIn, isAcceptance, isCompletion, isCutOff, howOften, reportedIn, stillOpen, ShowsLast, EndsInTime, AddsUp}
-use Rattle.protocol.specs.History.Lawful.{Lawful, LawfulAll, ledgerOf, ledger-told, told-append, ledger-opened, ledger-posted, ledger-tallies, completions-lawful, cuts-lawful, shows-last, ends-in-time}
+use Rattle.protocol.specs.Bookkeeping.Shown.{copy-read}
+use Rattle.protocol.specs.Bookkeeping.Agreed.{Invariant, ReadsCurrent, opened-write, step-booked}
+use Rattle.protocol.specs.History.{told, historyFrom, history, lastCompleted, openIn, isCompletion, howOften, reportedIn, stillOpen, AddsUp, HistoryAgrees}
+use Rattle.protocol.specs.History.Lawful.{LawfulAll, ledgerOf, ledger-told, told-append, ledger-opened, ledger-posted, ledger-tallies, completions-lawful, cuts-lawful, shows-last, ends-in-time}
 
 module _ (s : Setup) (rs : Ranges s) (t : Tables) (k : Shape t) (b : Bounded s t) (past : List Event) (h : Booked s t (ledgerOf past)) (a : LawfulAll s past) where
   clock-lawful : (T : ℕ) → LawfulAll s (told (completing s (clockStaged s t T) ++ (clocked T ∷ [])) past)
@@ -111,70 +109,72 @@ module _ (s : Setup) (w : World) (x : Step) (past : List Event) (k : SoundWorld 
   unfolding events told
   step-lawful = ⊎-elim (λ e. rw e (accepted-lawful e)) (λ e. rw e a) (true-or-false (accepts s w x))
 
-  step-ledger : Booked s (stepped s w x .tables) (ledgerOf (told (events s w x) past))
-  step-ledger = rw (ledger-told (events s w x) past) at (step-booked s w x (ledgerOf past) k h .keeps)
-
-  -- as many completions are told as the step reports
-  step-told : howOften isCompletion (told (events s w x) past) ≡ howOften isCompletion past + reported (answerOf s w x)
-  step-told =
-      sym (ledger-tallies (told (events s w x) past) .completes)
-      ∙ sym (ap (λ (l : Ledger). l .completes) (ledger-told (events s w x) past))
-      ∙ step-booked s w x (ledgerOf past) k h .reports
-      ∙ omega (arith, ledger-tallies past .completes)
-
 -- ---- a run
--- what stands at the end of a run with history h
+-- the history so far is lawful, and its ledger goes with the tables
 pub record Remembered (s : Setup) (w : World) (h : List Event) : Type 0 where
   pub lawful : LawfulAll s h
   pub booked : Booked s (w .tables) (ledgerOf h)
 
-module _ {κ} (s : Setup) (P : World → Type κ)
-    (kept : (w : World) (x : Step) → SoundWorld s w → P w → P (stepped s w x))
-    (current : (w : World) → SoundWorld s w → P w → ReadsCurrent s w) where
+module _ (s : Setup) (w : World) (x : Step) (past : List Event) (k : SoundWorld s w) where
+  step-remembered : ReadsCurrent s w → Remembered s w past → Remembered s (stepped s w x) (told (events s w x) past)
+  step-remembered c r = record {
+    lawful = step-lawful s w x past k c (r .booked) (r .lawful);
+    booked = rw (ledger-told (events s w x) past) at (step-booked s w x (ledgerOf past) k (r .booked) .keeps);
+  }
+
+  -- as many completions are told as the step reports
+  step-told : Remembered s w past → howOften isCompletion (told (events s w x) past) ≡ howOften isCompletion past + reported (answerOf s w x)
+  step-told r =
+      sym (ledger-tallies (told (events s w x) past) .completes)
+      ∙ sym (ap (λ (l : Ledger). l .completes) (ledger-told (events s w x) past))
+      ∙ step-booked s w x (ledgerOf past) k (r .booked) .reports
+      ∙ omega (arith, ledger-tallies past .completes)
+
+fresh-remembered : (s : Setup) → Remembered s (freshWorld s) []
+unfolding LawfulAll ledgerOf
+fresh-remembered s = record { lawful = tt; booked = fresh-booked s }
+
+module _ {κ} (s : Setup) (P : World → Type κ) (v : Invariant s P) where
   run-remembered : (w : World) (past : List Event) (xs : List Step) → SoundWorld s w → P w → Remembered s w past → Remembered s (ran s w xs) (historyFrom s w past xs)
   unfolding ran historyFrom
   run-remembered w past [] k p r = r
   run-remembered w past (x ∷ xs) k p r =
-      run-remembered (stepped s w x) (told (events s w x) past) xs (stepped-sound s w x k) (kept w x k p)
-      (record { lawful = step-lawful s w x past k (current w k p) (r .booked) (r .lawful); booked = step-ledger s w x past k (current w k p) (r .booked) (r .lawful) })
-
-  pub remembered : inRange s ≡ true → P (freshWorld s) → (xs : List Step) → Remembered s (ran s (freshWorld s) xs) (history s xs)
-  unfolding LawfulAll ledgerOf
-  remembered i p xs = run-remembered (freshWorld s) [] xs (fresh-sound s i) p (record { lawful = tt; booked = fresh-booked s })
+      run-remembered (stepped s w x) (told (events s w x) past) xs (stepped-sound s w x k) (v .kept w x k p) (step-remembered s w x past k (v .current w k p) r)
 
   run-told : (w : World) (past : List Event) (xs : List Step) → SoundWorld s w → P w → Remembered s w past
       → howOften isCompletion (historyFrom s w past xs) ≡ howOften isCompletion past + reportedIn (answers s w xs)
   unfolding historyFrom answers reportedIn
   run-told w past [] k p r = omega arith
   run-told w past (x ∷ xs) k p r =
-      let c = current w k p in
-      run-told (stepped s w x) (told (events s w x) past) xs (stepped-sound s w x k) (kept w x k p)
-      (record { lawful = step-lawful s w x past k c (r .booked) (r .lawful); booked = step-ledger s w x past k c (r .booked) (r .lawful) })
-      ∙ omega (arith, step-told s w x past k c (r .booked) (r .lawful))
+      run-told (stepped s w x) (told (events s w x) past) xs (stepped-sound s w x k) (v .kept w x k p) (step-remembered s w x past k (v .current w k p) r)
+      ∙ omega (arith, step-told s w x past k r)
 
-  -- "the numbers of writes completed that the steps reported add up to completed"
-  pub reports-add-up : inRange s ≡ true → P (freshWorld s) → (xs : List Step) → reportedIn (answers s (freshWorld s) xs) ≡ howOften isCompletion (history s xs)
-  unfolding LawfulAll ledgerOf howOften
-  reports-add-up i p xs =
-      omega (arith, run-told (freshWorld s) [] xs (fresh-sound s i) p (record { lawful = tt; booked = fresh-booked s }))
-
--- ---- what a remembered run says, in the history's words
+-- ---- in the history's words
 module _ (s : Setup) (w : World) (h : List Event) (r : Remembered s w h) where
-  pub shows-the-last : ShowsLast h
-  shows-the-last = shows-last s h (r .lawful)
-
-  pub all-end-in-time : EndsInTime h
-  all-end-in-time = ends-in-time s h (r .lawful)
-
-  pub adds-up : AddsUp s h
+  adds-up : AddsUp s h
   adds-up =
       let t = ledger-tallies h in
       let open-now : openCount s (ledgerOf h) ≡ stillOpen s h = count-same _ _ 0 (s .objects) (λ o p q. ap isOpen (ledger-opened h o)) in
       omega (arith, r .booked .tallies, t, open-now)
 
-  -- each object's value in the server's tables is that of the write completed last, and the standing write is the one still open
-  pub values-are-last : (o : ℕ) → o < s .objects → valueAt (w .tables) o ≡ lastCompleted o h
+  values-are-last : (o : ℕ) → o < s .objects → valueAt (w .tables) o ≡ lastCompleted o h
   values-are-last o p = r .booked .values o p ∙ ledger-posted s h (r .lawful) o
 
-  pub writes-are-open : (o : ℕ) → o < s .objects → standingWrite (w .tables) o ≡ openIn o h
+  writes-are-open : (o : ℕ) → o < s .objects → standingWrite (w .tables) o ≡ openIn o h
   writes-are-open o p = r .booked .writes o p ∙ ledger-opened h o
+
+pub history-agrees {κ} : (s : Setup) (P : World → Type κ) → Invariant s P → inRange s ≡ true → (xs : List Step) → HistoryAgrees s xs
+unfolding howOften
+history-agrees s P v i xs =
+    let k = fresh-sound s i in
+    let r = run-remembered s P v (freshWorld s) [] xs k (v .fresh) (fresh-remembered s) in
+    let w = ran s (freshWorld s) xs in
+    let h = history s xs in
+    record {
+      shows = shows-last s h (r .lawful);
+      ends = ends-in-time s h (r .lawful);
+      tallies = adds-up s w h r;
+      reports = omega (arith, run-told s P v (freshWorld s) [] xs k (v .fresh) (fresh-remembered s));
+      values = values-are-last s w h r;
+      writes = writes-are-open s w h r;
+    }

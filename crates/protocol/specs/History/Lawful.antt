@@ -3,11 +3,10 @@ use Prim.Native.Nat.{ℕ, zero, suc, _+_, _<_, _≤_}
 use native.Mathlib.Omega.{arith}
 use mathlib.Core.Bool.{Bool, true, false, cond}
 use mathlib.Core.List.{List, [], _∷_, _++_, map}
-use mathlib.Core.Logic.{⊎-elim}
 use mathlib.Core.Path.{_≡_, refl, sym, ap, _∙_}
 use lib.Dec.{eqb}
 use borrow.Author.Tests.{eqb-true, eq-eqb}
-use Rattle.laws.specs.Choice.{cond-keeps, true-or-false, not-both}
+use Rattle.laws.specs.Choice.{not-both}
 use Rattle.protocol.specs.declared.setup.Setup.{Setup}
 use Rattle.protocol.specs.Ledger.{Event, accepted, completed, cutOff, shown, clocked, Open, none, write, isOpen, openOr, Ledger, emptyLedger, book, bookAll}
 use Rattle.protocol.specs.Bookkeeping.Settled.{OpenEach}

@@ -22,7 +22,7 @@ use Rattle.protocol.specs.World.{World}
 use Rattle.protocol.specs.Soundness.Steps.{Ranges}
 use Rattle.protocol.specs.Soundness.Shape.{Shape}
 use Rattle.protocol.specs.Safety.Invariant.{Inv, Sent, Stands, from, copyAt, Covered, Acknowledges}
-use Rattle.protocol.specs.Safety.Tools.{object-set, updated-other, zero-dead}
+use Rattle.protocol.specs.Safety.Tools.{object-set, updated-other, zero-dead, client-fits, object-fits}
 use Rattle.protocol.specs.Safety.Replaced.{withTables}
 
 pub ack-taken : (s : Setup) (t : Tables) (o e w : ℕ) → ackTaken s t o e w ≡ true → Acknowledges s (t .volumes .epoch) (t .objects .version) (t .objects .standing) o e w
@@ -53,19 +53,13 @@ module _ (s : Setup) (range : Ranges s) (w : World) (inv : Inv s w) (shape : Sha
   abbrev waiting : List Bool
   waiting = set (w .tables .holders .waiting) (byObject d o) false
 
-  below-32 : (i : ℕ) → i < s .objects → i < 32
-  below-32 i h = let b = range .objects .1 in omega arith
-
-  h16 : d < 16
-  h16 = let b = range .clients .1 in omega arith
-
   at-lease : (k i : ℕ) → i < s .objects
       → ((k ≡ d) × (i ≡ o) × (getD lease (byObject k i) 0 ≡ 0)) ⊎ ((k ≡ d → i ≡ o → ⊥) × (getD lease (byObject k i) 0 ≡ getD (w .tables .holders .lease) (byObject k i) 0))
-  at-lease k i h = object-set (w .tables .holders .lease) 0 0 d o (shape .holders .lease) h16 (below-32 o ho) k i (below-32 i h)
+  at-lease k i h = object-set (w .tables .holders .lease) 0 0 d o (shape .holders .lease) (client-fits range hd) (object-fits range ho) k i (object-fits range h)
 
   at-waiting : (k i : ℕ) → i < s .objects
       → ((k ≡ d) × (i ≡ o) × (getD waiting (byObject k i) false ≡ false)) ⊎ ((k ≡ d → i ≡ o → ⊥) × (getD waiting (byObject k i) false ≡ getD (w .tables .holders .waiting) (byObject k i) false))
-  at-waiting k i h = object-set (w .tables .holders .waiting) false false d o (shape .holders .waiting) h16 (below-32 o ho) k i (below-32 i h)
+  at-waiting k i h = object-set (w .tables .holders .waiting) false false d o (shape .holders .waiting) (client-fits range hd) (object-fits range ho) k i (object-fits range h)
 
   held-not : (k i : ℕ) → k ≡ d → i ≡ o → copyAt s (w .copies) k i .version ≡ 0
   held-not k i p q = rw (p, q) gone

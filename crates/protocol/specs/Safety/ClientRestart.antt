@@ -15,6 +15,7 @@ use Rattle.protocol.specs.World.{World}
 use Rattle.protocol.specs.Soundness.Steps.{Ranges}
 use Rattle.protocol.specs.Soundness.Shape.{WorldShape}
 use Rattle.protocol.specs.Safety.Invariant.{Inv, copyAt, requestAt}
+use Rattle.protocol.specs.Safety.Tools.{volume-fits}
 use Rattle.protocol.specs.Safety.Requests.{requesting, request-ends, ended-idle}
 use Rattle.protocol.specs.Safety.Taking.{Others, Own, covered-empty, taken}
 use Rattle.protocol.specs.Safety.Sweeping.{swept-own, swept-other}
@@ -26,22 +27,19 @@ module _ (s : Setup) (range : Ranges s) (w : World) (inv : Inv s w) (shape : Wor
   abbrev copies : List Copy
   copies = sweptAll s Erase (d * s .objects) (w .copies)
 
-  below-8 : (u : ℕ) → u < s .volumes → u < 8
-  below-8 u h = let b = range .volumes .1 in omega arith
-
   here : d < length (w .requests)
   here = rw (shape .requests) hd
 
   zero-own : (l : List ℕ) → length l ≡ 128 → (u : ℕ) → u < s .volumes → getD (zeroed l) (byVolume d u) 0 ≡ 0
   zero-own l n u h =
-      let a = below-8 u h in
+      let a = volume-fits range h in
       let b = range .clients .1 in
       store-hit always (byVolume d) (λ (v : ℕ). 0) (λ i j e. omega arith) l (s .volumes) u 0 h refl (omega arith)
 
   zero-other : (l : List ℕ) (k u : ℕ) → (k ≡ d → ⊥) → u < s .volumes → getD (zeroed l) (byVolume k u) 0 ≡ getD l (byVolume k u) 0
   zero-other l k u m h =
-      let a = below-8 u h in
-      store-other always (byVolume d) (λ (v : ℕ). 0) l (s .volumes) (byVolume k u) 0 (λ i j c e. let b = below-8 i j in m (omega arith))
+      let a = volume-fits range h in
+      store-other always (byVolume d) (λ (v : ℕ). 0) l (s .volumes) (byVolume k u) 0 (λ i j c e. let b = volume-fits range j in m (omega arith))
 
   gone : (k : ℕ) → k < s .objects → copyAt s copies d k ≡ noCopy
   unfolding swept

@@ -21,7 +21,7 @@ use Rattle.protocol.specs.World.{World}
 use Rattle.protocol.specs.Soundness.Steps.{Ranges}
 use Rattle.protocol.specs.Soundness.Shape.{Shape}
 use Rattle.protocol.specs.Safety.Invariant.{Inv, Stands, copyAt, Covered, Answers, Empty}
-use Rattle.protocol.specs.Safety.Tools.{volume-set, zero-dead, zero-dead-client}
+use Rattle.protocol.specs.Safety.Tools.{volume-set, zero-dead, zero-dead-client, client-fits, object-fits, volume-fits}
 use Rattle.protocol.specs.Safety.Replaced.{withTables}
 use Rattle.protocol.specs.Safety.Sending.{DroppedClause}
 use Rattle.protocol.specs.Safety.Taking.{covered-empty}
@@ -63,20 +63,11 @@ module _ (s : Setup) (range : Ranges s) (w : World) (inv : Inv s w) (shape : Sha
   hv : v < s .volumes
   hv = ok .exists
 
-  below-8 : (u : ℕ) → u < s .volumes → u < 8
-  below-8 u h = let b = range .volumes .1 in omega arith
-
-  below-32 : (i : ℕ) → i < s .objects → i < 32
-  below-32 i h = let b = range .objects .1 in omega arith
-
-  h16 : d < 16
-  h16 = let b = range .clients .1 in omega arith
-
   -- the fields per client and volume
   module _ {A : Type 0} (l : List A) (x y : A) (full : length l ≡ 128) where
     at-volume : (k u : ℕ) → u < s .volumes
         → ((k ≡ d) × (u ≡ v) × (getD (set l (byVolume d v) x) (byVolume k u) y ≡ x)) ⊎ ((k ≡ d → u ≡ v → ⊥) × (getD (set l (byVolume d v) x) (byVolume k u) y ≡ getD l (byVolume k u) y))
-    at-volume k u h = volume-set l x y d v full h16 (below-8 v hv) k u (below-8 u h)
+    at-volume k u h = volume-set l x y d v full (client-fits range hd) (volume-fits range hv) k u (volume-fits range h)
 
   -- the fields per client and object
   module _ {A : Type 0} (l : List A) (x y : A) (full : length l ≡ 512) where
@@ -93,15 +84,15 @@ module _ (s : Setup) (range : Ranges s) (w : World) (inv : Inv s w) (shape : Sha
       where
         hit : (i : ℕ) → i < s .objects → volumeOf s i ≡ v → getD cleared (byObject d i) y ≡ x
         hit i h q =
-            let a = below-32 i h in
+            let a = object-fits range h in
             let b = range .clients .1 in
             store-hit (ofVolume s v) (byObject d) (λ (o : ℕ). x) (λ i j z. omega arith) l (s .objects) i y h (eq-eqb _ _ q) (omega arith)
 
         off : (k i : ℕ) → i < s .objects → (k ≡ d → volumeOf s i ≡ v → ⊥) → getD cleared (byObject k i) y ≡ getD l (byObject k i) y
         off k i h m =
-            let a = below-32 i h in
+            let a = object-fits range h in
             store-other (ofVolume s v) (byObject d) (λ (o : ℕ). x) l (s .objects) (byObject k i) y
-            (λ j g c z. let b = below-32 j g in let p : k ≡ d = omega arith in let q : i ≡ j = omega arith in m p (ap (volumeOf s) q ∙ eqb-true _ _ c))
+            (λ j g c z. let b = object-fits range g in let p : k ≡ d = omega arith in let q : i ≡ j = omega arith in m p (ap (volumeOf s) q ∙ eqb-true _ _ c))
 
   abbrev lease : List ℕ
   lease = cleared (w .tables .holders .lease) 0 0 (shape .holders .lease)

@@ -15,27 +15,12 @@ use Rattle.protocol.specs.Tables.{byVolume, byObject, noCopy, noRequest,
 use Rattle.protocol.specs.World.{World, freshWorld}
 use Rattle.protocol.specs.Soundness.Steps.{Ranges}
 use Rattle.protocol.specs.Safety.Invariant.{Inv, Sent, copyAt, requestAt}
-use Rattle.protocol.specs.Safety.Tools.{row-below}
+use Rattle.protocol.specs.Safety.Tools.{row-below, nothing-stands, object-fits, volume-fits, zero-holder, zero-session}
 use Rattle.protocol.specs.Safety.Taking.{covered-empty}
 
 module _ (s : Setup) (range : Ranges s) where
   all-same : (n i x : ℕ) → i < n → _≡_ {A = ℕ} (getD (replicate n x) i 0) x
   all-same n i x h = getD-replicate {A = ℕ} n i x 0 h
-
-  zero-by-volume : (d v : ℕ) → d < s .clients → v < s .volumes → _≡_ {A = ℕ} (getD (replicate 128 0) (byVolume d v) 0) 0
-  zero-by-volume d v hd hv = let a = range .clients .1 in let b = range .volumes .1 in all-same 128 (byVolume d v) 0 (omega arith)
-
-  zero-by-object : (d o : ℕ) → d < s .clients → o < s .objects → _≡_ {A = ℕ} (getD (replicate 512 0) (byObject d o) 0) 0
-  zero-by-object d o hd ho = let a = range .clients .1 in let b = range .objects .1 in all-same 512 (byObject d o) 0 (omega arith)
-
-  volumes-in : (v : ℕ) → v < s .volumes → v < 8
-  volumes-in v h = let b = range .volumes .1 in omega arith
-
-  objects-in : (o : ℕ) → o < s .objects → o < 32
-  objects-in o h = let b = range .objects .1 in omega arith
-
-  none-stands : {A : Type 0} (o : ℕ) → o < s .objects → getD (replicate 32 false) o false ≡ true → A
-  none-stands o h e = not-both e (getD-replicate {A = Bool} 32 o false false (objects-in o h))
 
   no-copy : (d o : ℕ) → d < s .clients → o < s .objects → copyAt s (freshWorld s .copies) d o ≡ noCopy
   no-copy d o hd ho = getD-replicate {A = Copy} (s .clients * s .objects) (d * s .objects + o) noCopy noCopy (row-below (s .objects) d (s .clients) o hd ho)
@@ -53,25 +38,25 @@ module _ (s : Setup) (range : Ranges s) where
   unfolding freshTables
   fresh-inv = record {
     bounds = record {
-      guards = λ v h. rw (all-same 8 v 0 (volumes-in v h)) (omega arith);
-      volumes = λ v h. rw (all-same 8 v 0 (volumes-in v h)) (omega arith);
-      sessions = λ d v hd hv. rw (zero-by-volume d v hd hv) (omega arith);
-      objects = λ o h. rw (all-same 32 o 0 (objects-in o h)) (omega arith);
-      leases = λ d o hd ho. rw (zero-by-object d o hd ho) (omega arith);
+      guards = λ v h. rw (all-same 8 v 0 (volume-fits range h)) (omega arith);
+      volumes = λ v h. rw (all-same 8 v 0 (volume-fits range h)) (omega arith);
+      sessions = λ d v hd hv. rw (zero-session range d v hd hv) (omega arith);
+      objects = λ o h. rw (all-same 32 o 0 (object-fits range h)) (omega arith);
+      leases = λ d o hd ho. rw (zero-holder range d o hd ho) (omega arith);
     };
-    epochs = λ d v hd hv. rw (zero-by-volume d v hd hv) (omega arith);
+    epochs = λ d v hd hv. rw (zero-session range d v hd hv) (omega arith);
     numbers = record {
       last = λ d h e. not-both (rw (no-request d h) at e) refl;
       past = λ d h. let a = range .clients .1 in rw (all-same 16 d 0 (omega arith), no-request d h) (omega arith);
     };
     versions = record {
-      positive = λ o h. rw (all-same 32 o 1 (objects-in o h)) (omega arith);
+      positive = λ o h. rw (all-same 32 o 1 (object-fits range h)) (omega arith);
       reached = λ d o hd ho. rw (no-version d o hd ho) (omega arith);
-      values = λ d o hd ho e. let z = sym (no-version d o hd ho) ∙ e ∙ all-same 32 o 1 (objects-in o ho) in absurd (omega arith);
+      values = λ d o hd ho e. let z = sym (no-version d o hd ho) ∙ e ∙ all-same 32 o 1 (object-fits range ho) in absurd (omega arith);
     };
-    offers = λ d v hd hv m. absurd (m (zero-by-volume d v hd hv));
-    writes = record { guards = λ o h a. none-stands o h a; waits = λ d o hd ho a b. none-stands o ho a; others = λ d o hd ho a b. none-stands o ho a };
-    views = λ d v hd hv. covered-empty s _ d v _ _ _ _ _ _ _ _ _ _ (zero-by-volume d v hd hv) (λ o i j a b. a (no-version d o hd i));
+    offers = λ d v hd hv m. absurd (m (zero-session range d v hd hv));
+    writes = record { guards = λ o h a. nothing-stands range o h a; waits = λ d o hd ho a b. nothing-stands range o ho a; others = λ d o hd ho a b. nothing-stands range o ho a };
+    views = λ d v hd hv. covered-empty s _ d v _ _ _ _ _ _ _ _ _ _ (zero-session range d v hd hv) (λ o i j a b. a (no-version d o hd i));
     clients = λ m z. none-sent m z;
     renews = λ d o n e v z. none-sent _ z;
     grants = λ d o n x e v y p z. none-sent _ z;

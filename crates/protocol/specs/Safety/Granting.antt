@@ -21,7 +21,7 @@ use Rattle.protocol.specs.World.{World}
 use Rattle.protocol.specs.Soundness.Steps.{Ranges}
 use Rattle.protocol.specs.Soundness.Shape.{WorldShape}
 use Rattle.protocol.specs.Safety.Invariant.{Inv, Sent, Stands, from, copyAt, requestAt, Covered, ViewOk, Empty, Answers, Acknowledges, NamesHeld, PayloadOk, GrantOk}
-use Rattle.protocol.specs.Safety.Tools.{volume-at, volume-off, copy-at, copy-off, updated-same, updated-other}
+use Rattle.protocol.specs.Safety.Tools.{volume-at, volume-off, copy-at, copy-off, updated-same, updated-other, client-fits, volume-fits}
 use Rattle.protocol.specs.Safety.Sending.{GrantClause}
 use Rattle.protocol.specs.Safety.Requests.{requesting, request-ends, ended-idle}
 use Rattle.protocol.specs.Safety.Taking.{Others, Own, covered-same, seeing, taken}
@@ -57,12 +57,6 @@ module _ (s : Setup) (range : Ranges s) (w : World) (inv : Inv s w) (shape : Wor
   hv : volumeOf s o < 8
   hv = let a = range .within o (ok .exists) in let b = range .volumes .1 in omega arith
 
-  h16 : d < 16
-  h16 = let b = range .clients .1 in omega arith
-
-  below-8 : (u : ℕ) → u < s .volumes → u < 8
-  below-8 u h = let b = range .volumes .1 in omega arith
-
   here : d < length (w .requests)
   here = rw (shape .requests) hd
 
@@ -73,21 +67,21 @@ module _ (s : Setup) (range : Ranges s) (w : World) (inv : Inv s w) (shape : Wor
   this-copy k q = copy-at s (w .copies) new d o d k (shape .copies) hd ho refl q
 
   this-known : (u : ℕ) → u ≡ volumeOf s o → getD known (byVolume d u) 0 ≡ e
-  this-known u q = volume-at (w .tables .views .epoch) e 0 d (volumeOf s o) d u (shape .tables .views .epoch) h16 hv refl q
+  this-known u q = volume-at (w .tables .views .epoch) e 0 d (volumeOf s o) d u (shape .tables .views .epoch) (client-fits range hd) hv refl q
 
   this-expiry : (u : ℕ) → u ≡ volumeOf s o → getD expiry (byVolume d u) 0 ≡ x
-  this-expiry u q = volume-at (w .tables .views .expiry) x 0 d (volumeOf s o) d u (shape .tables .views .expiry) h16 hv refl q
+  this-expiry u q = volume-at (w .tables .views .expiry) x 0 d (volumeOf s o) d u (shape .tables .views .expiry) (client-fits range hd) hv refl q
 
   other-known : (u : ℕ) → u < s .volumes → (u ≡ volumeOf s o → ⊥) → getD known (byVolume d u) 0 ≡ getD (w .tables .views .epoch) (byVolume d u) 0
-  other-known u h m = volume-off (w .tables .views .epoch) e 0 d (volumeOf s o) d u hv (below-8 u h) (λ a b. m b)
+  other-known u h m = volume-off (w .tables .views .epoch) e 0 d (volumeOf s o) d u hv (volume-fits range h) (λ a b. m b)
 
   other-expiry : (u : ℕ) → u < s .volumes → (u ≡ volumeOf s o → ⊥) → getD expiry (byVolume d u) 0 ≡ getD (w .tables .views .expiry) (byVolume d u) 0
-  other-expiry u h m = volume-off (w .tables .views .expiry) x 0 d (volumeOf s o) d u hv (below-8 u h) (λ a b. m b)
+  other-expiry u h m = volume-off (w .tables .views .expiry) x 0 d (volumeOf s o) d u hv (volume-fits range h) (λ a b. m b)
 
   others : Others s d (w .tables .views .epoch) (w .tables .views .expiry) known expiry (w .copies) copies
   others = record {
-    known = λ k u m h. volume-off (w .tables .views .epoch) e 0 d (volumeOf s o) k u hv (below-8 u h) (λ a b. m a);
-    expiry = λ k u m h. volume-off (w .tables .views .expiry) x 0 d (volumeOf s o) k u hv (below-8 u h) (λ a b. m a);
+    known = λ k u m h. volume-off (w .tables .views .epoch) e 0 d (volumeOf s o) k u hv (volume-fits range h) (λ a b. m a);
+    expiry = λ k u m h. volume-off (w .tables .views .expiry) x 0 d (volumeOf s o) k u hv (volume-fits range h) (λ a b. m a);
     copies = λ k i m h. copy-off s (w .copies) new d o k i ho h (λ a b. m a);
   }
 

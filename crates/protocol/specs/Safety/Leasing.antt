@@ -25,7 +25,7 @@ use Rattle.protocol.specs.World.{World}
 use Rattle.protocol.specs.Soundness.Steps.{Ranges}
 use Rattle.protocol.specs.Soundness.Shape.{Shape}
 use Rattle.protocol.specs.Safety.Invariant.{Inv, Stands, copyAt, requestAt, Covered, PayloadOk, NamesHeld}
-use Rattle.protocol.specs.Safety.Tools.{volume-set, object-set, volume-at, object-at, object-off, updated-same, updated-other, sent-pushed}
+use Rattle.protocol.specs.Safety.Tools.{volume-set, object-set, volume-at, object-at, object-off, updated-same, updated-other, sent-pushed, client-fits, object-fits, volume-fits}
 use Rattle.protocol.specs.Safety.Replaced.{withTables}
 use Rattle.protocol.specs.Safety.Sending.{RenewClause, send-grant}
 
@@ -67,28 +67,19 @@ module _ (s : Setup) (range : Ranges s) (w : World) (inv : Inv s w) (shape : Sha
   hv : v < s .volumes
   hv = range .within o ho
 
-  below-8 : (u : ℕ) → u < s .volumes → u < 8
-  below-8 u h = let b = range .volumes .1 in omega arith
-
-  below-32 : (i : ℕ) → i < s .objects → i < 32
-  below-32 i h = let b = range .objects .1 in omega arith
-
-  h16 : d < 16
-  h16 = let b = range .clients .1 in omega arith
-
   at-volume : (u : ℕ) → ((u ≡ v) × (getD volume u 0 ≡ long)) ⊎ ((u ≡ v → ⊥) × (getD volume u 0 ≡ getD (w .tables .volumes .expiry) u 0))
-  at-volume u = let b = below-8 v hv in set-at (w .tables .volumes .expiry) v long u 0 (omega (arith, shape .volumes .expiry))
+  at-volume u = let b = volume-fits range hv in set-at (w .tables .volumes .expiry) v long u 0 (omega (arith, shape .volumes .expiry))
 
   at-object : (i : ℕ) → ((i ≡ o) × (getD object i 0 ≡ longer)) ⊎ ((i ≡ o → ⊥) × (getD object i 0 ≡ getD (w .tables .objects .expiry) i 0))
-  at-object i = let b = below-32 o ho in set-at (w .tables .objects .expiry) o longer i 0 (omega (arith, shape .objects .expiry))
+  at-object i = let b = object-fits range ho in set-at (w .tables .objects .expiry) o longer i 0 (omega (arith, shape .objects .expiry))
 
   at-session : (k u : ℕ) → u < s .volumes
       → ((k ≡ d) × (u ≡ v) × (getD session (byVolume k u) 0 ≡ long)) ⊎ ((k ≡ d → u ≡ v → ⊥) × (getD session (byVolume k u) 0 ≡ getD (w .tables .sessions .expiry) (byVolume k u) 0))
-  at-session k u h = volume-set (w .tables .sessions .expiry) long 0 d v (shape .sessions .expiry) h16 (below-8 v hv) k u (below-8 u h)
+  at-session k u h = volume-set (w .tables .sessions .expiry) long 0 d v (shape .sessions .expiry) (client-fits range hd) (volume-fits range hv) k u (volume-fits range h)
 
   at-lease : (k i : ℕ) → i < s .objects
       → ((k ≡ d) × (i ≡ o) × (getD lease (byObject k i) 0 ≡ longer)) ⊎ ((k ≡ d → i ≡ o → ⊥) × (getD lease (byObject k i) 0 ≡ getD (w .tables .holders .lease) (byObject k i) 0))
-  at-lease k i h = object-set (w .tables .holders .lease) longer 0 d o (shape .holders .lease) h16 (below-32 o ho) k i (below-32 i h)
+  at-lease k i h = object-set (w .tables .holders .lease) longer 0 d o (shape .holders .lease) (client-fits range hd) (object-fits range ho) k i (object-fits range h)
 
   -- every lease that changes grows
   volume-grows : (u : ℕ) → u < s .volumes → getD (w .tables .volumes .expiry) u 0 ≤ getD volume u 0
@@ -201,7 +192,7 @@ module _ (s : Setup) (range : Ranges s) (w : World) (inv : Inv s w) (shape : Sha
     covers : Stands (w .requests) d n → Covered s (w .tables .clock) d v (epochAt (w .tables) v) (getD (w .tables .volumes .guard) v 0) (getD session (byVolume d v) 0)
         (unreachableAt (w .tables) d v) (w .tables .objects .version) lease (epochAt (w .tables) v) long (updated held o (versionAt (w .tables) o)) (updated until o longer)
     covers a = record {
-      current = λ q. rw (volume-at (w .tables .sessions .expiry) long 0 d v d v (shape .sessions .expiry) h16 (below-8 v hv) refl refl) (omega arith);
+      current = λ q. rw (volume-at (w .tables .sessions .expiry) long 0 d v d v (shape .sessions .expiry) (client-fits range hd) (volume-fits range hv) refl refl) (omega arith);
       older = λ q. absurd (omega arith);
       holds = λ k i j m l t. ⊎-elim (λ q. this k q) (λ q. rest k i j q (λ z. m (updated-other held o k _ q ∙ z)) (rw (updated-other until o k _ q) at l)) (same? k o);
     }
@@ -209,7 +200,7 @@ module _ (s : Setup) (range : Ranges s) (w : World) (inv : Inv s w) (shape : Sha
         this : (k : ℕ) → k ≡ o → (updated held o (versionAt (w .tables) o) k ≡ versionAt (w .tables) k)
             × (epochAt (w .tables) v ≡ epochAt (w .tables) v → updated until o longer k ≤ getD lease (byObject d k) 0)
         this k q =
-            (rw q (updated-same held o _), λ z. rw (q, updated-same until o longer, object-at (w .tables .holders .lease) longer 0 d o d o (shape .holders .lease) h16 (below-32 o ho) refl refl) (omega arith))
+            (rw q (updated-same held o _), λ z. rw (q, updated-same until o longer, object-at (w .tables .holders .lease) longer 0 d o d o (shape .holders .lease) (client-fits range hd) (object-fits range ho) refl refl) (omega arith))
 
         rest : (k : ℕ) → k < s .objects → volumeOf s k ≡ v → (k ≡ o → ⊥) → (held k ≡ 0 → ⊥) → clientAlive (w .tables .clock) (until k) ≡ true
             → (updated held o (versionAt (w .tables) o) k ≡ versionAt (w .tables) k)
@@ -217,7 +208,7 @@ module _ (s : Setup) (range : Ranges s) (w : World) (inv : Inv s w) (shape : Sha
         rest k i j q m l =
             let c = inv .views d v hd hv .holds k i j m l (inr (sym (renew .knows a) ∙ same, reachable)) in (
               updated-other held o k _ q ∙ c .0,
-              λ z. let b = c .1 (sym (renew .knows a) ∙ same) in rw (updated-other until o k longer q, object-off (w .tables .holders .lease) longer 0 d o d k (below-32 o ho) (below-32 k i) (λ x y. q y)) b,
+              λ z. let b = c .1 (sym (renew .knows a) ∙ same) in rw (updated-other until o k longer q, object-off (w .tables .holders .lease) longer 0 d o d k (object-fits range ho) (object-fits range i) (λ x y. q y)) b,
             )
 
     pub granted-keeps : Inv s (withTables w (granted s (w .tables) d o n u))

@@ -17,7 +17,7 @@ use Rattle.protocol.specs.Server.{noted}
 use Rattle.protocol.specs.World.{World}
 use Rattle.protocol.specs.Soundness.Steps.{Ranges}
 use Rattle.protocol.specs.Safety.Invariant.{Inv, Stands, requestAt, Header}
-use Rattle.protocol.specs.Safety.Tools.{volume-set, volume-at, volume-off}
+use Rattle.protocol.specs.Safety.Tools.{volume-set, volume-at, volume-off, volume-fits}
 use Rattle.protocol.specs.Safety.Replaced.{withTables}
 
 module _ (s : Setup) (w : World) (inv : Inv s w) (d n : ℕ) (full : length (w .tables .sessions .seen) ≡ 16) (hd : d < 16)
@@ -73,14 +73,11 @@ module _ (s : Setup) (range : Ranges s) (w : World) (inv : Inv s w) (d v n : ℕ
   abbrev offer : List ℕ
   offer = set (w .tables .sessions .offer) (byVolume d v) n
 
-  below-8 : (u : ℕ) → u < s .volumes → u < 8
-  below-8 u h = let b = range .volumes .1 in omega arith
-
   either : (k u : ℕ) → u < s .volumes
       → ((k ≡ d) × (u ≡ v) × (getD offer (byVolume k u) 0 ≡ n)) ⊎ ((k ≡ d → u ≡ v → ⊥) × (getD offer (byVolume k u) 0 ≡ offerAt (w .tables) k u))
   either k u h =
       let a = range .clients .1 in
-      volume-set (w .tables .sessions .offer) n 0 d v full (omega arith) (below-8 v hv) k u (below-8 u h)
+      volume-set (w .tables .sessions .offer) n 0 d v full (omega arith) (volume-fits range hv) k u (volume-fits range h)
 
   -- the standing request has a number above those seen
   unseen : (k i : ℕ) → k ≡ d → Stands (w .requests) k i → n ≤ i

@@ -24,7 +24,7 @@ use Rattle.protocol.specs.World.{World}
 use Rattle.protocol.specs.Soundness.Steps.{Ranges}
 use Rattle.protocol.specs.Soundness.Shape.{WorldShape}
 use Rattle.protocol.specs.Safety.Invariant.{Inv, Stands, from, copyAt, requestAt, Empty}
-use Rattle.protocol.specs.Safety.Tools.{volume-at, volume-off, zero-dead-client, sent-pushed}
+use Rattle.protocol.specs.Safety.Tools.{volume-at, volume-off, zero-dead-client, sent-pushed, client-fits, volume-fits}
 use Rattle.protocol.specs.Safety.Sending.{OfferClause, send-dropped}
 use Rattle.protocol.specs.Safety.Requests.{requesting, request-ends, ended-idle, ended-moves, header}
 use Rattle.protocol.specs.Safety.Taking.{Others, Own, covered-same, covered-empty, taken}
@@ -59,14 +59,8 @@ module _ (s : Setup) (range : Ranges s) (w : World) (inv : Inv s w) (shape : Wor
   abbrev copies : List Copy
   copies = sweptAll s (Expire v) (d * s .objects) (w .copies)
 
-  below-8 : (u : ℕ) → u < s .volumes → u < 8
-  below-8 u h = let b = range .volumes .1 in omega arith
-
   hv : v < 8
-  hv = below-8 v (ok .exists)
-
-  h16 : d < 16
-  h16 = let b = range .clients .1 in omega arith
+  hv = volume-fits range (ok .exists)
 
   here : d < length (w .requests)
   here = rw (shape .requests) hd
@@ -89,24 +83,24 @@ module _ (s : Setup) (range : Ranges s) (w : World) (inv : Inv s w) (shape : Wor
       not-both (rw z at a) (zero-dead-client clock)
 
   this-known : (u : ℕ) → u ≡ v → getD known (byVolume d u) 0 ≡ e
-  this-known u q = volume-at (w .tables .views .epoch) e 0 d v d u (shape .tables .views .epoch) h16 hv refl q
+  this-known u q = volume-at (w .tables .views .epoch) e 0 d v d u (shape .tables .views .epoch) (client-fits range hd) hv refl q
 
   this-expiry : (u : ℕ) → u ≡ v → getD expiry (byVolume d u) 0 ≡ 0
-  this-expiry u q = volume-at (w .tables .views .expiry) 0 0 d v d u (shape .tables .views .expiry) h16 hv refl q
+  this-expiry u q = volume-at (w .tables .views .expiry) 0 0 d v d u (shape .tables .views .expiry) (client-fits range hd) hv refl q
 
   other-known : (u : ℕ) → u < s .volumes → (u ≡ v → ⊥) → getD known (byVolume d u) 0 ≡ getD (w .tables .views .epoch) (byVolume d u) 0
-  other-known u h m = volume-off (w .tables .views .epoch) e 0 d v d u hv (below-8 u h) (λ a b. m b)
+  other-known u h m = volume-off (w .tables .views .epoch) e 0 d v d u hv (volume-fits range h) (λ a b. m b)
 
   other-expiry : (u : ℕ) → u < s .volumes → (u ≡ v → ⊥) → getD expiry (byVolume d u) 0 ≡ getD (w .tables .views .expiry) (byVolume d u) 0
-  other-expiry u h m = volume-off (w .tables .views .expiry) 0 0 d v d u hv (below-8 u h) (λ a b. m b)
+  other-expiry u h m = volume-off (w .tables .views .expiry) 0 0 d v d u hv (volume-fits range h) (λ a b. m b)
 
   empty : (u : ℕ) → u ≡ v → Empty s (w .tables .clock) d u (getD expiry (byVolume d u) 0) copies
   empty u q = record { volume = this-expiry u q; objects = λ k i j a b. dead (w .tables .clock) k i (j ∙ q) b }
 
   others : Others s d (w .tables .views .epoch) (w .tables .views .expiry) known expiry (w .copies) copies
   others = record {
-    known = λ k u m h. volume-off (w .tables .views .epoch) e 0 d v k u hv (below-8 u h) (λ a b. m a);
-    expiry = λ k u m h. volume-off (w .tables .views .expiry) 0 0 d v k u hv (below-8 u h) (λ a b. m a);
+    known = λ k u m h. volume-off (w .tables .views .epoch) e 0 d v k u hv (volume-fits range h) (λ a b. m a);
+    expiry = λ k u m h. volume-off (w .tables .views .expiry) 0 0 d v k u hv (volume-fits range h) (λ a b. m a);
     copies = λ k i m h. swept-other s (w .copies) d (shape .copies) hd (Expire v) k i m h;
   }
 

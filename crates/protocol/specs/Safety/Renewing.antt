@@ -24,7 +24,7 @@ use Rattle.protocol.specs.World.{World}
 use Rattle.protocol.specs.Soundness.Steps.{Ranges}
 use Rattle.protocol.specs.Soundness.Shape.{Shape, SessionsShape}
 use Rattle.protocol.specs.Safety.Invariant.{Inv, Stands, requestAt}
-use Rattle.protocol.specs.Safety.Tools.{volume-set, volume-at, sent-pushed}
+use Rattle.protocol.specs.Safety.Tools.{volume-set, volume-at, sent-pushed, client-fits}
 use Rattle.protocol.specs.Safety.Replaced.{withTables}
 use Rattle.protocol.specs.Safety.Marks.{marks-keep}
 use Rattle.protocol.specs.Safety.Sending.{RenewClause, send-offer, send-invalidate}
@@ -45,14 +45,11 @@ module _ (s : Setup) (range : Ranges s) (w : World) (inv : Inv s w) (shape : Sha
   v8 : v < 8
   v8 = let a = range .within o (renew .exists) in let b = range .volumes .1 in omega arith
 
-  h16 : d < 16
-  h16 = let b = range .clients .1 in omega arith
-
   abbrev t : Tables
   t = noted (w .tables) d n
 
   noticed : Inv s (withTables w t)
-  noticed = noted-keeps s w inv d n (shape .sessions .seen) h16 new (renew .taken)
+  noticed = noted-keeps s w inv d n (shape .sessions .seen) (client-fits range hd) new (renew .taken)
 
   seen-now : n ≤ seenAt t d
   unfolding noted
@@ -70,15 +67,15 @@ module _ (s : Setup) (range : Ranges s) (w : World) (inv : Inv s w) (shape : Sha
   })))
   marks =
       marks-keep s w un range
-      (λ k i hk hi a. ⊎-elim (λ q. q .2) (λ q. q .1 ∙ a) (volume-set (w .tables .sessions .unreachable) true false d v (shape .sessions .unreachable) h16 v8 k i (let b = range .volumes .1 in omega arith)))
+      (λ k i hk hi a. ⊎-elim (λ q. q .2) (λ q. q .1 ∙ a) (volume-set (w .tables .sessions .unreachable) true false d v (shape .sessions .unreachable) (client-fits range hd) v8 k i (let b = range .volumes .1 in omega arith)))
       inv
 
   offers : Inv s (withTables w (offered t d v n))
   unfolding offered noted
   offers =
       noted-keeps s _
-      (offer-keeps s range _ marks d v n (shape .sessions .offer) hd hv (volume-at (w .tables .sessions .unreachable) true false d v d v (shape .sessions .unreachable) h16 v8 refl refl) new (renew .taken))
-      d n (shape .sessions .seen) h16 new (renew .taken)
+      (offer-keeps s range _ marks d v n (shape .sessions .offer) hd hv (volume-at (w .tables .sessions .unreachable) true false d v d v (shape .sessions .unreachable) (client-fits range hd) v8 refl refl) new (renew .taken))
+      d n (shape .sessions .seen) (client-fits range hd) new (renew .taken)
 
   by-offer : Inv s (withTables w (sent (offered t d v n) (offering t d v n)))
   unfolding offered noted

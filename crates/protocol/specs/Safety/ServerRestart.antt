@@ -17,6 +17,7 @@ use Rattle.protocol.specs.World.{World}
 use Rattle.protocol.specs.Soundness.Steps.{Ranges}
 use Rattle.protocol.specs.Soundness.Shape.{Shape}
 use Rattle.protocol.specs.Safety.Invariant.{Inv, requestAt, Covered, Header, InvalidateOk}
+use Rattle.protocol.specs.Safety.Tools.{nothing-stands, zero-holder, zero-session}
 use Rattle.protocol.specs.Safety.Replaced.{withTables}
 
 -- a view after a restart: what was current or older is older, and the largest volume expiry covers it
@@ -43,15 +44,6 @@ module _ (s : Setup) (range : Ranges s) (w : World) (inv : Inv s w) (shape : Sha
       let b = range .volumes .1 in
       store-hit always (λ (v : ℕ). v) (λ (v : ℕ). epochAt (w .tables) v + 1) (λ i j e. e) (w .tables .volumes .epoch) (s .volumes) v 0 h refl (omega (arith, shape .volumes .epoch))
 
-  zero-by-volume : (d v : ℕ) → d < s .clients → v < s .volumes → _≡_ {A = ℕ} (getD (replicate 128 0) (byVolume d v) 0) 0
-  zero-by-volume d v hd hv = let a = range .clients .1 in let b = range .volumes .1 in getD-replicate {A = ℕ} 128 (byVolume d v) 0 0 (omega arith)
-
-  zero-by-object : (d o : ℕ) → d < s .clients → o < s .objects → _≡_ {A = ℕ} (getD (replicate 512 0) (byObject d o) 0) 0
-  zero-by-object d o hd ho = let a = range .clients .1 in let b = range .objects .1 in getD-replicate {A = ℕ} 512 (byObject d o) 0 0 (omega arith)
-
-  none-stands : {A : Type 0} (o : ℕ) → o < s .objects → getD (replicate 32 false) o false ≡ true → A
-  none-stands o h e = let b = range .objects .1 in not-both e (getD-replicate {A = Bool} 32 o false false (omega arith))
-
   -- no message is of the new epoch
   header : (d v n e : ℕ) → v < s .volumes → Header (w .tables .volumes .epoch) (w .tables .sessions .seen) (w .requests) d v n e
       → Header epoch (replicate 16 0) (w .requests) d v n e
@@ -70,9 +62,9 @@ module _ (s : Setup) (range : Ranges s) (w : World) (inv : Inv s w) (shape : Sha
     bounds = record {
       guards = λ v h. omega arith;
       volumes = inv .bounds .volumes;
-      sessions = λ d v hd hv. rw (zero-by-volume d v hd hv) (omega arith);
+      sessions = λ d v hd hv. rw (zero-session range d v hd hv) (omega arith);
       objects = λ o h. let b = range .objects .1 in rw (getD-replicate {A = ℕ} 32 o 0 0 (omega arith)) (omega arith);
-      leases = λ d o hd ho. rw (zero-by-object d o hd ho) (omega arith);
+      leases = λ d o hd ho. rw (zero-holder range d o hd ho) (omega arith);
     };
     epochs = λ d v hd hv. let g = grown v hv in let b = inv .epochs d v hd hv in omega arith;
     numbers = record {
@@ -80,11 +72,11 @@ module _ (s : Setup) (range : Ranges s) (w : World) (inv : Inv s w) (shape : Sha
       past = λ d h. let b = inv .numbers .past d h in let c = range .clients .1 in rw (getD-replicate {A = ℕ} 16 d 0 0 (omega arith)) (omega arith);
     };
     versions = inv .versions;
-    offers = λ d v hd hv m. absurd (m (zero-by-volume d v hd hv));
+    offers = λ d v hd hv m. absurd (m (zero-session range d v hd hv));
     writes = record {
-      guards = λ o h a. none-stands o h a;
-      waits = λ d o hd ho a b. none-stands o ho a;
-      others = λ d o hd ho a b. none-stands o ho a;
+      guards = λ o h a. nothing-stands range o h a;
+      waits = λ d o hd ho a b. nothing-stands range o ho a;
+      others = λ d o hd ho a b. nothing-stands range o ho a;
     };
     views = λ d v hd hv.
         covered-restarted s _ d v _ _ _ _ _ _ _ _ _ _ _ _ _ _ _ (inv .epochs d v hd hv) (grown v hv) (inv .bounds .guards v hv) (inv .bounds .sessions d v hd hv) (inv .views d v hd hv);
@@ -110,8 +102,8 @@ module _ (s : Setup) (range : Ranges s) (w : World) (inv : Inv s w) (shape : Sha
         };
     invalidates = λ d o e u z. later o e u (inv .invalidates d o e u z);
     acks = λ d o e u z. later o e u (inv .acks d o e u z);
-    erased = λ d o e u z a. none-stands o (inv .acks d o e u z .exists) (a .stands);
-    pairs = λ d o e u n x f i y p z g a r. none-stands o (inv .acks d o e u z .exists) (a .stands);
+    erased = λ d o e u z a. nothing-stands range o (inv .acks d o e u z .exists) (a .stands);
+    pairs = λ d o e u n x f i y p z g a r. nothing-stands range o (inv .acks d o e u z .exists) (a .stands);
     offereds = λ d v n e z. let r = inv .offereds d v n e z in record { exists = r .exists; header = header d v n e (r .exists) (r .header) };
     droppeds = λ d v n e z.
         let r = inv .droppeds d v n e z in

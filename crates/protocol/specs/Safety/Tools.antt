@@ -8,7 +8,7 @@ use mathlib.Core.List.{List, [], _∷_, _++_}
 use mathlib.Core.Logic.{_⊎_, inl, inr, ⊎-elim}
 use mathlib.Core.Path.{_≡_, refl, sym, ap, _∙_}
 use lib.Dec.{ltb, eqb}
-use lib.ListN.{length, getD, set, length-set, List·getD-append}
+use lib.ListN.{length, getD, set, replicate, getD-replicate, List·getD-append}
 use lib.Seq.{getD-set-same, getD-set-other}
 use borrow.Author.Tests.{ltb-true, ltb-false, lt-ltb, le-ltb, eqb-true, eqb-false, eq-eqb, ne-eqb}
 use Rattle.laws.specs.Choice.{same?, cond-keeps, true-or-false, not-both, and-true}
@@ -25,6 +25,7 @@ use Rattle.protocol.specs.Tables.{byVolume, byObject, noCopy, noRequest}
 use Rattle.protocol.specs.Leases.{serverAlive, clientAlive, endOver}
 use Rattle.protocol.specs.Client.{stands}
 use Rattle.protocol.specs.Ledger.{updated}
+use Rattle.protocol.specs.Soundness.Steps.{Ranges}
 use Rattle.protocol.specs.Safety.Invariant.{Sent, Stands, requestAt, copyAt}
 
 -- ---- an element of a table after a store: the new one at its place, the old ones elsewhere
@@ -58,6 +59,33 @@ module _ {ℓ} {A : Type ℓ} (l : List A) (x y : A) where
 
   pub object-off : (d o d′ o′ : ℕ) → o < 32 → o′ < 32 → (d′ ≡ d → o′ ≡ o → ⊥) → getD (set l (byObject d o) x) (byObject d′ o′) y ≡ getD l (byObject d′ o′) y
   object-off d o d′ o′ ho ho′ h = getD-set-other l (byObject d o) (byObject d′ o′) x y (λ e. h (omega arith) (omega arith))
+
+-- ---- existing items are in their tables
+module _ {s : Setup} (range : Ranges s) where
+  pub client-fits : {d : ℕ} → d < s .clients → d < 16
+  client-fits h = let b = range .clients .1 in omega arith
+
+  pub volume-fits : {v : ℕ} → v < s .volumes → v < 8
+  volume-fits h = let b = range .volumes .1 in omega arith
+
+  pub object-fits : {o : ℕ} → o < s .objects → o < 32
+  object-fits h = let b = range .objects .1 in omega arith
+
+  pub session-fits : {d v : ℕ} → d < s .clients → v < s .volumes → byVolume d v < 128
+  session-fits h k = let a = range .clients .1 in let b = range .volumes .1 in omega arith
+
+  pub holder-fits : {d o : ℕ} → d < s .clients → o < s .objects → byObject d o < 512
+  holder-fits h k = let a = range .clients .1 in let b = range .objects .1 in omega arith
+
+  -- .. where a list of one value holds it
+  pub zero-session : (d v : ℕ) → d < s .clients → v < s .volumes → _≡_ {A = ℕ} (getD (replicate 128 0) (byVolume d v) 0) 0
+  zero-session d v hd hv = getD-replicate {A = ℕ} 128 (byVolume d v) 0 0 (session-fits hd hv)
+
+  pub zero-holder : (d o : ℕ) → d < s .clients → o < s .objects → _≡_ {A = ℕ} (getD (replicate 512 0) (byObject d o) 0) 0
+  zero-holder d o hd ho = getD-replicate {A = ℕ} 512 (byObject d o) 0 0 (holder-fits hd ho)
+
+  pub nothing-stands : {A : Type 0} (o : ℕ) → o < s .objects → getD (replicate 32 false) o false ≡ true → A
+  nothing-stands o h e = not-both e (getD-replicate {A = Bool} 32 o false false (object-fits h))
 
 -- rows of n: the places of two rows do not meet
 pub row-below : (n d e o : ℕ) → d < e → o < n → d * n + o < e * n

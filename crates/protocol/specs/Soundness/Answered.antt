@@ -1,16 +1,14 @@
 -- A refused step's answer is its refusal, and an accepted step's answer is none.
-use Prim.Native.Nat.{ℕ, zero, suc}
-use native.Mathlib.Omega.{arith}
-use mathlib.Core.Bool.{Bool, true, false, cond}
+use Prim.Native.Nat.{ℕ}
+use mathlib.Core.Bool.{Bool, true, false}
 use mathlib.Core.Logic.{⊎-elim}
-use mathlib.Core.Path.{_≡_, refl, sym, ap, _∙_}
+use mathlib.Core.Path.{_≡_, refl, ap, _∙_}
 use lib.Dec.{eqb}
 use Rattle.laws.specs.Choice.{cond-keeps, true-or-false, not-both}
 use Rattle.protocol.specs.declared.records.Copy.{Copy}
 use Rattle.protocol.specs.declared.records.Request.{Request}
 use Rattle.protocol.specs.declared.setup.Setup.{Setup}
 use Rattle.protocol.specs.declared.step.Answer.{Answer}
-use Rattle.protocol.specs.declared.step.Answer.the-variants.{Refused}
 use Rattle.protocol.specs.declared.step.Decision.{Decision}
 use Rattle.protocol.specs.declared.step.Step.{Step}
 use Rattle.protocol.specs.declared.tables.Tables.{Tables}

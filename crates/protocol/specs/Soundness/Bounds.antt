@@ -1,21 +1,18 @@
 -- The bounds of question 1 as an invariant, in every slot of the tables, also those past the counts. Each clause speaks of the part that it reads;
 -- here the small changes of tables that keep it.
-use Prim.Native.Nat.{ℕ, zero, suc, _+_, _-_, _*_, _<_, _≤_, min, max}
+use Prim.Native.Nat.{ℕ, _+_, _<_, _≤_}
 use native.Mathlib.Omega.{arith}
-use mathlib.Core.Bool.{Bool, true, false, cond, _&&_}
-use mathlib.Core.List.{List, [], _∷_, _++_}
+use mathlib.Core.Bool.{true, false}
 use mathlib.Core.Logic.{⊎-elim}
-use mathlib.Core.Path.{_≡_, refl, sym, ap, _∙_}
-use lib.Dec.{ltb, leb, eqb}
-use lib.ListN.{length, getD, set}
-use lib.Seq.{getD-set-same, getD-set-other}
-use borrow.Author.Tests.{ltb-true, leb-true, lt-ltb, le-leb}
+use mathlib.Core.Path.{_≡_, sym, _∙_}
+use lib.Dec.{ltb}
+use lib.ListN.{getD, set}
+use lib.Seq.{getD-set-other}
+use borrow.Author.Tests.{ltb-true, lt-ltb}
 use Rattle.laws.specs.Choice.{cond-keeps, same?, both-true, not-both}
-use Rattle.laws.specs.Loop.{foldFrom, fold-keeps, fold-keeps-in}
-use Rattle.laws.specs.Lists.{All, removeAt, all-snoc, all-remove, all-at}
-use Rattle.laws.specs.Each.{each-set, each-set-in, each-getD, each-replicate, each-store, cleared}
-use Rattle.protocol.specs.declared.message.Kind.{Kind}
-use Rattle.protocol.specs.declared.message.Kind.the-variants.{Renew, Grant, Invalidate, Ack, Offer, Dropped}
+use Rattle.laws.specs.Loop.{fold-keeps, fold-keeps-in}
+use Rattle.laws.specs.Lists.{All, removeAt, all-snoc, all-remove}
+use Rattle.laws.specs.Each.{each-set, each-getD, each-store, cleared}
 use Rattle.protocol.specs.declared.message.Message.{Message}
 use Rattle.protocol.specs.declared.message.Queue.{Queue}
 use Rattle.protocol.specs.declared.records.Copy.{Copy}
@@ -29,11 +26,10 @@ use Rattle.protocol.specs.declared.tables.Holders.{Holders}
 use Rattle.protocol.specs.declared.tables.Views.{Views}
 use Rattle.protocol.specs.declared.tables.Tables.{Tables}
 use Rattle.protocol.specs.Setup.{volumeOf}
-use Rattle.protocol.specs.Messages.{blank, message, messageAt, pushed, removed, hasRoom}
-use Rattle.protocol.specs.Tables.{seenAt, standingAt, waitingAt, versionAt, volumeExpiryAt, guardAt, objectExpiryAt, withClock, withQueue, withViews}
-use Rattle.protocol.specs.Writes.{Staged, unstaged, latestEnd, opened, awaited, begun, invalidation, notify, notified, deserted, posted, released, completed, completeIf, settled, written}
-use Rattle.protocol.specs.Server.{sent, noted, offered, offering, volumeRenewed, objectRenewed, granting, granted, lowestWaited, mustDrop, renewedBy, renewed, ackTaken, acked, ackStaged, dropTaken, disowned, dropped, dropStaged, serverRestarted}
-use Rattle.protocol.specs.Client.{viewed, clientRestarted}
+use Rattle.protocol.specs.Messages.{blank, messageAt, pushed, removed, hasRoom}
+use Rattle.protocol.specs.Tables.{waitingAt, versionAt, withClock, withQueue, withViews}
+use Rattle.protocol.specs.Writes.{Staged, latestEnd, opened, awaited, begun, invalidation, notify, notified, deserted, posted, released, completed, completeIf, settled, written}
+use Rattle.protocol.specs.Server.{sent}
 use Rattle.protocol.specs.Sound.{clockLimit, messageSound}
 use Rattle.protocol.specs.Decide.{taken}
 use Rattle.protocol.specs.World.{World}

@@ -1,18 +1,16 @@
 -- Every step keeps the bounds of question 1.
-use Prim.Native.Nat.{ℕ, zero, suc, _+_, _-_, _*_, _<_, _≤_}
+use Prim.Native.Nat.{ℕ, _*_, _<_}
 use native.Mathlib.Omega.{arith}
-use mathlib.Core.Bool.{Bool, true, false, cond, _&&_}
-use mathlib.Core.List.{List, [], _∷_}
+use mathlib.Core.Bool.{Bool, true, false}
+use mathlib.Core.List.{List}
 use mathlib.Core.Logic.{⊎-elim}
 use mathlib.Core.Path.{_≡_, refl}
-use lib.Dec.{ltb, leb, eqb}
-use lib.ListN.{length, getD, set}
+use lib.Dec.{ltb, eqb}
 use borrow.Author.Tests.{ltb-true, lt-ltb}
 use Rattle.laws.specs.Choice.{cond-keeps, true-or-false, and-true, both-true, not-both}
-use Rattle.laws.specs.Loop.{foldFrom, fold-keeps}
+use Rattle.laws.specs.Loop.{fold-keeps}
 use Rattle.laws.specs.Lists.{All, all-at}
 use Rattle.laws.specs.Each.{each-set, each-set-in, each-getD, each-replicate, replicate-at}
-use Rattle.protocol.specs.declared.message.Kind.the-variants.{Renew}
 use Rattle.protocol.specs.declared.records.Copy.{Copy}
 use Rattle.protocol.specs.declared.records.Request.{Request}
 use Rattle.protocol.specs.declared.setup.Setup.{Setup}
@@ -24,14 +22,14 @@ use Rattle.protocol.specs.declared.tables.Tables.{Tables}
 use Rattle.protocol.specs.Setup.{inRange, volumeOf}
 use Rattle.protocol.specs.Messages.{messageAt}
 use Rattle.protocol.specs.Tables.{noCopy, noRequest, freshTables}
-use Rattle.protocol.specs.Client.{showable, swept, sweepAt, sweptAll, clientRestarted}
-use Rattle.protocol.specs.Sound.{messageSound, kindSound}
+use Rattle.protocol.specs.Client.{showable, swept, sweepAt, sweptAll}
+use Rattle.protocol.specs.Sound.{kindSound}
 use Rattle.protocol.specs.Decide.{performed, readDecided, askDecided, deliverDecided, restartDecided}
-use Rattle.protocol.specs.World.{World, freshWorld, target, copiesAfter, requestsAfter, stepped}
+use Rattle.protocol.specs.World.{World, freshWorld, stepped}
 use Rattle.protocol.specs.Ledger.{accepts}
 use Rattle.protocol.specs.Soundness.Steps.{Accepted, accepted, Ranges, ranges, setup-in-range, copyOf, requestOf, tables-after, copies-after, requests-after, refused-keeps, by-kind, client-exists, object-exists, clock-grows, version-grows, clock-performed, read-performed, ask-performed, write-performed, deliver-performed, lose-performed, double-performed, server-performed, client-performed}
 use Rattle.protocol.specs.Soundness.Bounds.{Timed, Named, Bounded, CopyBounded, RequestBounded, WorldBounded, blank-named, sent-bounded, taken-bounded, named-at, clock-bounded, views-bounded, written-bounded, settled-bounded}
-use Rattle.protocol.specs.Soundness.Received.{Receipt, received-bounded, server-bounded, client-bounded, ended-bounded}
+use Rattle.protocol.specs.Soundness.Received.{received-bounded, server-bounded, client-bounded, ended-bounded}
 
 -- what a decision leaves of tables, copy and request
 pub record Decided (s : Setup) (c : Copy) (r : Request) (g : Decision) : Type 0 where

@@ -1,18 +1,15 @@
 -- Question 1 in a run: in range it never refuses, out of range it always does.
-use Prim.Native.Nat.{ℕ, zero, suc, _+_, _*_, _<_, _≤_}
+use Prim.Native.Nat.{ℕ, _<_}
 use native.Mathlib.Omega.{arith}
-use mathlib.Core.Bool.{Bool, true, false, cond, not, _&&_, _||_}
+use mathlib.Core.Bool.{Bool, true, false, not, _||_}
 use mathlib.Core.List.{List, [], _∷_}
 use mathlib.Core.Logic.{⊎-elim}
 use mathlib.Core.Path.{_≡_, refl, sym, ap, _∙_}
-use lib.Dec.{ltb, leb, eqb}
-use lib.ListN.{length, getD}
+use lib.ListN.{length}
 use borrow.Author.Tests.{lt-ltb, le-leb, eq-eqb}
 use Rattle.laws.specs.Choice.{cond-keeps, true-or-false, both-true, not-both}
-use Rattle.laws.specs.Loop.{allFrom, all-of}
+use Rattle.laws.specs.Loop.{all-of}
 use Rattle.laws.specs.Lists.{All, all-at}
-use Rattle.protocol.specs.declared.message.Queue.{Queue}
-use Rattle.protocol.specs.declared.records.Copy.{Copy}
 use Rattle.protocol.specs.declared.records.Request.{Request}
 use Rattle.protocol.specs.declared.setup.Setup.{Setup}
 use Rattle.protocol.specs.declared.step.Answer.{Answer}
@@ -20,16 +17,16 @@ use Rattle.protocol.specs.declared.step.Answer.the-variants.{Refused}
 use Rattle.protocol.specs.declared.step.Step.{Step}
 use Rattle.protocol.specs.declared.tables.Tables.{Tables}
 use Rattle.protocol.specs.Setup.{inRange}
-use Rattle.protocol.specs.Messages.{blank, messageAt}
-use Rattle.protocol.specs.Tables.{byVolume, byObject, noCopy, noRequest, epochAt, volumeExpiryAt, guardAt, standingAt, versionAt, endAt}
-use Rattle.protocol.specs.Sound.{timeFits, canGrow, volumeSound, objectSound, sessionSound, sessionsSound, holderSound, holdersSound, messageSound, queueSound, tablesSound, copiesSound, requestSound, requestsSound, recordsSound, sound}
+use Rattle.protocol.specs.Messages.{blank}
+use Rattle.protocol.specs.Tables.{byVolume, byObject, noCopy, noRequest, standingAt}
+use Rattle.protocol.specs.Sound.{volumeSound, objectSound, sessionSound, holderSound, queueSound, tablesSound, copiesSound, requestSound, requestsSound, sound}
 use Rattle.protocol.specs.Answers.{isRefused}
-use Rattle.protocol.specs.Gate.{known, exists, timely, vacant, growable, orRefuse, refusalOfStep, refusal}
+use Rattle.protocol.specs.Gate.{known, exists, timely, vacant, growable, refusalOfStep, refusal}
 use Rattle.protocol.specs.World.{World, freshWorld, stepped, answerOf, answers}
 use Rattle.protocol.specs.Ledger.{accepts}
-use Rattle.protocol.specs.Soundness.Steps.{Ranges, ranges, copyOf, requestOf, recordsOf, refused-answer}
+use Rattle.protocol.specs.Soundness.Steps.{Ranges, ranges, requestOf, recordsOf, refused-answer}
 use Rattle.protocol.specs.Soundness.Shape.{Shape, WorldShape, stepped-shape, fresh-shape}
-use Rattle.protocol.specs.Soundness.Bounds.{Timed, Started, Named, ObjectsBounded, QueueBounded, Bounded, CopyBounded, RequestBounded, WorldBounded}
+use Rattle.protocol.specs.Soundness.Bounds.{Timed, Started, Named, Bounded, CopyBounded, RequestBounded, WorldBounded}
 use Rattle.protocol.specs.Soundness.Kept.{stepped-bounded, fresh-bounded}
 use Rattle.protocol.specs.Soundness.Answered.{accepted-not-refused}
 
@@ -44,22 +41,22 @@ stepped-sound s w x h = record { shape = stepped-shape s w x (h .shape); bounds 
 pub fresh-sound : (s : Setup) → inRange s ≡ true → SoundWorld s (freshWorld s)
 fresh-sound s e = record { shape = fresh-shape s; bounds = fresh-bounded s e }
 
--- ---- the tests of question 1 pass
+-- ---- the tests of question 1 hold
 implied : (a b : Bool) → (a ≡ true → b ≡ true) → (not a || b) ≡ true
 implied true b f = f refl
 implied false b f = refl
 
 module _ (s : Setup) (rs : Ranges s) (t : Tables) (k : Shape t) (h : Bounded s t) where
-  volume-passes : (v : ℕ) → v < s .volumes → volumeSound t v ≡ true
-  volume-passes v p =
+  volume-is-sound : (v : ℕ) → v < s .volumes → volumeSound t v ≡ true
+  volume-is-sound v p =
       both-true
       (both-true
       (le-leb 1 _ (all-at Started (t .volumes .epoch) v 0 (omega (arith, rs .volumes .1, k .volumes .epoch)) (h .volumes .epoch)))
       (le-leb _ 2148483647 (all-at Timed (t .volumes .expiry) v 0 (omega (arith, rs .volumes .1, k .volumes .expiry)) (h .volumes .expiry))))
       (le-leb _ 2148483647 (all-at Timed (t .volumes .guard) v 0 (omega (arith, rs .volumes .1, k .volumes .guard)) (h .volumes .guard)))
 
-  object-passes : (o : ℕ) → o < s .objects → objectSound t o ≡ true
-  object-passes o p =
+  object-is-sound : (o : ℕ) → o < s .objects → objectSound t o ≡ true
+  object-is-sound o p =
       both-true
       (both-true
       (le-leb 1 _ (all-at Started (t .objects .version) o 0 (omega (arith, rs .objects .1, k .objects .version)) (h .objects .version)))
@@ -68,55 +65,55 @@ module _ (s : Setup) (rs : Ranges s) (t : Tables) (k : Shape t) (h : Bounded s t
       (le-leb _ 2148483647 (all-at Timed (t .objects .end) o 0 (omega (arith, rs .objects .1, k .objects .end)) (h .objects .end)))
       (lt-ltb _ 4294967295 (h .objects .standing o e))))
 
-  session-passes : (d v : ℕ) → d < s .clients → v < s .volumes → sessionSound t d v ≡ true
-  session-passes d v p q =
+  session-is-sound : (d v : ℕ) → d < s .clients → v < s .volumes → sessionSound t d v ≡ true
+  session-is-sound d v p q =
       both-true
       (le-leb _ 2148483647 (all-at Timed (t .sessions .expiry) (byVolume d v) 0 (omega (arith, rs .clients .1, rs .volumes .1, k .sessions .expiry)) (h .sessions .expiry)))
       (le-leb _ 2148483647 (all-at Timed (t .views .expiry) (byVolume d v) 0 (omega (arith, rs .clients .1, rs .volumes .1, k .views .expiry)) (h .views .expiry)))
 
-  holder-passes : (d o : ℕ) → d < s .clients → o < s .objects → holderSound t d o ≡ true
-  holder-passes d o p q =
+  holder-is-sound : (d o : ℕ) → d < s .clients → o < s .objects → holderSound t d o ≡ true
+  holder-is-sound d o p q =
       le-leb _ 2148483647 (all-at Timed (t .holders .lease) (byObject d o) 0 (omega (arith, rs .clients .1, rs .objects .1, k .holders .lease)) (h .holders .lease))
 
-  queue-passes : queueSound s (t .queue) ≡ true
+  queue-is-sound : queueSound s (t .queue) ≡ true
   unfolding queueSound
-  queue-passes =
+  queue-is-sound =
       both-true (le-leb _ 64 (h .queue .len))
       (all-of _ (t .queue .len) (λ i p. all-at (Named s) (t .queue .items) i blank (omega (arith, h .queue .len, k .queue .items)) (h .queue .items)))
 
-  pub tables-pass : tablesSound s t ≡ true
+  pub tables-are-sound : tablesSound s t ≡ true
   unfolding tablesSound
-  tables-pass =
+  tables-are-sound =
       both-true
       (both-true
       (both-true
       (both-true
-      (both-true (le-leb _ 2147483647 (h .clock)) (all-of _ (s .volumes) volume-passes))
-      (all-of _ (s .objects) object-passes))
-      (all-of _ (s .clients) (λ d p. all-of _ (s .volumes) (λ v. session-passes d v p))))
-      (all-of _ (s .clients) (λ d p. all-of _ (s .objects) (λ o. holder-passes d o p))))
-      queue-passes
+      (both-true (le-leb _ 2147483647 (h .clock)) (all-of _ (s .volumes) volume-is-sound))
+      (all-of _ (s .objects) object-is-sound))
+      (all-of _ (s .clients) (λ d p. all-of _ (s .volumes) (λ v. session-is-sound d v p))))
+      (all-of _ (s .clients) (λ d p. all-of _ (s .objects) (λ o. holder-is-sound d o p))))
+      queue-is-sound
 
 module _ (s : Setup) (w : World) (h : SoundWorld s w) where
-  copies-pass : copiesSound s (w .copies) ≡ true
+  copies-are-sound : copiesSound s (w .copies) ≡ true
   unfolding copiesSound
-  copies-pass =
+  copies-are-sound =
       both-true (eq-eqb _ _ (h .shape .copies))
       (all-of _ (length (w .copies)) (λ i p. le-leb _ 2148483647 (all-at CopyBounded (w .copies) i noCopy p (h .bounds .copies))))
 
-  request-passes : (r : Request) → RequestBounded s r → requestSound s r ≡ true
-  request-passes r b = both-true (le-leb 1 _ (b .next)) (implied (r .standing) _ (λ e. lt-ltb _ _ (b .object e)))
+  request-is-sound : (r : Request) → RequestBounded s r → requestSound s r ≡ true
+  request-is-sound r b = both-true (le-leb 1 _ (b .next)) (implied (r .standing) _ (λ e. lt-ltb _ _ (b .object e)))
 
-  requests-pass : requestsSound s (w .requests) ≡ true
+  requests-are-sound : requestsSound s (w .requests) ≡ true
   unfolding requestsSound
-  requests-pass =
+  requests-are-sound =
       both-true (eq-eqb _ _ (h .shape .requests))
-      (all-of _ (length (w .requests)) (λ d p. request-passes _ (all-at (RequestBounded s) (w .requests) d noRequest p (h .bounds .requests))))
+      (all-of _ (length (w .requests)) (λ d p. request-is-sound _ (all-at (RequestBounded s) (w .requests) d noRequest p (h .bounds .requests))))
 
   -- question 1 is answered "yes"
   pub sounds : inRange s ≡ true → sound s (w .tables) (recordsOf s w) ≡ true
   unfolding sound
-  sounds e = both-true (both-true e (both-true copies-pass requests-pass)) (tables-pass s (ranges s e) (w .tables) (h .shape .tables) (h .bounds .tables))
+  sounds e = both-true (both-true e (both-true copies-are-sound requests-are-sound)) (tables-are-sound s (ranges s e) (w .tables) (h .shape .tables) (h .bounds .tables))
 
 -- ---- the answers
 -- no other question has the number 1

@@ -1,19 +1,14 @@
 -- The bounds of question 1 are kept by every message received and by the restarts.
-use Prim.Native.Nat.{ℕ, zero, suc, _+_, _-_, _*_, _<_, _≤_}
+use Prim.Native.Nat.{ℕ, _+_, _<_}
 use native.Mathlib.Omega.{arith}
-use mathlib.Core.Bool.{Bool, true, false, cond, _&&_}
-use mathlib.Core.List.{List, [], _∷_}
+use mathlib.Core.Bool.{true, false, _&&_}
 use mathlib.Core.Path.{_≡_, refl}
 use lib.Dec.{ltb, leb, eqb}
-use lib.ListN.{length, getD, set}
 use borrow.Author.Tests.{ltb-true, leb-true, lt-ltb, le-leb}
 use Rattle.laws.specs.Choice.{cond-keeps, and-true, both-true, not-both}
-use Rattle.laws.specs.Loop.{fold-keeps}
-use Rattle.laws.specs.Lists.{All}
-use Rattle.laws.specs.Each.{each-set, each-getD, each-replicate, each-store, replicate-at}
+use Rattle.laws.specs.Each.{each-set, each-replicate, each-store, replicate-at}
 use Rattle.protocol.specs.declared.message.Kind.{Kind}
 use Rattle.protocol.specs.declared.message.Kind.the-variants.{Renew, Grant, Invalidate, Ack, Offer, Dropped}
-use Rattle.protocol.specs.declared.message.Message.{Message}
 use Rattle.protocol.specs.declared.message.Payload.{Payload}
 use Rattle.protocol.specs.declared.records.Copy.{Copy}
 use Rattle.protocol.specs.declared.records.Request.{Request}
@@ -22,11 +17,10 @@ use Rattle.protocol.specs.declared.step.Received.{Received}
 use Rattle.protocol.specs.declared.tables.Views.{Views}
 use Rattle.protocol.specs.declared.tables.Tables.{Tables}
 use Rattle.protocol.specs.Setup.{volumeOf}
-use Rattle.protocol.specs.Messages.{message}
-use Rattle.protocol.specs.Tables.{seenAt, standingAt, epochAt, byVolume, noCopy, withViews}
+use Rattle.protocol.specs.Tables.{seenAt, standingAt, byVolume}
 use Rattle.protocol.specs.Writes.{Staged}
-use Rattle.protocol.specs.Server.{sent, noted, offered, volumeRenewed, objectRenewed, granting, granted, lowestWaited, mustDrop, renewedBy, renewed, ackTaken, acked, ackStaged, dropTaken, disowned, dropped, dropStaged, serverRestarted, stale, beingWritten}
-use Rattle.protocol.specs.Client.{viewed, ended, stands, grantTaken, filled, forgotten, clientRestarted, asksFor}
+use Rattle.protocol.specs.Server.{noted, offered, volumeRenewed, objectRenewed, granting, granted, lowestWaited, mustDrop, renewedBy, renewed, ackTaken, acked, ackStaged, dropTaken, disowned, dropped, dropStaged, serverRestarted, stale, beingWritten}
+use Rattle.protocol.specs.Client.{viewed, ended, stands, grantTaken, forgotten, clientRestarted, asksFor}
 use Rattle.protocol.specs.Sound.{timeFits, kindSound}
 use Rattle.protocol.specs.Decide.{grantReceived, invalidateReceived, offerReceived, received}
 use Rattle.protocol.specs.Soundness.Steps.{Ranges}

@@ -1,15 +1,15 @@
 -- The lengths of all lists: every step keeps them. Each clause speaks of the part of the tables that it reads.
-use Prim.Native.Nat.{ℕ, zero, suc, _+_, _*_, _<_, _≤_}
+use Prim.Native.Nat.{ℕ, _*_, _<_}
 use native.Mathlib.Omega.{arith}
-use mathlib.Core.Bool.{Bool, true, false, cond}
-use mathlib.Core.List.{List, [], _∷_, _++_}
+use mathlib.Core.Bool.{Bool, true}
+use mathlib.Core.List.{List}
 use mathlib.Core.Logic.{⊎-elim}
-use mathlib.Core.Path.{_≡_, refl, sym, ap, _∙_}
-use lib.Dec.{ltb, leb, eqb}
-use lib.ListN.{length, getD, set, length-set, length-replicate}
+use mathlib.Core.Path.{_≡_, refl, _∙_}
+use lib.Dec.{ltb, leb}
+use lib.ListN.{length, length-set, length-replicate}
 use Rattle.laws.specs.Choice.{cond-keeps, true-or-false}
 use Rattle.laws.specs.Loop.{foldFrom, fold-keeps}
-use Rattle.laws.specs.Lists.{removeAt, length-remove}
+use Rattle.laws.specs.Lists.{length-remove}
 use Rattle.laws.specs.Store.{length-store}
 use Rattle.protocol.specs.declared.message.Kind.{Kind}
 use Rattle.protocol.specs.declared.message.Kind.the-variants.{Renew, Grant, Invalidate, Ack, Offer, Dropped}
@@ -30,14 +30,14 @@ use Rattle.protocol.specs.declared.tables.Holders.{Holders}
 use Rattle.protocol.specs.declared.tables.Views.{Views}
 use Rattle.protocol.specs.declared.tables.Tables.{Tables}
 use Rattle.protocol.specs.Setup.{volumeOf}
-use Rattle.protocol.specs.Messages.{pushed, removed, messageAt, hasRoom}
+use Rattle.protocol.specs.Messages.{pushed, removed, hasRoom}
 use Rattle.protocol.specs.Tables.{seenAt, standingAt, waitingAt, withClock, withQueue, withViews, freshTables}
-use Rattle.protocol.specs.Writes.{Staged, unstaged, opened, awaited, begun, notify, notified, deserted, marked, markIfWaiting, posted, released, completed, completeIf, settled, written, writeStaged, clockStaged}
+use Rattle.protocol.specs.Writes.{Staged, opened, awaited, begun, notify, notified, deserted, marked, markIfWaiting, posted, released, completed, completeIf, settled, written}
 use Rattle.protocol.specs.Server.{sent, noted, offered, volumeRenewed, objectRenewed, granted, lowestWaited, mustDrop, renewedBy, renewed, ackTaken, acked, ackStaged, dropTaken, disowned, dropped, dropStaged, serverRestarted, stale, beingWritten}
 use Rattle.protocol.specs.Client.{showable, stands, grantTaken, viewed, sweepAt, sweptAll, clientRestarted}
 use Rattle.protocol.specs.Gate.{usesPlace}
 use Rattle.protocol.specs.Decide.{performed, taken, readDecided, askDecided, deliverDecided, restartDecided, grantReceived, invalidateReceived, offerReceived, received}
-use Rattle.protocol.specs.World.{World, freshWorld, decision, stepped}
+use Rattle.protocol.specs.World.{World, freshWorld, stepped}
 use Rattle.protocol.specs.Ledger.{accepts}
 use Rattle.protocol.specs.Soundness.Steps.{Accepted, accepted, copyOf, requestOf, tables-after, refused-keeps, by-kind, place-exists, queue-fits, clock-performed, read-performed, ask-performed, write-performed, deliver-performed, lose-performed, double-performed, server-performed, client-performed}
 

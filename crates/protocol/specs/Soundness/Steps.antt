@@ -1,24 +1,21 @@
 -- A step is refused and changes nothing, or every question was answered "yes" and it goes by its kind.
-use Prim.Native.Nat.{ℕ, zero, suc, _+_, _<_, _≤_}
+use Prim.Native.Nat.{ℕ, suc, _<_, _≤_}
 use native.Mathlib.Omega.{arith}
-use mathlib.Core.Bool.{Bool, true, false, cond, not, _&&_, _||_}
-use mathlib.Core.List.{List, [], _∷_}
-use mathlib.Core.Logic.{_⊎_, inl, inr, ⊎-elim}
-use mathlib.Core.Path.{_≡_, refl, sym, ap, _∙_}
+use mathlib.Core.Bool.{Bool, true, false, not, _&&_, _||_}
+use mathlib.Core.Logic.{⊎-elim}
+use mathlib.Core.Path.{_≡_, refl, ap}
 use lib.Dec.{ltb, leb, eqb}
-use lib.ListN.{getD, set}
+use lib.ListN.{getD}
 use lib.Seq.{set-getD}
 use borrow.Author.Tests.{ltb-true, leb-true, eqb-true, not-true, lt-ltb, le-ltb}
-use Rattle.laws.specs.Choice.{cond-keeps, and-true, or-true, not-both, same?}
+use Rattle.laws.specs.Choice.{and-true, not-both, same?}
 use Rattle.laws.specs.Loop.{foldFrom, allFrom, all-each}
 use Rattle.protocol.specs.declared.records.Copy.{Copy}
 use Rattle.protocol.specs.declared.records.Request.{Request}
 use Rattle.protocol.specs.declared.setup.Setup.{Setup}
-use Rattle.protocol.specs.declared.step.Answer.{Answer}
 use Rattle.protocol.specs.declared.step.Answer.the-variants.{Done, Refused}
 use Rattle.protocol.specs.declared.step.Decision.{Decision}
 use Rattle.protocol.specs.declared.step.Step.{Step}
-use Rattle.protocol.specs.declared.step.Sweep.the-variants.{Keep}
 use Rattle.protocol.specs.declared.tables.Tables.{Tables}
 use Rattle.protocol.specs.Setup.{inRange, between, volumeOf, volumeFits}
 use Rattle.protocol.specs.Tables.{epochAt, versionAt, standingAt, noCopy, noRequest, withQueue}
@@ -27,8 +24,7 @@ use Rattle.protocol.specs.Writes.{settled, writeStaged, clockStaged}
 use Rattle.protocol.specs.Server.{serverRestarted}
 use Rattle.protocol.specs.Client.{sweptAll}
 use Rattle.protocol.specs.Sound.{sound, volumeSound, objectSound, sessionsSound, holdersSound, recordsSound, tablesSound, queueSound, clockLimit, canGrow}
-use Rattle.protocol.specs.Answers.{isRefused}
-use Rattle.protocol.specs.Gate.{isClock, isRead, isAsk, isWrite, isDeliver, isLose, isDouble, isRestartServer, usesClient, usesObject, usesPlace, known, exists, timely, vacant, growable, orRefuse, refusalOfStep, refusal}
+use Rattle.protocol.specs.Gate.{isClock, isAsk, isWrite, isRestartServer, usesClient, usesObject, usesPlace, known, exists, timely, vacant, growable, orRefuse, refusalOfStep, refusal}
 use Rattle.protocol.specs.Decide.{kept, answered, counting, readDecided, askDecided, taken, deliverDecided, restartDecided, performed, refusedWith, decided}
 use Rattle.protocol.specs.World.{World, target, copiesAfter, requestsAfter, decision, stepped, answerOf}
 use Rattle.protocol.specs.Ledger.{accepts}

@@ -2,7 +2,7 @@ use borrow.Author.Needs.{needs}
 use Prim.Native.Nat.{_-_, _≤_}
 use mathlib.Core.Bool.{_&&_}
 use mathlib.Core.Path.{_≡_, refl}
-use Rattle.laws.specs.Loop.{allFrom, all-again-by, all-end}
+use Rattle.laws.specs.Loop.{allFrom, all-by, all-end}
 use Rattle.protocol.specs.Setup.{volumeFits}
 use Rattle.setup.proofs.volumes_fit.Statement.{statement}
 use Rattle.setup.proofs.volumes_fit.Tie as tie
@@ -32,7 +32,7 @@ loop-less : tie.Need-loop-less Inv-loop μ-loop
 loop-less c = search needs
 
 loop-again : tie.Need-loop-again Inv-loop μ-loop
-loop-again c = (search needs, search (all-again-by, needs))
+loop-again c = (search needs, search (all-by, needs))
 
 returns : tie.Need-returns Inv-loop μ-loop
 returns c = search (all-end, needs)

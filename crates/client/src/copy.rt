@@ -1,0 +1,99 @@
+ghost use mathlib.Core.Path.{_≡_};
+ghost use Prim.Native.Nat.{_<_};
+ghost use Rattle.protocol.specs.Leases.{clientAlive};
+ghost use Rattle.protocol.specs.Tables.{noCopy};
+ghost use Rattle.protocol.specs.Client.{storable, grantTaken, payloadOr, filled, swept};
+ghost use Rattle.client.specs.Shown.{shownAt};
+use crate::request;
+use protocol::message::Payload;
+use protocol::records::Copy;
+use protocol::records::Request;
+use protocol::setup::Setup;
+use protocol::step::Sweep;
+
+// "A lease is alive when its expiry is greater than the clock.": by the client's clock.
+fn alive(clock: u32, expiry: u32) -> bool
+    ensures { λ r. ⌜ r ≡ clientAlive clock expiry ⌝ }
+{
+    clock < expiry
+}
+
+// Step 2: "copy present and both leases alive", by the client's clock and its volume lease's expiry.
+pub fn showable(clock: u32, lease: u32, c: Copy) -> bool
+    ensures { λ r. ⌜ r ≡ shownAt clock lease c ⌝ }
+{
+    let leased = alive(clock, lease);
+    let held = alive(clock, c.expiry);
+    (c.version != 0) & (leased & held)
+}
+
+// Whether what a GRANT says of the value can be stored: "Without a value and with another version held: nothing."
+fn storable(c: Copy, version: u32, payload: Payload) -> bool
+    ensures { λ r. ⌜ r ≡ storable c version payload ⌝ }
+{
+    match payload {
+        Payload::Same => c.version == version,
+        Payload::Value(_) => true,
+    }
+}
+
+// Which GRANT is taken.
+pub fn grant_taken(c: Copy, r: Request, number: u32, version: u32, payload: Payload) -> bool
+    ensures { λ b. ⌜ b ≡ grantTaken c r number version payload ⌝ }
+{
+    let standing = request::stands(r, number);
+    let fits = storable(c, version, payload);
+    standing & fits
+}
+
+fn payload_or(held: u64, payload: Payload) -> u64
+    ensures { λ r. ⌜ r ≡ payloadOr held payload ⌝ }
+{
+    match payload {
+        Payload::Same => held,
+        Payload::Value(x) => x,
+    }
+}
+
+// GRANT: "store its fields".
+pub fn fill(c: Copy, version: u32, expiry: u32, payload: Payload) -> Copy
+    ensures { λ r. ⌜ r ≡ filled c version expiry payload ⌝ }
+{
+    Copy {
+        version: version,
+        value: payload_or(c.value, payload),
+        expiry: expiry,
+    }
+}
+
+// "erase the copy (version, value and expiry 0)".
+pub fn none() -> Copy
+    ensures { λ r. ⌜ r ≡ noCopy ⌝ }
+{
+    Copy {
+        version: 0,
+        value: 0,
+        expiry: 0,
+    }
+}
+
+// What becomes of a client's copy of an object when all its copies are swept.
+pub fn sweep(s: Setup, g: Sweep, c: Copy, object: usize) -> Copy
+    requires { ⌜ object < 32 ⌝ }
+    ensures { λ r. ⌜ r ≡ swept s g c object ⌝ }
+{
+    match g {
+        Sweep::Keep => c,
+        Sweep::Expire(v) => {
+            if s.volume[object] == v {
+                return Copy {
+                    version: c.version,
+                    value: c.value,
+                    expiry: 0,
+                };
+            }
+            c
+        }
+        Sweep::Erase => none(),
+    }
+}

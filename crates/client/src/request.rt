@@ -1,0 +1,46 @@
+ghost use mathlib.Core.Path.{_≡_};
+ghost use Prim.Native.Nat.{_<_};
+ghost use Rattle.protocol.specs.Client.{numbered, ended, stands, forgotten};
+use protocol::records::Request;
+
+// Step 3: "take the next number, replace the standing request".
+pub fn number(r: Request, object: u8) -> Request
+    requires { ⌜ r .next < 4294967295 ⌝ }
+    ensures { λ q. ⌜ q ≡ numbered r object ⌝ }
+{
+    Request {
+        next: r.next + 1,
+        standing: true,
+        number: r.next,
+        object: object,
+    }
+}
+
+// "end the request": only the next number remains.
+pub fn end(r: Request) -> Request
+    ensures { λ q. ⌜ q ≡ ended r ⌝ }
+{
+    Request {
+        next: r.next,
+        standing: false,
+        number: 0,
+        object: 0,
+    }
+}
+
+// "needs the standing number".
+pub fn stands(r: Request, number: u32) -> bool
+    ensures { λ b. ⌜ b ≡ stands r number ⌝ }
+{
+    r.standing & (r.number == number)
+}
+
+// INVALIDATE: "forget a standing request for that object".
+pub fn forget(r: Request, object: u8) -> Request
+    ensures { λ q. ⌜ q ≡ forgotten r object ⌝ }
+{
+    if r.standing & (r.object == object) {
+        return end(r);
+    }
+    r
+}

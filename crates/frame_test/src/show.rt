@@ -1,0 +1,71 @@
+use frame::Decoded;
+use frame::Encoded;
+use frame::fields::Fields;
+use protocol::message::Kind;
+use protocol::message::Message;
+
+fn number(n: u64) {
+    io::print_decimal(1, n);
+    io::write_all(1, b" ");
+}
+
+fn byte(b: u8) {
+    io::print_hex(1, b as u64, 2);
+}
+
+fn bytes(s: &[u8]) {
+    let mut i = 0;
+    while i < s.len() {
+        byte(s[i]);
+        i += 1;
+    }
+    io::write_all(1, b"\n");
+}
+
+fn fields(f: Fields) {
+    number(f.kind as u64);
+    number(f.client as u64);
+    number(f.object as u64);
+    number(f.present as u64);
+    number(f.number as u64);
+    number(f.lease as u64);
+    number(f.epoch as u64);
+    number(f.version as u64);
+    number(f.expiry as u64);
+    number(f.value);
+}
+
+fn encoded(r: Encoded) {
+    match r {
+        Encoded::Written => number(0),
+        Encoded::Refused => number(8),
+    }
+}
+
+fn again(m: Message) {
+    fields(frame::fields::fields_of(m));
+    let mut out = [238u8; 36];
+    encoded(frame::encode(m, &mut out));
+    bytes(&out);
+}
+
+pub fn frame(s: &[u8]) {
+    match frame::decode(s) {
+        Decoded::Accepted(m) => again(m),
+        Decoded::Refused => {
+            io::write_all(1, b"8\n");
+        }
+    }
+}
+
+// An output of 31 bytes is left as it was.
+pub fn short_output() {
+    let kind = Kind::Ack {
+        object: 1,
+        epoch: 2,
+        version: 3,
+    };
+    let mut out = [238u8; 31];
+    encoded(frame::encode(Message { client: 0, kind }, &mut out));
+    bytes(&out);
+}

@@ -1,0 +1,50 @@
+use borrow.Author.Needs.{needs}
+use Prim.Native.Nat.{ℕ, _+_, _-_, _*_, _≤_, _<_}
+use native.Mathlib.Nat.{sub-zero}
+use mathlib.Core.Bool.{Bool, true, false, _&&_}
+use mathlib.Core.Path.{_≡_}
+use Rattle.laws.specs.Loop.{allFrom, all-by, all-end}
+use Rattle.gate.specs.Scans.{epochGrows}
+use Rattle.gate.proofs.steps.epochs_grow.Statement.{statement}
+use Rattle.gate.proofs.steps.epochs_grow.Tie as tie
+
+abbrev Inv-loop : tie.InvT-loop
+Inv-loop epoch n ok₀ v₀ ok v = (v ≤ n) × ((ok && allFrom (epochGrows epoch) v (n - v)) ≡ allFrom (epochGrows epoch) 0 n)
+
+abbrev μ-loop : tie.MeasureT-loop
+μ-loop epoch n ok₀ v₀ ok v = n - v
+
+loop-holds : tie.Need-loop-holds Inv-loop μ-loop
+loop-holds c = (search needs, rw sub-zero)
+
+mul-ok : tie.Need-mul-ok Inv-loop μ-loop
+mul-ok c = search needs
+
+element-copy-out-ok : tie.Need-element-copy-out-ok Inv-loop μ-loop
+element-copy-out-ok c = search needs
+
+add-v : tie.Need-add-v Inv-loop μ-loop
+add-v c = search needs
+
+loop-less : tie.Need-loop-less Inv-loop μ-loop
+loop-less c = search needs
+
+loop-again : tie.Need-loop-again Inv-loop μ-loop
+loop-again c = (search needs, search all-by)
+
+returns : tie.Need-returns Inv-loop μ-loop
+returns c = search all-end
+
+pub epochs-grow-spec : {M : Type 1} → statement M
+epochs-grow-spec =
+    tie.close
+    (tie.spec
+    Inv-loop
+    μ-loop
+    loop-holds
+    mul-ok
+    element-copy-out-ok
+    add-v
+    loop-less
+    loop-again
+    returns)

@@ -1,0 +1,38 @@
+use borrow.Author.Needs.{needs}
+use Prim.Native.Nat.{ℕ, _+_, _-_, _*_, _≤_, _<_}
+use native.Mathlib.Nat.{sub-zero}
+use mathlib.Core.Bool.{Bool, true, false, _&&_}
+use mathlib.Core.Path.{_≡_}
+use Rattle.laws.specs.Loop.{allFrom, all-by, all-end}
+use Rattle.gate.specs.Scans.{rowFits}
+use Rattle.gate.proofs.tables.all_holders_fit.Statement.{statement}
+use Rattle.gate.proofs.tables.all_holders_fit.Tie as tie
+
+abbrev Inv-loop : tie.InvT-loop
+Inv-loop lease clients n ok₀ d₀ ok d = (d ≤ clients) × ((ok && allFrom (λ (k : ℕ). allFrom (rowFits lease (k * 32)) 0 n) d (clients - d)) ≡ allFrom (λ (k : ℕ). allFrom (rowFits lease (k * 32)) 0 n) 0 clients)
+
+abbrev μ-loop : tie.MeasureT-loop
+μ-loop lease clients n ok₀ d₀ ok d = clients - d
+
+loop-holds : tie.Need-loop-holds Inv-loop μ-loop
+loop-holds c = (search needs, rw sub-zero)
+
+holders-fit-requires : tie.Need-holders-fit-requires Inv-loop μ-loop
+holders-fit-requires c κs = search needs
+
+add-d : tie.Need-add-d Inv-loop μ-loop
+add-d c = search needs
+
+loop-less : tie.Need-loop-less Inv-loop μ-loop
+loop-less c = search needs
+
+loop-again : tie.Need-loop-again Inv-loop μ-loop
+loop-again c = (search needs, search all-by)
+
+returns : tie.Need-returns Inv-loop μ-loop
+returns c = search all-end
+
+pub all-holders-fit-spec : {M : Type 1} → statement M
+all-holders-fit-spec =
+    tie.close
+    (tie.spec Inv-loop μ-loop loop-holds holders-fit-requires add-d loop-less loop-again returns)

@@ -1,0 +1,19 @@
+ghost use mathlib.Core.Path.{_≡_};
+ghost use Rattle.protocol.specs.Sound.{timeFits, requestSound};
+use protocol::records::Copy;
+use protocol::records::Request;
+use protocol::setup::Setup;
+
+// "expiries .. at most 2,148,483,647".
+pub fn copy_sound(c: Copy) -> bool
+    ensures { λ r. ⌜ r ≡ timeFits (c .expiry) ⌝ }
+{
+    c.expiry <= 2148483647
+}
+
+// "next numbers at least 1", and the object of a standing request exists.
+pub fn request_sound(s: Setup, r: Request) -> bool
+    ensures { λ b. ⌜ b ≡ requestSound s r ⌝ }
+{
+    (1 <= r.next) & (!r.standing | ((r.object as u32) < s.objects))
+}

@@ -1,0 +1,104 @@
+-- A pass that goes from one number at which there is something to do to the next, as `firstFrom` finds them.
+use Prim.Native.Nat.{ℕ, zero, suc, _+_, _-_, _<_, _≤_}
+use native.Mathlib.Omega.{arith}
+use mathlib.Core.Bool.{Bool, true, false, cond, _||_}
+use mathlib.Core.Logic.{_⊎_, inl, inr}
+use mathlib.Core.Path.{_≡_, refl, sym, ap, _∙_}
+use lib.Dec.{ltb}
+use borrow.Author.Tests.{lt-ltb, le-ltb}
+use Rattle.laws.specs.Choice.{true-or-false}
+use Rattle.laws.specs.Loop.{foldFrom, firstFrom, anyFrom}
+
+module _ (p : ℕ → Bool) where
+  -- where the first number is
+  first-low : (j n : ℕ) → j ≤ firstFrom p j n
+  unfolding firstFrom
+  first-low j zero = omega arith
+  first-low j (suc n) = pick (first-low (j + 1) n) (true-or-false (p j))
+    where
+      pick : j + 1 ≤ firstFrom p (j + 1) n → (p j ≡ true) ⊎ (p j ≡ false) → j ≤ cond (p j) j (firstFrom p (j + 1) n)
+      pick h (inl e) = rw e (omega arith)
+      pick h (inr e) = rw e (omega arith)
+
+  first-high : (j n : ℕ) → firstFrom p j n ≤ j + n
+  unfolding firstFrom
+  first-high j zero = omega arith
+  first-high j (suc n) = pick (first-high (j + 1) n) (true-or-false (p j))
+    where
+      pick : firstFrom p (j + 1) n ≤ (j + 1) + n → (p j ≡ true) ⊎ (p j ≡ false) → cond (p j) j (firstFrom p (j + 1) n) ≤ j + suc n
+      pick h (inl e) = rw e (omega arith)
+      pick h (inr e) = rw e (omega arith)
+
+  hit : (j n : ℕ) → firstFrom p j n < j + n → p (firstFrom p j n) ≡ true
+  unfolding firstFrom
+  hit j zero h = absurd (omega arith)
+  hit j (suc n) h = pick (hit (j + 1) n) (true-or-false (p j)) h
+    where
+      pick : (firstFrom p (j + 1) n < (j + 1) + n → p (firstFrom p (j + 1) n) ≡ true) → (p j ≡ true) ⊎ (p j ≡ false)
+          → cond (p j) j (firstFrom p (j + 1) n) < j + suc n → p (cond (p j) j (firstFrom p (j + 1) n)) ≡ true
+      pick r (inl e) = rw e (λ h. e)
+      pick r (inr e) = rw e (λ h. r (omega arith))
+
+  -- some number passes where the first one that does is one of them
+  any-first : (j n : ℕ) → ltb (firstFrom p j n) (j + n) ≡ anyFrom p j n
+  unfolding firstFrom anyFrom
+  any-first j zero = le-ltb j (j + 0) (omega arith)
+  any-first j (suc n) = pick (any-first (j + 1) n) (true-or-false (p j))
+    where
+      same : j + suc n ≡ (j + 1) + n
+      same = omega arith
+
+      pick : ltb (firstFrom p (j + 1) n) ((j + 1) + n) ≡ anyFrom p (j + 1) n → (p j ≡ true) ⊎ (p j ≡ false)
+          → ltb (cond (p j) j (firstFrom p (j + 1) n)) (j + suc n) ≡ p j || anyFrom p (j + 1) n
+      pick r (inl e) = rw e (lt-ltb j (j + suc n) (omega arith))
+      pick r (inr e) = rw (e, same) r
+
+  -- the same laws at N - j left
+  module _ (N j k : ℕ) (l : j ≤ N) (f : k ≡ firstFrom p j (N - j)) where
+    whole : j + (N - j) ≡ N
+    whole = omega arith
+
+    pub first-from : j ≤ k
+    first-from = rw f (first-low j (N - j))
+
+    pub first-to : k ≤ N
+    first-to = rw f (rw whole at (first-high j (N - j)))
+
+    pub first-is : k < N → p k ≡ true
+    first-is h = rw f (hit j (N - j) (rw (whole, ← f) h))
+
+  pub first-any : (N : ℕ) → ltb (firstFrom p 0 N) N ≡ anyFrom p 0 N
+  first-any N = rw same at (any-first 0 N)
+    where
+      same : 0 + N ≡ N
+      same = omega arith
+
+-- a turn at a number that does not pass changes nothing
+module _ {ℓ} {S : Type ℓ} (F : S → ℕ → S) (p : S → ℕ → Bool) (still : (s : S) (j : ℕ) → p s j ≡ false → F s j ≡ s) where
+  skip : (s : S) (j n : ℕ) → foldFrom F s j n ≡ foldFrom F s (firstFrom (p s) j n) (j + n - firstFrom (p s) j n)
+  unfolding foldFrom firstFrom
+  skip s j zero = rw none
+    where
+      none : j + 0 - j ≡ 0
+      none = omega arith
+  skip s j (suc n) = pick (skip s (j + 1) n) (true-or-false (p s j))
+    where
+      all : j + suc n - j ≡ suc n
+      all = omega arith
+
+      less : j + suc n ≡ (j + 1) + n
+      less = omega arith
+
+      pick : foldFrom F s (j + 1) n ≡ foldFrom F s (firstFrom (p s) (j + 1) n) ((j + 1) + n - firstFrom (p s) (j + 1) n)
+          → (p s j ≡ true) ⊎ (p s j ≡ false)
+          → foldFrom F (F s j) (j + 1) n
+          ≡ foldFrom F s (cond (p s j) j (firstFrom (p s) (j + 1) n)) (j + suc n - cond (p s j) j (firstFrom (p s) (j + 1) n))
+      pick r (inl e) = rw (e, all)
+      pick r (inr e) = rw (e, still s j e, less) r
+
+  -- on to the first number that passes
+  pub fold-skip : (N j k : ℕ) (s A : S) → j ≤ N → k ≡ firstFrom (p s) j (N - j) → foldFrom F s j (N - j) ≡ A → foldFrom F s k (N - k) ≡ A
+  fold-skip N j k s A l f i = sym (rw (whole, ← f) at (skip s j (N - j))) ∙ i
+    where
+      whole : j + (N - j) ≡ N
+      whole = omega arith

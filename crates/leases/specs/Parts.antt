@@ -1,0 +1,60 @@
+-- The rules of writes, over the single tables that a function is lent.
+use Prim.Native.Nat.{ℕ, _+_, _-_, min, max, _<_, _≤_}
+use mathlib.Core.Bool.{Bool, true, false, cond, not, _&&_, _||_}
+use mathlib.Core.List.{List}
+use mathlib.Core.Path.{_≡_}
+use lib.ListN.{getD, set}
+use Rattle.laws.specs.Loop.{foldFrom, firstFrom}
+use Rattle.laws.specs.Store.{storeEach, always}
+use Rattle.protocol.specs.declared.message.Queue.{Queue}
+use Rattle.protocol.specs.declared.message.Kind.the-variants.{Invalidate}
+use Rattle.protocol.specs.declared.setup.Setup.{Setup}
+use Rattle.protocol.specs.Setup.{volumeOf}
+use Rattle.protocol.specs.Messages.{message, pushed}
+use Rattle.protocol.specs.Tables.{byVolume, byObject}
+use Rattle.protocol.specs.Leases.{serverAlive}
+
+-- what an object's volume is known to be, and the bounds that come with it
+pub record Placed (s : Setup) (o v : ℕ) : Type 0 where
+  pub is : v ≡ volumeOf s o
+  pub exists : v < s .volumes
+  pub volume : v < 8
+  pub object : o < 32
+  pub clients : s .clients ≤ 16
+  pub objects : s .objects ≤ 32
+
+-- g d stored for object o, for each of the first n clients d
+abbrev pub forClients : {A : Type 0} → ℕ → (ℕ → A) → List A → ℕ → List A
+forClients o g l n = storeEach always (λ (d : ℕ). byObject d o) g l n
+
+-- `waits`, by the numbers that it reads
+abbrev pub waitsBy : ℕ → ℕ → Bool → ℕ → Bool
+waitsBy clock lease unreachable expiry = serverAlive clock lease && (not unreachable || serverAlive clock expiry)
+
+-- `latestEnd`, likewise
+abbrev pub latestBy : ℕ → ℕ → ℕ → ℕ → ℕ → ℕ
+latestBy clock m volume object guard = max (max (clock + m) (min volume object)) guard
+
+-- whether client d is waited for on object o
+abbrev pub waitingFor : List Bool → ℕ → ℕ → Bool
+waitingFor waiting o d = getD waiting (byObject d o) false
+
+-- r is the first number from `from` on, and below n, that passes; n where there is none
+pub record Found (p : ℕ → Bool) (from n r : ℕ) : Type 0 where
+  pub is : r ≡ firstFrom p from (n - from)
+  pub low : from ≤ r
+  pub high : r ≤ n
+
+-- one client marked unreachable, if it is still waited for
+abbrev pub markOne : List Bool → ℕ → ℕ → List Bool → ℕ → List Bool
+markOne waiting v o l d = cond (waitingFor waiting o d) (set l (byVolume d v) true) l
+
+abbrev pub markedStill : List Bool → ℕ → ℕ → List Bool → ℕ → List Bool
+markedStill waiting v o l n = foldFrom (markOne waiting v o) l 0 n
+
+-- one INVALIDATE of object o sent, if its client is waited for
+abbrev pub notifyOne : List Bool → ℕ → ℕ → ℕ → Queue → ℕ → Queue
+notifyOne waiting o e w q d = cond (waitingFor waiting o d) (pushed q (message d (Invalidate o e w))) q
+
+abbrev pub notifiedBy : List Bool → ℕ → ℕ → ℕ → Queue → ℕ → Queue
+notifiedBy waiting o e w q n = foldFrom (notifyOne waiting o e w) q 0 n

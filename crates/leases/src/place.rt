@@ -1,0 +1,16 @@
+// Where an object's tables are.
+ghost use mathlib.Core.Path.{_≡_};
+ghost use mathlib.Core.Bool.{Bool, true};
+ghost use Prim.Native.Nat.{ℕ, _<_};
+ghost use Rattle.protocol.specs.Setup.{inRange};
+ghost use Rattle.leases.specs.Parts.{Placed};
+use protocol::setup::Setup;
+
+// The volume of an object.
+pub fn volume_of(s: Setup, o: usize) -> usize
+    requires { ⌜ inRange s ≡ true ⌝ }
+    requires { ⌜ o < s .objects ⌝ }
+    ensures { λ r. ⌜ Placed s o r ⌝ }
+{
+    s.volume[o] as usize
+}

@@ -1,0 +1,64 @@
+// The tests of time.
+ghost use mathlib.Core.Path.{_≡_};
+ghost use mathlib.Core.Bool.{Bool, not};
+ghost use Prim.Native.Nat.{ℕ, _+_, _<_, min, max};
+ghost use Rattle.protocol.specs.Leases.{serverAlive, endOver};
+ghost use Rattle.leases.specs.Parts.{waitsBy, latestBy};
+
+// "A lease is alive when its expiry is greater than the clock."
+pub fn server_alive(clock: u32, expiry: u32) -> bool
+    ensures { λ r. ⌜ r ≡ serverAlive clock expiry ⌝ }
+{
+    clock < expiry
+}
+
+// "clock at or past guard"
+pub fn guard_passed(clock: u32, guard: u32) -> bool
+    ensures { λ r. ⌜ r ≡ not (serverAlive clock guard) ⌝ }
+{
+    !server_alive(clock, guard)
+}
+
+// "whose latest end is below the clock"
+pub fn end_over(clock: u32, end: u32) -> bool
+    ensures { λ r. ⌜ r ≡ endOver clock end ⌝ }
+{
+    end < clock
+}
+
+// "object lease is alive and which either are not marked unreachable or have a live volume lease"
+pub fn waits(clock: u32, lease: u32, unreachable: bool, expiry: u32) -> bool
+    ensures { λ r. ⌜ r ≡ waitsBy clock lease unreachable expiry ⌝ }
+{
+    let object = server_alive(clock, lease);
+    let volume = server_alive(clock, expiry);
+    object & (!unreachable | volume)
+}
+
+pub fn larger(a: u32, b: u32) -> u32
+    ensures { λ r. ⌜ r ≡ max a b ⌝ }
+{
+    if a < b {
+        return b;
+    }
+    a
+}
+
+pub fn smaller(a: u32, b: u32) -> u32
+    ensures { λ r. ⌜ r ≡ min a b ⌝ }
+{
+    if a < b {
+        return a;
+    }
+    b
+}
+
+// "the greatest of clock + m, the lesser of VE and OE, and guard"
+pub fn latest_end(clock: u32, m: u32, volume: u32, object: u32, guard: u32) -> u32
+    requires { ⌜ clock + m < 4294967296 ⌝ }
+    ensures { λ r. ⌜ r ≡ latestBy clock m volume object guard ⌝ }
+{
+    let lease = smaller(volume, object);
+    let reply = larger(clock + m, lease);
+    larger(reply, guard)
+}

@@ -1,0 +1,187 @@
+// Run files made up by hand from 01's layout, one line for each: refusal, the note's length, the setup with its first and last volume byte, how many
+// steps and where they begin; and some records of steps.
+mod show;
+
+ghost use Prim.Native.Nat.{_<_};
+
+// Nothing but a setup (1 client, 1 volume, 1 object, tv 10, t 100, m 3) and a trailer.
+fn smallest() -> [u8; 56] {
+    let mut f = [0u8; 56];
+    f[0] = 1;
+    f[1] = 1;
+    f[2] = 1;
+    f[4] = 10;
+    f[8] = 100;
+    f[12] = 3;
+    f[52] = 56;
+    f
+}
+
+// The same with one byte changed.
+fn changed(at: usize, b: u8)
+    requires { ⌜ at < 56 ⌝ }
+{
+    let mut f = smallest();
+    f[at] = b;
+    show::file(&f);
+}
+
+fn small() {
+    let f = smallest();
+    show::file(&f);
+    // a byte short, at the front and at the end
+    show::file(show::cut(&f, 1, 56));
+    show::file(show::cut(&f, 0, 55));
+    show::file(b"");
+    // counts of clients, volumes and objects; the 0 after them; tv; a volume that does not exist; a volume byte past the objects
+    changed(0, 0);
+    changed(0, 16);
+    changed(0, 17);
+    changed(1, 9);
+    changed(2, 33);
+    changed(3, 1);
+    changed(4, 0);
+    changed(16, 1);
+    changed(47, 1);
+    // step count and distance
+    changed(48, 1);
+    changed(52, 55);
+    changed(52, 57);
+    changed(52, 72);
+    changed(55, 1);
+}
+
+// A note of two bytes, two steps (clock 258; write object 0 of the value 2 to the 56th + 7), and the same setup: 90 bytes. The last byte is one more.
+fn two_steps() -> [u8; 91] {
+    let mut f = [0u8; 91];
+    f[0] = b'h';
+    f[1] = b'i';
+    f[2] = 1;
+    f[3] = 1;
+    f[4] = 1;
+    f[6] = 10;
+    f[10] = 100;
+    f[14] = 3;
+    f[50] = 1;
+    f[54] = 2;
+    f[55] = 1;
+    f[66] = 4;
+    f[74] = 7;
+    f[81] = 1;
+    f[82] = 2;
+    f[86] = 88;
+    f
+}
+
+fn changed_step(at: usize, b: u8)
+    requires { ⌜ at < 91 ⌝ }
+{
+    let mut f = two_steps();
+    f[at] = b;
+    show::file(show::cut(&f, 0, 90));
+}
+
+fn steps() {
+    let f = two_steps();
+    show::file(show::cut(&f, 0, 90));
+    show::file(&f);
+    show::record(show::cut(&f, 0, 90), 0);
+    show::record(show::cut(&f, 0, 90), 1);
+    // past the file there is none
+    show::record(show::cut(&f, 0, 90), 2);
+}
+
+fn step_fields() {
+    // fields that a clock step and a write do not use, and one that a write does
+    changed_step(51, 1);
+    changed_step(52, 1);
+    changed_step(53, 1);
+    changed_step(58, 1);
+    changed_step(67, 1);
+    changed_step(69, 1);
+    changed_step(70, 1);
+    changed_step(68, 200);
+    // a step of an unknown kind may hold anything
+    changed_step(50, 0);
+    changed_step(66, 10);
+}
+
+// A note that is a run file itself: the setup is found from the end.
+fn note_like_a_file() {
+    let mut f = [0u8; 112];
+    f[0] = 1;
+    f[1] = 1;
+    f[2] = 1;
+    f[4] = 10;
+    f[8] = 100;
+    f[12] = 3;
+    f[52] = 56;
+    f[56] = 2;
+    f[57] = 1;
+    f[58] = 1;
+    f[60] = 20;
+    f[64] = 200;
+    f[68] = 6;
+    f[108] = 56;
+    show::file(&f);
+    // a trailer that points at the note's setup
+    f[108] = 112;
+    show::file(&f);
+}
+
+// After a first byte that is one too many: 65,536 bytes, a note of 1,480 and 4,000 steps, the last of which delivers place 63.
+fn largest() -> [u8; 65537] {
+    let mut f = [0u8; 65537];
+    f[1481] = 16;
+    f[1482] = 8;
+    f[1483] = 32;
+    f[1485] = 16;
+    f[1486] = 14;
+    f[1489] = 64;
+    f[1490] = 66;
+    f[1491] = 15;
+    f[1493] = 60;
+    f[1497] = 7;
+    f[1528] = 7;
+    f[65513] = 5;
+    f[65516] = 63;
+    f[65529] = 160;
+    f[65530] = 15;
+    f[65533] = 56;
+    f[65534] = 250;
+    f
+}
+
+fn large() {
+    let f = largest();
+    show::file(show::cut(&f, 1, 65537));
+    show::file(&f);
+    show::record(show::cut(&f, 1, 65537), 0);
+    show::record(show::cut(&f, 1, 65537), 3999);
+    show::record(show::cut(&f, 1, 65537), 4000);
+}
+
+// 4,001 steps, in a file that is right otherwise.
+fn too_many_steps() {
+    let mut f = [0u8; 64072];
+    f[0] = 1;
+    f[1] = 1;
+    f[2] = 1;
+    f[4] = 10;
+    f[8] = 100;
+    f[12] = 3;
+    f[64064] = 161;
+    f[64065] = 15;
+    f[64068] = 72;
+    f[64069] = 250;
+    show::file(&f);
+}
+
+fn main() {
+    small();
+    steps();
+    step_fields();
+    note_like_a_file();
+    large();
+    too_many_steps();
+}

@@ -1,0 +1,60 @@
+use protocol::setup::Setup;
+use protocol::step::Step;
+
+fn number(n: u64) {
+    io::print_decimal(1, n);
+    io::write_all(1, b" ");
+}
+
+fn last(n: u64) {
+    io::print_decimal(1, n);
+    io::write_all(1, b"\n");
+}
+
+fn setup(s: Setup) {
+    number(s.clients as u64);
+    number(s.volumes as u64);
+    number(s.objects as u64);
+    number(s.tv as u64);
+    number(s.t as u64);
+    number(s.m as u64);
+    number(s.volume[0] as u64);
+    number(s.volume[31] as u64);
+}
+
+fn step(x: Step) {
+    number(x.kind as u64);
+    number(x.client as u64);
+    number(x.object as u64);
+    number(x.place as u64);
+    number(x.clock as u64);
+    last(x.value);
+}
+
+// The bytes from one place up to another.
+pub fn cut(f: &[u8], from: usize, to: usize) -> &[u8] {
+    if from <= to {
+        if to <= f.len() {
+            return &f[from..to];
+        }
+    }
+    &f[..0]
+}
+
+// The refusal, the note's length, and what else was read.
+pub fn file(f: &[u8]) {
+    let r = runfile::read(f);
+    number(r.refusal as u64);
+    number(runfile::note(f).len() as u64);
+    let s = r.setup;
+    setup(s);
+    number(r.count as u64);
+    last(r.first as u64);
+}
+
+// Record k of a file's steps.
+pub fn record(f: &[u8], k: usize) {
+    let r = runfile::read(f);
+    let first = r.first;
+    step(runfile::step_at(f, first, k));
+}
