@@ -1,0 +1,42 @@
+use Rattle.decide.proofs.Laws.{target-delivered, target-named}
+use borrow.Author.Needs.{needs}
+use Rattle.decide.proofs.target.target.Statement.{statement}
+use Rattle.decide.proofs.target.target.Tie as tie
+use Rattle.decide.proofs.target.target.Reads as reads
+use Rattle.decide.proofs.target.target.Lts as lts
+use Rattle.decide.proofs.target.object_of.Reads as object-of-reads
+use Rattle.decide.proofs.target.target_at.Reads as target-at-reads
+use Rattle.queue.proofs.message_at.Reads as message-at-reads
+
+cast-message-at : tie.Need-cast-message-at
+cast-message-at c = search needs
+
+message-at-requires : tie.Need-message-at-requires
+message-at-requires c κs = search needs
+
+object-of-requires : tie.Need-object-of-requires
+object-of-requires c κs = search needs
+
+target-at-requires : tie.Need-target-at-requires
+target-at-requires c κs = search needs
+
+returns : tie.Need-returns
+returns c = search target-delivered
+
+target-at-requires-2 : tie.Need-target-at-requires-2
+target-at-requires-2 c κs = search needs
+
+returns-2 : tie.Need-returns-2
+returns-2 c = search target-named
+
+pub target-spec : {M : Type 1} → statement M
+target-spec =
+    tie.close
+    (tie.spec
+    cast-message-at
+    message-at-requires
+    object-of-requires
+    target-at-requires
+    returns
+    target-at-requires-2
+    returns-2)

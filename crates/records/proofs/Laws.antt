@@ -1,0 +1,129 @@
+-- What each way through a function's tests found, put together.
+use Prim.Native.Nat.{ℕ, zero, suc, _+_, _-_, _*_, _^_, _≤_, _<_}
+use native.Mathlib.Omega.{arith}
+use mathlib.Core.Bool.{Bool, true, false, _&&_}
+use mathlib.Core.List.{List}
+use mathlib.Core.Logic.{⊎-elim}
+use mathlib.Core.Path.{_≡_, refl, sym, ap, _∙_}
+use lib.ListN.{length, getD, set, length-set, List·getD-eq-default}
+use lib.Seq.{set-out}
+use lib.Dec.{ltb}
+use borrow.Author.Tests.{ltb-true, ltb-false, lt-ltb, le-ltb, eq-eqb, ne-eqb}
+use Rattle.laws.specs.Choice.{true-or-false}
+use Rattle.laws.specs.Loop.{foldFrom}
+use Rattle.protocol.specs.declared.records.Copy.{Copy}
+use Rattle.protocol.specs.declared.records.Request.{Request}
+use Rattle.protocol.specs.declared.setup.Setup.{Setup}
+use Rattle.protocol.specs.declared.step.Sweep.{Sweep}
+use Rattle.protocol.specs.declared.step.Sweep.the-variants.{Keep, Expire, Erase}
+use Rattle.protocol.specs.Setup.{volumeOf}
+use Rattle.protocol.specs.Tables.{noCopy}
+use Rattle.protocol.specs.Client.{swept, sweepAt, sweptAll, sweeps}
+use Rattle.records.specs.Places.{stopOf}
+use Rattle.records.specs.declared.turn.Turn.the-variants.{Keep as KeepIt, Take, End}
+use Rattle.records.specs.Turns.{isOver, turnOf}
+
+-- an element past the end
+pub past-end : (l : List ℕ) (i n : ℕ) → length l ≡ n → n ≤ i → 0 ≡ getD l i 0
+past-end l i n e h = sym (List·getD-eq-default l 0 {n = i} (rw e h))
+
+-- two counts of 32 bits, multiplied
+pub mul-fits : (a b : ℕ) → a < 4294967296 → b < 4294967296 → a * b < 2 ^ 64
+mul-fits a b h k = omega (arith, mul-most a b 4294967295 (omega arith))
+  where
+    mul-most : (c o m : ℕ) → o ≤ m → c * o ≤ c * m
+    mul-most zero o m h = omega arith
+    mul-most (suc c) o m h = omega (arith, mul-most c o m h)
+
+-- an answer so far, and one more test
+pub and-again : (ok p q : Bool) {r : Bool} → (ok && (p && q)) ≡ r → ((ok && p) && q) ≡ r
+and-again true p q e = e
+and-again false p q e = e
+
+pub and-true : (ok : Bool) {r : Bool} → (ok && true) ≡ r → ok ≡ r
+and-true true e = e
+and-true false e = e
+
+module _ (s : Setup) (c : Copy) (o : ℕ) where
+  pub expires : (v w : ℕ) → w ≡ volumeOf s o → w ≡ v → record { version = c .version; value = c .value; expiry = 0 } ≡ swept s (Expire v) c o
+  unfolding swept
+  expires v w a e = rw (eq-eqb _ _ (sym a ∙ e))
+
+  pub expires-not : (v w : ℕ) → w ≡ volumeOf s o → (w ≡ v → ⊥) → c ≡ swept s (Expire v) c o
+  unfolding swept
+  expires-not v w a n = rw (ne-eqb _ _ (λ e. n (a ∙ e)))
+
+  pub swept-keep : (g : Sweep) → g ≡ Keep → c ≡ swept s g c o
+  unfolding swept
+  swept-keep g e = rw e
+
+  pub swept-expire : (g : Sweep) (v : ℕ) (r : Copy) → g ≡ Expire v → r ≡ swept s (Expire v) c o → r ≡ swept s g c o
+  swept-expire g v r e f = rw e f
+
+  pub swept-erase : (g : Sweep) → g ≡ Erase → noCopy ≡ swept s g c o
+  unfolding swept
+  swept-erase g e = rw e
+
+-- where a pass stops
+module _ (first n len : ℕ) where
+  pub stop-within : first < len → n < len - first → first + n ≡ stopOf first n len
+  unfolding stopOf
+  stop-within h k = rw (lt-ltb _ _ h, lt-ltb _ _ k)
+
+  pub stop-end : first < len → len - first ≤ n → len ≡ stopOf first n len
+  unfolding stopOf
+  stop-end h k = rw (lt-ltb _ _ h, le-ltb _ _ k)
+
+  pub stop-none : len ≤ first → first ≡ stopOf first n len
+  unfolding stopOf
+  stop-none h = rw (le-ltb _ _ h)
+
+-- places past the end are neither read nor written: a pass may stop at the end
+module _ (s : Setup) (g : Sweep) (first : ℕ) where
+  pass-past : (l : List Copy) (j n : ℕ) → length l ≤ j → foldFrom (sweepAt s g first) l j n ≡ l
+  unfolding foldFrom
+  pass-past l j zero h = refl
+  pass-past l j (suc n) h = rw (set-out l j (swept s g (getD l j noCopy) (j - first)) h) (pass-past l (j + 1) n (omega arith))
+
+  pass-cut : (l : List Copy) (j m n : ℕ) → m ≤ n → length l ≤ j + m → foldFrom (sweepAt s g first) l j m ≡ foldFrom (sweepAt s g first) l j n
+  unfolding foldFrom
+  pass-cut l j zero n h k = sym (pass-past l j n (omega arith))
+  pass-cut l j (suc m) zero h k = absurd (omega arith)
+  pass-cut l j (suc m) (suc n) h k = pass-cut (sweepAt s g first l j) (j + 1) m n (omega arith) (rw (length-set l j (swept s g (getD l j noCopy) (j - first))) (omega arith))
+
+  pub sweep-stops : (l : List Copy) → foldFrom (sweepAt s g first) l first (stopOf first (sweeps g (s .objects)) (length l) - first) ≡ sweptAll s g first l
+  unfolding sweptAll
+  sweep-stops l =
+      ⊎-elim
+      (λ e. ⊎-elim (λ f. within (ltb-true _ _ e) (ltb-true _ _ f)) (λ f. cut (ltb-true _ _ e) (ltb-false _ _ f)) (true-or-false (ltb n (length l - first))))
+      (λ e. none (ltb-false _ _ e))
+      (true-or-false (ltb first (length l)))
+    where
+      n : ℕ
+      n = sweeps g (s .objects)
+
+      Same : ℕ → Type 0
+      Same m = foldFrom (sweepAt s g first) l first m ≡ foldFrom (sweepAt s g first) l first n
+
+      none : length l ≤ first → Same (stopOf first n (length l) - first)
+      none h = rw (← stop-none first n (length l) h) (pass-cut l first (first - first) n (omega arith) (omega arith))
+
+      within : first < length l → n < length l - first → Same (stopOf first n (length l) - first)
+      within h k = rw (← stop-within first n (length l) h k) (ap (foldFrom (sweepAt s g first) l first) (omega arith))
+
+      cut : first < length l → length l - first ≤ n → Same (stopOf first n (length l) - first)
+      cut h k = rw (← stop-end first n (length l) h k) (pass-cut l first (length l - first) n k (omega arith))
+
+-- by which turn a request became another one
+module _ (before after : Request) where
+  pub turn-end : (b : Bool) → after .next ≡ before .next → b ≡ isOver after → b ≡ true → End ≡ turnOf before after
+  unfolding turnOf
+  turn-end b e a f = rw (eq-eqb _ _ e, sym a ∙ f)
+
+  pub turn-keep : (b : Bool) → after .next ≡ before .next → b ≡ isOver after → b ≡ false → KeepIt ≡ turnOf before after
+  unfolding turnOf
+  turn-keep b e a f = rw (eq-eqb _ _ e, sym a ∙ f)
+
+  pub turn-take : (after .next ≡ before .next → ⊥) → Take (after .object) ≡ turnOf before after
+  unfolding turnOf
+  turn-take n = rw (ne-eqb _ _ n)

@@ -1,0 +1,15 @@
+use borrow.Author.Needs.{needs}
+use Rattle.records.proofs.copies.still_sound.Statement.{statement}
+use Rattle.records.proofs.copies.still_sound.Tie as tie
+use Rattle.records.proofs.copies.still_sound.Reads as reads
+use Rattle.records.proofs.copies.still_sound.Lts as lts
+use Rattle.gate.proofs.records.copy_sound.Reads as copy-sound-reads
+
+copy-sound-requires : tie.Need-copy-sound-requires
+copy-sound-requires c κs = search needs
+
+returns : tie.Need-returns
+returns c = cc
+
+pub still-sound-spec : {M : Type 1} → statement M
+still-sound-spec = tie.close (tie.spec copy-sound-requires returns)

@@ -1,0 +1,19 @@
+use borrow.Author.Needs.{needs}
+use Rattle.records.proofs.sweep.stop_at.Statement.{statement}
+use Rattle.records.proofs.sweep.stop_at.Tie as tie
+use Rattle.records.proofs.sweep.stop_at.Reads as reads
+use Rattle.records.proofs.sweep.stop_at.Lts as lts
+use Rattle.records.proofs.sweep.stop.Reads as stop-reads
+use Rattle.records.proofs.sweep.sweeps.Reads as sweeps-reads
+
+sweeps-requires : tie.Need-sweeps-requires
+sweeps-requires c κs = search needs
+
+stop-requires : tie.Need-stop-requires
+stop-requires c κs = search needs
+
+returns : tie.Need-returns
+returns c = cc
+
+pub stop-at-spec : {M : Type 1} → statement M
+stop-at-spec = tie.close (tie.spec sweeps-requires stop-requires returns)

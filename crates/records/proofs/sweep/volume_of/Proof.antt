@@ -1,0 +1,18 @@
+use Rattle.records.proofs.Laws.{past-end}
+use borrow.Author.Needs.{needs}
+use Rattle.records.proofs.sweep.volume_of.Statement.{statement}
+use Rattle.records.proofs.sweep.volume_of.Tie as tie
+use Rattle.records.proofs.sweep.volume_of.Reads as reads
+use Rattle.records.proofs.sweep.volume_of.Lts as lts
+
+element-copy-out-result : tie.Need-element-copy-out-result
+element-copy-out-result c = search needs
+
+returns : tie.Need-returns
+returns c = search needs
+
+returns-2 : tie.Need-returns-2
+returns-2 c = search (needs, past-end)
+
+pub volume-of-spec : {M : Type 1} → statement M
+volume-of-spec = tie.close (tie.spec element-copy-out-result returns returns-2)

@@ -1,0 +1,62 @@
+ghost use mathlib.Core.Path.{_≡_};
+ghost use Prim.Native.Nat.{_*_};
+ghost use mathlib.Core.Bool.{_&&_};
+ghost use lib.Dec.{eqb};
+ghost use lib.ListN.{getD, set};
+ghost use Rattle.protocol.specs.Tables.{noCopy};
+ghost use Rattle.protocol.specs.Sound.{timeFits, copiesSound};
+use gate::records::copy_sound;
+use protocol::records::Copy;
+use protocol::setup::Setup;
+
+// One copy; where there is no such place, no copy.
+pub fn look(copies: &[Copy], i: usize) -> Copy
+    ensures { λ r. ⌜ r ≡ getD (now (copies .entry)) i noCopy ⌝ }
+{
+    if i < copies.len() {
+        return copies[i];
+    }
+    Copy {
+        version: 0,
+        value: 0,
+        expiry: 0,
+    }
+}
+
+// One copy stored; nothing where there is no such place.
+pub fn store(copies: &mut [Copy], i: usize, c: Copy)
+    ensures { λ _. ⌜ now (copies .exit) ≡ set (now (copies .entry)) i c ⌝ }
+{
+    if i < copies.len() {
+        copies[i] = c;
+    }
+}
+
+// "dash by dash in object order; another length is unsound"
+fn as_many(s: Setup, len: usize) -> bool
+    ensures { λ r. ⌜ r ≡ eqb len (s .clients * s .objects) ⌝ }
+{
+    let clients = s.clients as usize;
+    let objects = s.objects as usize;
+    len == clients * objects
+}
+
+fn still_sound(ok: bool, c: Copy) -> bool
+    ensures { λ r. ⌜ r ≡ (ok && timeFits (c .expiry)) ⌝ }
+{
+    let fits = copy_sound(c);
+    ok & fits
+}
+
+// Question 1, as far as it asks about copies: as many as there are clients and objects, and every expiry in range.
+pub fn sound(copies: &[Copy], s: Setup) -> bool
+    ensures { λ r. ⌜ r ≡ copiesSound s (now (copies .entry)) ⌝ }
+{
+    let mut ok = as_many(s, copies.len());
+    let mut k = 0;
+    while k < copies.len() {
+        ok = still_sound(ok, copies[k]);
+        k += 1;
+    }
+    ok
+}

@@ -1,0 +1,41 @@
+-- What an accepted file gives to whoever runs it.
+use Prim.Native.Nat.{ℕ, _<_}
+use mathlib.Core.Bool.{Bool, true, false, _&&_}
+use mathlib.Core.List.{List}
+use mathlib.Core.Logic.{⊎-elim}
+use mathlib.Core.Path.{_≡_, refl, sym, ap, _∙_}
+use native.Mathlib.Omega.{arith}
+use lib.Dec.{eqb}
+use lib.ListN.{getD}
+use Rattle.laws.specs.Choice.{true-or-false, and-true}
+use Rattle.protocol.specs.declared.step.Step.{Step}
+use Rattle.protocol.specs.Setup.{inRange}
+use Rattle.runfile.specs.declared.Contents.{Contents}
+use Rattle.runfile.specs.File.{countOf, setupPlace, firstPlace, reserved, setupIn, stepsFit, measured, contentsFit, wellFormed, stepAt, contents, contentsOf}
+use Rattle.runfile.specs.Steps.{stepsOf, step-there, formed-parts}
+
+-- r is what was read of the file l, and it is not refused
+module _ (l : List ℕ) (r : Contents) (e : r ≡ contentsOf l) (a : r .refusal ≡ 0) where
+  pub formed : wellFormed l ≡ true
+  unfolding contentsOf
+  formed = ⊎-elim (λ t. t) (λ t. absurd (never (sym a ∙ ap (λ (x : Contents). x .refusal) (rw t at e)))) (true-or-false (wellFormed l))
+    where
+      never : _≡_ {A = ℕ} 0 9 → ⊥
+      never q = omega arith
+
+  pub contents-read : r ≡ contents 0 (setupIn l (setupPlace l)) (countOf l) (firstPlace l)
+  unfolding contentsOf
+  contents-read = rw formed at e
+
+  -- the setup is in range
+  pub setup-read : inRange (r .setup) ≡ true
+  unfolding wellFormed contentsFit
+  setup-read =
+      let p : ℕ = setupPlace l in
+      let h = and-true (measured l) (contentsFit l) formed .1 in
+      let k = and-true (eqb (reserved l p) 0 && inRange (setupIn l p)) (stepsFit l (firstPlace l) (countOf l)) h .0 in
+      rw contents-read (and-true (eqb (reserved l p) 0) (inRange (setupIn l p)) k .1)
+
+  -- record k is the k-th step
+  pub step-read : (k : ℕ) (d : Step) → k < r .count → stepAt l (r .first) k ≡ getD (stepsOf l) k d
+  step-read k d h = rw contents-read (step-there l (formed-parts l formed) k d (rw contents-read at h))

@@ -1,0 +1,13 @@
+//! Tools for whoever writes or reads runs: a text form of run files, a
+//! listing in words, a picture over time.
+//!
+//! All state comes from the model: the tools run it step by step and put
+//! into words or lines what its tables hold before and after each step.
+
+pub mod command;
+pub mod explain;
+pub mod names;
+pub mod picture;
+pub mod text;
+pub mod timeline;
+pub mod trace;

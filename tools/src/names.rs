@@ -1,0 +1,74 @@
+//! Messages and sets in words.
+
+use model::bits::members;
+use model::message::{Kind, Message};
+
+pub fn kind(kind: &Kind) -> &'static str {
+    match kind {
+        Kind::Renew { .. } => "RENEW",
+        Kind::Grant(_) => "GRANT",
+        Kind::Invalidate { .. } => "INVALIDATE",
+        Kind::Ack { .. } => "ACK",
+        Kind::Offer { .. } => "OFFER",
+        Kind::Dropped { .. } => "DROPPED",
+    }
+}
+
+/// Whether the server sends this kind.
+pub fn from_server(kind: &Kind) -> bool {
+    matches!(kind, Kind::Grant(_) | Kind::Invalidate { .. } | Kind::Offer { .. })
+}
+
+/// The kind with what tells two messages of it apart.
+pub fn label(message: &Message) -> String {
+    let name = kind(&message.kind);
+    match message.kind {
+        Kind::Renew { number, .. } | Kind::Offer { number, .. } | Kind::Dropped { number, .. } => {
+            format!("{name} {number}")
+        }
+        Kind::Grant(grant) => format!("{name} {}", grant.number),
+        Kind::Invalidate { object, version, .. } | Kind::Ack { object, version, .. } => {
+            format!("{name} object {object} version {version}")
+        }
+    }
+}
+
+/// The label with the way it goes.
+pub fn routed(message: &Message) -> String {
+    let way = if from_server(&message.kind) { "to" } else { "from" };
+    format!("{} {way} client {}", label(message), message.client)
+}
+
+/// Every field that the label leaves out.
+pub fn fields(message: &Message) -> String {
+    match message.kind {
+        Kind::Renew { object, epoch, version, .. } => {
+            format!("object {object}, epoch {epoch}, version {version}")
+        }
+        Kind::Invalidate { epoch, .. } | Kind::Ack { epoch, .. } => format!("epoch {epoch}"),
+        Kind::Offer { volume, epoch, .. } | Kind::Dropped { volume, epoch, .. } => {
+            format!("volume {volume}, epoch {epoch}")
+        }
+        Kind::Grant(grant) => {
+            let value = grant.value.map_or("no value".into(), |value| format!("value {value}"));
+            format!(
+                "object {}, volume lease to {}, object lease to {}, epoch {}, version {}, {value}",
+                grant.object, grant.volume_expiry, grant.object_expiry, grant.epoch, grant.version
+            )
+        }
+    }
+}
+
+pub fn whole(message: &Message) -> String {
+    format!("{} ({})", routed(message), fields(message))
+}
+
+/// "client 1", "clients 0, 2", or "nobody".
+pub fn clients(set: u16) -> String {
+    let numbers: Vec<String> = members(set.into()).map(|client| client.to_string()).collect();
+    match numbers.len() {
+        0 => "nobody".into(),
+        1 => format!("client {}", numbers[0]),
+        _ => format!("clients {}", numbers.join(", ")),
+    }
+}

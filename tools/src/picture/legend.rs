@@ -1,0 +1,57 @@
+//! What the marks mean, in as many rows as the width needs.
+
+use super::svg::{at, width, Svg};
+
+const ROW: f64 = 20.0;
+const SIGN: f64 = 34.0;
+
+/// Draws its sign into the room from x, around the middle line y.
+type Sign = fn(&mut Svg, f64, f64);
+
+const SIGNS: [(&str, Sign); 14] = [
+    ("read shown, with its value", |svg, x, y| svg.circle("shown", at(x + 14.0, y), 6.0)),
+    ("ask first", |svg, x, y| {
+        svg.circle("ask-first", at(x + 14.0, y), 6.0);
+        svg.text("question", at(x + 14.0, y + 3.2), "?");
+    }),
+    ("refused, with its number", |svg, x, y| svg.cross("refused", at(x + 14.0, y), 5.5)),
+    ("column of a clock step: time passes", |svg, x, y| svg.rect("time", at(x, y - 7.0), 28.0, 14.0)),
+    ("volume lease of the client", |svg, x, y| svg.rect("volume-lease", at(x, y - 5.5), 28.0, 11.0)),
+    ("object lease of the client", |svg, x, y| svg.rect("object-lease", at(x, y - 5.5), 28.0, 11.0)),
+    ("copy held", |svg, x, y| svg.line("copy", at(x, y), at(x + 28.0, y))),
+    ("the same lease as the server notes it", |svg, x, y| svg.rect("noted", at(x, y - 1.0), 28.0, 2.0)),
+    ("marked unreachable", |svg, x, y| svg.line("unreachable", at(x, y), at(x + 28.0, y))),
+    ("write, to completion; red: its latest end", |svg, x, y| {
+        svg.rect("write", at(x, y - 5.5), 22.0, 11.0);
+        svg.shape("completed", &[at(x + 22.0, y - 5.5), at(x + 28.0, y), at(x + 22.0, y + 5.5)]);
+        svg.line("latest", at(x + 17.0, y - 8.0), at(x + 17.0, y + 8.0));
+    }),
+    ("write cut off by a restart", |svg, x, y| svg.rect("write cut-off", at(x, y - 5.5), 28.0, 11.0)),
+    ("message lost", |svg, x, y| {
+        svg.line("arrow invalidate lost", at(x, y), at(x + 22.0, y));
+        svg.cross("lost-mark", at(x + 22.0, y), 4.5);
+    }),
+    ("message doubled: its copy", |svg, x, y| {
+        svg.shape("doubled grant", &[at(x, y), at(x + 5.0, y - 5.0), at(x + 10.0, y), at(x + 5.0, y + 5.0)]);
+        svg.line("arrow grant copied", at(x + 10.0, y), at(x + 28.0, y));
+    }),
+    ("still under way", |svg, x, y| {
+        svg.line("arrow renew", at(x, y), at(x + 22.0, y));
+        svg.circle("under-way renew", at(x + 25.0, y), 3.0);
+    }),
+];
+
+/// The height that it took.
+pub fn draw(svg: &mut Svg, room: f64) -> f64 {
+    let (mut x, mut y) = (8.0, ROW / 2.0);
+    for (words, sign) in SIGNS {
+        let needed = SIGN + width(words) * 1.12 + 18.0;
+        if x + needed > room && x > 8.0 {
+            (x, y) = (8.0, y + ROW);
+        }
+        sign(svg, x, y);
+        svg.text("legend", at(x + SIGN, y + 3.5), words);
+        x += needed;
+    }
+    y + ROW / 2.0 + 4.0
+}

@@ -1,0 +1,73 @@
+//! A page that holds the picture, with the explained listing below. It
+//! needs nothing but itself.
+
+use std::fmt::Write;
+
+use model::gen::runs::Run;
+
+use super::layout::Window;
+use super::svg::{at, escaped, n, Svg};
+use super::{legend, titles, Parts, NAMES, STYLE};
+use crate::timeline::Timeline;
+
+const PAGE: &str = include_str!("page.html");
+const SIGNS: f64 = 1_180.0;
+
+pub fn page(run: &Run, window: Window) -> String {
+    let timeline = Timeline::new(run);
+    let parts = Parts::new(&timeline, window);
+    let (width, height) = (parts.layout.width, parts.layout.height);
+    let (title, subtitle) = titles(run, window);
+    let mut signs = Svg::default();
+    let signs_height = legend::draw(&mut signs, SIGNS);
+    let mut corner = Svg::default();
+    corner.text("row-name", at(NAMES - 8.0, parts.header_height - 22.0), "step");
+    corner.text("row-name", at(NAMES - 8.0, parts.header_height - 6.0), "clock");
+    let filled = [
+        ("{style}", STYLE.to_string()),
+        ("{first}", window.from.to_string()),
+        ("{signs}", part("signs", SIGNS, signs_height, &signs.0)),
+        ("{corner}", part("corner", NAMES, parts.header_height, &corner.0)),
+        ("{header}", part("header", width, parts.header_height, &parts.header)),
+        ("{names}", part("names", NAMES, height, &parts.names)),
+        ("{lanes}", part("lanes", width, height, &parts.lanes)),
+        ("{title}", escaped(&title)),
+        ("{subtitle}", escaped(&subtitle)),
+        ("{listing}", listing(&timeline, window)),
+    ];
+    fill(&filled)
+}
+
+/// Each mark of the page once, from left to right, so that nothing that is
+/// filled in is taken for a mark.
+fn fill(filled: &[(&str, String)]) -> String {
+    let mut page = String::new();
+    let mut rest = PAGE;
+    while let Some((place, (mark, words))) = filled
+        .iter()
+        .filter_map(|pair| rest.find(pair.0).map(|place| (place, pair)))
+        .min_by_key(|(place, _)| *place)
+    {
+        page.push_str(&rest[..place]);
+        page.push_str(words);
+        rest = &rest[place + mark.len()..];
+    }
+    page + rest
+}
+
+fn part(class: &str, width: f64, height: f64, inside: &str) -> String {
+    let (width, height) = (n(width), n(height));
+    format!(
+        "<svg class=\"{class}\" data-width=\"{width}\" data-height=\"{height}\" width=\"{width}\" \
+         height=\"{height}\" viewBox=\"0 0 {width} {height}\">\n{inside}</svg>"
+    )
+}
+
+fn listing(timeline: &Timeline, window: Window) -> String {
+    let mut lines = String::new();
+    for number in window.from..=window.to {
+        let line = escaped(&timeline.step(number).line);
+        writeln!(lines, "<p data-step=\"{number}\">{line}</p>").expect("a string takes every line");
+    }
+    lines
+}

@@ -1,0 +1,134 @@
+//! Writes SVG elements. Coordinates are rounded to a tenth, and only sums,
+//! products and roots go into them, so that a picture is the same everywhere.
+
+use std::fmt::Write;
+
+#[derive(Clone, Copy, Debug, PartialEq)]
+pub struct Point {
+    pub x: f64,
+    pub y: f64,
+}
+
+pub fn at(x: f64, y: f64) -> Point {
+    Point { x, y }
+}
+
+#[derive(Default)]
+pub struct Svg(pub String);
+
+/// A number of the picture, without a needless ".0".
+pub fn n(number: f64) -> String {
+    let text = format!("{number:.1}");
+    let text = text.strip_suffix(".0").unwrap_or(&text);
+    if text == "-0" {
+        "0".into()
+    } else {
+        text.into()
+    }
+}
+
+pub fn escaped(text: &str) -> String {
+    let mut out = String::with_capacity(text.len());
+    for c in text.chars() {
+        match c {
+            '&' => out.push_str("&amp;"),
+            '<' => out.push_str("&lt;"),
+            '>' => out.push_str("&gt;"),
+            '"' => out.push_str("&quot;"),
+            _ => out.push(c),
+        }
+    }
+    out
+}
+
+impl Svg {
+    fn put(&mut self, element: std::fmt::Arguments) {
+        self.0.write_fmt(element).expect("a string takes every element");
+        self.0.push('\n');
+    }
+
+    pub fn line(&mut self, class: &str, a: Point, b: Point) {
+        let (x1, y1, x2, y2) = (n(a.x), n(a.y), n(b.x), n(b.y));
+        self.put(format_args!("<line class=\"{class}\" x1=\"{x1}\" y1=\"{y1}\" x2=\"{x2}\" y2=\"{y2}\"/>"));
+    }
+
+    pub fn rect(&mut self, class: &str, a: Point, width: f64, height: f64) {
+        let (x, y, width, height) = (n(a.x), n(a.y), n(width), n(height));
+        self.put(format_args!(
+            "<rect class=\"{class}\" x=\"{x}\" y=\"{y}\" width=\"{width}\" height=\"{height}\"/>"
+        ));
+    }
+
+    pub fn circle(&mut self, class: &str, center: Point, radius: f64) {
+        let (x, y, r) = (n(center.x), n(center.y), n(radius));
+        self.put(format_args!("<circle class=\"{class}\" cx=\"{x}\" cy=\"{y}\" r=\"{r}\"/>"));
+    }
+
+    /// A closed shape.
+    pub fn shape(&mut self, class: &str, points: &[Point]) {
+        let points: Vec<String> = points.iter().map(|p| format!("{},{}", n(p.x), n(p.y))).collect();
+        self.put(format_args!("<polygon class=\"{class}\" points=\"{}\"/>", points.join(" ")));
+    }
+
+    pub fn cross(&mut self, class: &str, center: Point, size: f64) {
+        let Point { x, y } = center;
+        self.line(class, at(x - size, y - size), at(x + size, y + size));
+        self.line(class, at(x - size, y + size), at(x + size, y - size));
+    }
+
+    pub fn text(&mut self, class: &str, a: Point, words: &str) {
+        let (x, y, words) = (n(a.x), n(a.y), escaped(words));
+        self.put(format_args!("<text class=\"{class}\" x=\"{x}\" y=\"{y}\">{words}</text>"));
+    }
+
+    /// Text in the direction of a unit vector.
+    pub fn text_along(&mut self, class: &str, a: Point, way: Point, words: &str) {
+        let (x, y, words) = (n(a.x), n(a.y), escaped(words));
+        let turn = format!("{:.3} {:.3} {:.3} {:.3} {x} {y}", way.x, way.y, -way.y, way.x);
+        self.put(format_args!("<text class=\"{class}\" transform=\"matrix({turn})\">{words}</text>"));
+    }
+
+    /// Elements that show these words when pointed at.
+    pub fn titled(&mut self, title: &str, inside: impl FnOnce(&mut Svg)) {
+        self.put(format_args!("<g><title>{}</title>", escaped(title)));
+        inside(self);
+        self.put(format_args!("</g>"));
+    }
+
+    /// A part of the picture with its own coordinates, cut at its edges.
+    pub fn part(&mut self, class: &str, a: Point, width: f64, height: f64, inside: &str) {
+        let (x, y, width, height) = (n(a.x), n(a.y), n(width), n(height));
+        self.put(format_args!(
+            "<svg class=\"{class}\" x=\"{x}\" y=\"{y}\" width=\"{width}\" height=\"{height}\" \
+             viewBox=\"0 0 {width} {height}\">\n{inside}</svg>"
+        ));
+    }
+}
+
+/// Room that words take in a sans-serif font of 9 pixels, rather too much
+/// than too little.
+pub fn width(words: &str) -> f64 {
+    words.chars().map(character_width).sum()
+}
+
+fn character_width(c: char) -> f64 {
+    match c {
+        'i' | 'j' | 'l' | 'I' => 2.6,
+        ' ' | 't' | 'f' | 'r' | ',' | '.' | ':' | ';' | '(' | ')' => 2.9,
+        'm' | 'w' => 7.2,
+        'A'..='Z' => 6.2,
+        _ => 5.1,
+    }
+}
+
+/// The first of these wordings that fits.
+pub fn fitting(wordings: &[String], room: f64) -> Option<&str> {
+    wordings.iter().map(String::as_str).find(|words| width(words) <= room)
+}
+
+pub fn shortened(words: &str, most: usize) -> String {
+    if words.chars().count() <= most {
+        return words.into();
+    }
+    words.chars().take(most - 1).chain(['…']).collect()
+}

@@ -1,0 +1,94 @@
+//! Setup lines, both ways: the counts, the ticks, then each volume's
+//! objects.
+
+use model::limits::{CLIENTS, OBJECTS, VOLUMES};
+use model::setup::Setup;
+
+use super::words::{Words, Wrong};
+
+pub const COUNTS: &str = "`clients C volumes V objects O`";
+pub const TICKS: &str = "`volume lease TV object lease T timeout M`";
+pub const VOLUME: &str = "`volume V objects O ...`";
+
+pub fn lines(setup: &Setup) -> Vec<String> {
+    let Setup { clients, volumes, objects, volume_lease, object_lease, timeout, .. } = setup;
+    let mut lines = vec![
+        format!("clients {clients} volumes {volumes} objects {objects}"),
+        format!("volume lease {volume_lease} object lease {object_lease} timeout {timeout}"),
+    ];
+    for volume in 0..usize::from(*volumes) {
+        let inside = (0..usize::from(*objects)).filter(|&object| setup.volume(object) == volume);
+        let inside: Vec<String> = inside.map(|object| object.to_string()).collect();
+        if !inside.is_empty() {
+            lines.push(format!("volume {volume} objects {}", inside.join(" ")));
+        }
+    }
+    lines
+}
+
+/// The setup as far as its lines were read.
+#[derive(Default)]
+pub struct Partial {
+    pub counts: Option<(u8, u8, u8)>,
+    pub ticks: Option<(u32, u32, u32)>,
+    volume_of: [Option<u8>; OBJECTS],
+}
+
+impl Partial {
+    pub fn read_counts(&mut self, words: &mut Words) -> Result<(), Wrong> {
+        let mut count = |name: &str, most: usize| {
+            words.word(name)?;
+            words.number(&format!("a number of {name}"), 1, most as u64).map(|count| count as u8)
+        };
+        let counts = (count("clients", CLIENTS)?, count("volumes", VOLUMES)?, count("objects", OBJECTS)?);
+        words.end()?;
+        self.counts = Some(counts);
+        Ok(())
+    }
+
+    pub fn read_ticks(&mut self, words: &mut Words) -> Result<(), Wrong> {
+        let mut ticks = |names: &[&str], most: u64| {
+            names.iter().try_for_each(|name| words.word(name))?;
+            words.number("ticks", 1, most).map(|ticks| ticks as u32)
+        };
+        let volume_lease = ticks(&["volume", "lease"], 3_600)?;
+        let object_lease = ticks(&["object", "lease"], 1_000_000)?;
+        let timeout = ticks(&["timeout"], 60)?;
+        words.end()?;
+        self.ticks = Some((volume_lease, object_lease, timeout));
+        Ok(())
+    }
+
+    /// Where the line of counts was a bad one, the largest counts hold, so
+    /// that one mistake is told once.
+    pub fn read_volume(&mut self, words: &mut Words) -> Result<(), Wrong> {
+        let (_, volumes, objects) = self.counts.unwrap_or((CLIENTS as u8, VOLUMES as u8, OBJECTS as u8));
+        words.word("volume")?;
+        let volume = words.number("a volume", 0, u64::from(volumes) - 1)? as u8;
+        words.word("objects")?;
+        let one = format!("an object from 0 to {}", objects - 1);
+        let mut first = true;
+        while first || words.peek().is_some() {
+            first = false;
+            let object = words.number("an object", 0, u64::from(objects) - 1)? as usize;
+            if let Some(other) = self.volume_of[object].replace(volume) {
+                let again = format!("object {object} again, after volume {other}");
+                return Err(Wrong::new(again, format!("{one}, each in one volume")));
+            }
+        }
+        Ok(())
+    }
+
+    /// The whole setup, or the line that is missing.
+    pub fn whole(&self) -> Result<Setup, Wrong> {
+        let missing = |line: &str| Wrong::new("no such line before", line);
+        let (clients, volumes, objects) = self.counts.ok_or_else(|| missing(COUNTS))?;
+        let (volume_lease, object_lease, timeout) = self.ticks.ok_or_else(|| missing(TICKS))?;
+        let mut volume_of = [0; OBJECTS];
+        for (object, volume) in volume_of.iter_mut().enumerate().take(objects.into()) {
+            let without = || Wrong::new(format!("no volume of object {object} before"), VOLUME);
+            *volume = self.volume_of[object].ok_or_else(without)?;
+        }
+        Ok(Setup { clients, volumes, objects, volume_lease, object_lease, timeout, volume_of })
+    }
+}

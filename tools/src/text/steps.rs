@@ -1,0 +1,80 @@
+//! Step lines, both ways.
+
+use model::step_record::*;
+
+use super::words::{quoted, Words, Wrong};
+
+pub const FIRST_WORDS: [&str; 9] =
+    ["clock", "read", "ask", "write", "deliver", "lose", "double", "restart", "kind"];
+pub const A_STEP: &str = "a step: clock, read, ask, write, deliver, lose, double, restart or kind";
+
+/// The line of a step whose kind leaves no unused field: as every step of
+/// an accepted run file. An unknown kind shows all its fields.
+pub fn line(step: &Step) -> String {
+    let Step { kind, client, object, place, clock, value } = *step;
+    match kind {
+        CLOCK => format!("clock {clock}"),
+        READ => format!("read client {client} object {object}"),
+        ASK => format!("ask client {client} object {object}"),
+        WRITE => format!("write object {object} value {value}"),
+        DELIVER => format!("deliver {place}"),
+        LOSE => format!("lose {place}"),
+        DOUBLE => format!("double {place}"),
+        RESTART_SERVER => "restart server".into(),
+        RESTART_CLIENT => format!("restart client {client}"),
+        _ => format!("kind {kind} client {client} object {object} place {place} clock {clock} value {value}"),
+    }
+}
+
+pub fn parse(words: &mut Words) -> Result<Step, Wrong> {
+    let first = words.next(A_STEP)?;
+    let step = match first {
+        "clock" => Step::clock(time(words)?),
+        "read" => Step::read(words.named_byte("client")?, words.named_byte("object")?),
+        "ask" => Step::ask(words.named_byte("client")?, words.named_byte("object")?),
+        "write" => Step::write(words.named_byte("object")?, value(words)?),
+        "deliver" => Step::deliver(place(words)?),
+        "lose" => Step::lose(place(words)?),
+        "double" => Step::double(place(words)?),
+        "restart" => restart(words)?,
+        "kind" => unknown(words)?,
+        _ => return Err(Wrong::new(quoted(first), A_STEP)),
+    };
+    words.end()?;
+    Ok(step)
+}
+
+fn time(words: &mut Words) -> Result<u32, Wrong> {
+    Ok(words.number("a time", 0, u32::MAX.into())? as u32)
+}
+
+fn value(words: &mut Words) -> Result<u64, Wrong> {
+    words.word("value")?;
+    words.number("a value", 0, u64::MAX)
+}
+
+fn place(words: &mut Words) -> Result<u8, Wrong> {
+    words.byte("a place in the queue")
+}
+
+fn restart(words: &mut Words) -> Result<Step, Wrong> {
+    const WHO: &str = "`server` or `client`";
+    match words.next(WHO)? {
+        "server" => Ok(Step::restart_server()),
+        "client" => Ok(Step::restart_client(words.byte("a number of the client")?)),
+        other => Err(Wrong::new(quoted(other), WHO)),
+    }
+}
+
+/// A known kind is turned away here: it has a line of its own, and unused
+/// fields could make the run file a refused one.
+fn unknown(words: &mut Words) -> Result<Step, Wrong> {
+    let kind = words.byte("a kind")?;
+    if (CLOCK..=RESTART_CLIENT).contains(&kind) {
+        return Err(Wrong::new(format!("`kind {kind}`"), "an unknown kind: 0, or 10 to 255"));
+    }
+    let (client, object) = (words.named_byte("client")?, words.named_byte("object")?);
+    let place = words.named_byte("place")?;
+    words.word("clock")?;
+    Ok(Step { kind, client, object, place, clock: time(words)?, value: value(words)? })
+}

@@ -1,0 +1,101 @@
+//! Each message from sending to its end.
+
+use model::limits::QUEUE;
+use model::message::{Kind, Message};
+use model::step_record::{ASK, DELIVER, DOUBLE, WRITE};
+
+use crate::trace::Moment;
+
+#[derive(Clone, Copy, Debug, PartialEq, Eq)]
+pub enum End {
+    /// Still in the queue after the last step.
+    UnderWay,
+    Delivered(usize),
+    Lost(usize),
+    /// Sent to a full queue: lost at once.
+    QueueFull,
+}
+
+#[derive(Clone, Copy, Debug, PartialEq, Eq)]
+pub struct Flight {
+    pub message: Message,
+    /// The step that sent or doubled it.
+    pub sent: usize,
+    /// The place in the list of flights of the one that it is a copy of.
+    pub copy_of: Option<usize>,
+    pub end: End,
+}
+
+#[derive(Default)]
+pub struct Flights {
+    pub all: Vec<Flight>,
+    /// The flights in the queue, place by place.
+    under_way: Vec<usize>,
+}
+
+impl Flights {
+    /// Call for each step in turn.
+    pub fn follow(&mut self, moment: &Moment) {
+        if moment.refused() {
+            return;
+        }
+        let place = usize::from(moment.step.place);
+        let copy_of = (moment.step.kind == DOUBLE).then(|| self.under_way[place]);
+        if moment.taken().is_some() {
+            let end = if moment.step.kind == DELIVER { End::Delivered } else { End::Lost };
+            let flight = self.under_way.remove(place);
+            self.all[flight].end = end(moment.number);
+        }
+        for message in moment.sent() {
+            self.under_way.push(self.all.len());
+            self.all.push(Flight { message: *message, sent: moment.number, copy_of, end: End::UnderWay });
+        }
+        for message in turned_away(moment) {
+            self.all.push(Flight { message, sent: moment.number, copy_of, end: End::QueueFull });
+        }
+    }
+
+    /// The messages under way, in queue order.
+    pub fn queue(&self) -> impl Iterator<Item = Message> + '_ {
+        self.under_way.iter().map(|&flight| self.all[flight].message)
+    }
+}
+
+/// Messages sent to a full queue. The tables tell how many were sent: one by
+/// an ask or a double, one to each client that a write waits for. A delivery
+/// has made room first for the one that it may send.
+fn turned_away(moment: &Moment) -> Vec<Message> {
+    if moment.after.tables.queue.len < QUEUE {
+        return Vec::new();
+    }
+    let sent = moment.sent().len();
+    match moment.step.kind {
+        ASK if sent == 0 => vec![renew(moment)],
+        DOUBLE if sent == 0 => vec![moment.before.tables.queue.messages()[usize::from(moment.step.place)]],
+        WRITE => invalidates(moment).split_off(sent),
+        _ => Vec::new(),
+    }
+}
+
+fn renew(moment: &Moment) -> Message {
+    let (client, object) = (usize::from(moment.step.client), usize::from(moment.step.object));
+    let number = moment.request_before(client).next;
+    let epoch = moment.before.tables.clients.epoch[client][moment.setup.volume(object)];
+    let version = moment.copy_before(client, object).version;
+    Message {
+        client: moment.step.client,
+        kind: Kind::Renew { object: moment.step.object, number, epoch, version },
+    }
+}
+
+fn invalidates(moment: &Moment) -> Vec<Message> {
+    let object = usize::from(moment.step.object);
+    let server = moment.server();
+    if !server.stands(object) {
+        return Vec::new();
+    }
+    let (epoch, version) = (server.epoch[moment.setup.volume(object)], server.version[object] + 1);
+    let kind = Kind::Invalidate { object: moment.step.object, epoch, version };
+    let to = |client| Message { client: client as u8, kind };
+    model::bits::members(server.write[object].waiting.into()).map(to).collect()
+}

@@ -1,0 +1,71 @@
+//! A run over time: its steps, the way of each message, and how long each
+//! lease, copy, write, guard and mark lasted. All of it is read off the
+//! model's tables.
+
+pub mod flights;
+pub mod spans;
+pub mod tracks;
+
+use model::answer::Answer;
+use model::gen::runs::Run;
+use model::message::Message;
+use model::setup::Setup;
+use model::step_record::Step;
+
+use crate::explain;
+use crate::trace::walk;
+use flights::{Flight, Flights};
+use spans::{Span, Spans};
+
+pub struct StepView {
+    pub step: Step,
+    pub answer: Answer,
+    pub clock_before: u32,
+    pub clock: u32,
+    /// The message that the step delivered or lost.
+    pub taken: Option<Message>,
+    /// Its line of the explained listing.
+    pub line: String,
+}
+
+pub struct Timeline {
+    pub setup: Setup,
+    /// Step k of the listing is at place k - 1.
+    pub steps: Vec<StepView>,
+    pub flights: Vec<Flight>,
+    pub spans: Vec<Span>,
+}
+
+impl Timeline {
+    pub fn new(run: &Run) -> Timeline {
+        let mut steps = Vec::with_capacity(run.steps.len());
+        let mut flights = Flights::default();
+        let mut spans = Spans::default();
+        walk(run, |moment| {
+            flights.follow(moment);
+            spans.follow(moment.number, tracks::of(moment.setup, moment.after));
+            steps.push(StepView {
+                step: moment.step,
+                answer: moment.answer,
+                clock_before: moment.before.tables.clock,
+                clock: moment.clock(),
+                taken: moment.taken().copied(),
+                line: explain::line(moment),
+            });
+        });
+        Timeline { setup: run.setup, steps, flights: flights.all, spans: spans.whole() }
+    }
+
+    /// The step with this number of the listing.
+    pub fn step(&self, number: usize) -> &StepView {
+        &self.steps[number - 1]
+    }
+
+    /// Where in a step's column a time lies: from 0, the clock before it, to
+    /// 1, the clock that it set. Nothing for a time that it did not pass.
+    pub fn passed(&self, number: usize, time: u32) -> Option<f64> {
+        let view = self.step(number);
+        let inside = view.clock_before < time && time <= view.clock;
+        inside.then(|| f64::from(time - view.clock_before) / f64::from(view.clock - view.clock_before))
+    }
+}

@@ -1,0 +1,93 @@
+//! A run worked through by the model, step by step.
+
+use model::answer::Answer;
+use model::copies::ObjectCopy;
+use model::gen::runs::Run;
+use model::message::Message;
+use model::requests::Request;
+use model::run::State;
+use model::setup::Setup;
+use model::step::step;
+use model::step_record::Step;
+use model::tables::{Server, Write};
+
+/// One step with the model's state on both sides of it.
+pub struct Moment<'a> {
+    /// From 1, as in the listing.
+    pub number: usize,
+    pub step: Step,
+    pub setup: &'a Setup,
+    pub before: &'a State,
+    pub after: &'a State,
+    pub answer: Answer,
+}
+
+/// Takes every step of the run, question 1 asked before each.
+pub fn walk(run: &Run, mut each: impl FnMut(&Moment)) {
+    let mut before = State::fresh();
+    for (place, record) in run.steps.iter().enumerate() {
+        let mut after = before;
+        let (tables, copies, requests) = after.parts(&run.setup);
+        let answer = step(&run.setup, tables, copies, requests, record);
+        let (number, setup, step) = (place + 1, &run.setup, *record);
+        each(&Moment { number, step, setup, before: &before, after: &after, answer });
+        before = after;
+    }
+}
+
+impl<'a> Moment<'a> {
+    pub fn refused(&self) -> bool {
+        matches!(self.answer, Answer::Refused(_))
+    }
+
+    pub fn clock(&self) -> u32 {
+        self.after.tables.clock
+    }
+
+    pub fn server_before(&self) -> &'a Server {
+        &self.before.tables.server
+    }
+
+    pub fn server(&self) -> &'a Server {
+        &self.after.tables.server
+    }
+
+    pub fn objects(&self) -> std::ops::Range<usize> {
+        0..usize::from(self.setup.objects)
+    }
+
+    pub fn volumes(&self) -> std::ops::Range<usize> {
+        0..usize::from(self.setup.volumes)
+    }
+
+    /// The client's copy before the step.
+    pub fn copy_before(&self, client: usize, object: usize) -> &'a ObjectCopy {
+        &self.before.copies(self.setup)[self.setup.copy_place(client, object)]
+    }
+
+    pub fn request_before(&self, client: usize) -> &'a Request {
+        &self.before.requests(self.setup)[client]
+    }
+
+    /// Messages that the step put at the queue's end: those past what it
+    /// found there, less the one that it took out.
+    pub fn sent(&self) -> &'a [Message] {
+        let kept = self.before.tables.queue.len - usize::from(self.taken().is_some());
+        &self.after.tables.queue.messages()[kept..]
+    }
+
+    /// The message that the step took out of the queue: after a delivery or
+    /// a loss that was not refused.
+    pub fn taken(&self) -> Option<&'a Message> {
+        use model::step_record::{DELIVER, LOSE};
+        let takes = [DELIVER, LOSE].contains(&self.step.kind) && !self.refused();
+        takes.then(|| &self.before.tables.queue.messages()[usize::from(self.step.place)])
+    }
+
+    /// The writes that ended in the step, with their objects.
+    pub fn ended(&self) -> Vec<(usize, &'a Write)> {
+        let (before, after) = (self.server_before(), self.server());
+        let ended = self.objects().filter(|&object| before.stands(object) && !after.stands(object));
+        ended.map(|object| (object, &before.write[object])).collect()
+    }
+}

@@ -1,0 +1,45 @@
+//! The programs themselves: what they print, and their exit status.
+
+mod common;
+
+use common::{example, run_program};
+
+const RUNTEXT: &str = env!("CARGO_BIN_EXE_runtext");
+
+#[test]
+fn runtext_goes_both_ways() {
+    let file = example("2-renew-while-waiting.run");
+    let text = run_program(RUNTEXT, &["decode"], &file);
+    assert_eq!((text.status, text.errors.as_str()), (0, ""));
+    let back = run_program(RUNTEXT, &["encode"], &text.output);
+    assert_eq!((back.status, back.output), (0, file));
+    let formatted = run_program(RUNTEXT, &["format"], &[b"# a comment\n", &text.output[..]].concat());
+    assert_eq!(formatted.output, text.output);
+}
+
+#[test]
+fn a_bad_line_leaves_nothing_written() {
+    let text = run_program(RUNTEXT, &["decode"], &example("0-document.run")).output;
+    let bad = run_program(RUNTEXT, &["encode"], &[&text[..], b"deliver it\n"].concat());
+    assert_eq!((bad.status, bad.output.len()), (1, 0));
+    assert_eq!(bad.errors, "line 20: found `it`, expected a place in the queue from 0 to 255\n");
+}
+
+#[test]
+fn a_refused_file_leaves_nothing_written() {
+    let file = example("0-document.run");
+    let bad = run_program(RUNTEXT, &["decode"], &file[1..]);
+    assert_eq!((bad.status, bad.output.len()), (1, 0));
+    assert!(bad.errors.starts_with("run file of 295 bytes refused (9): "), "{}", bad.errors);
+}
+
+#[test]
+fn help_and_wrong_calls() {
+    let help = run_program(RUNTEXT, &["--help"], b"");
+    assert_eq!(help.status, 0);
+    assert!(help.output.starts_with(b"runtext: "));
+    for arguments in [&[][..], &["code"], &["encode", "more"]] {
+        let wrong = run_program(RUNTEXT, arguments, b"");
+        assert_eq!((wrong.status, wrong.output.len()), (2, 0));
+    }
+}

@@ -1,0 +1,166 @@
+//! Pictures of generated runs: well formed, and with what the model says.
+
+mod common;
+
+use common::{example, run_program};
+use model::gen::runs::{run, Run};
+use tools::picture::layout::Window;
+use tools::picture::{page, svg};
+use tools::text::from_file;
+use tools::timeline::Timeline;
+
+const PICTURE: &str = env!("CARGO_BIN_EXE_picture");
+
+fn whole(run: &Run) -> Window {
+    Window { from: 1, to: run.steps.len() }
+}
+
+/// Tags that nest and end, attributes in quotes, no bare `&`.
+fn assert_well_formed(xml: &str) {
+    let mut open: Vec<&str> = Vec::new();
+    for piece in xml.split('<').skip(1) {
+        let (tag, text) = piece.split_once('>').expect("a tag ends");
+        assert_eq!(tag.matches('"').count() % 2, 0, "{tag}");
+        for entity in tag.split('&').skip(1).chain(text.split('&').skip(1)) {
+            assert!(
+                ["amp;", "lt;", "gt;", "quot;"].iter().any(|known| entity.starts_with(known)),
+                "{entity}"
+            );
+        }
+        assert!(text.chars().all(|c| c == '\n' || !c.is_control()), "{text:?}");
+        match tag.strip_prefix('/') {
+            Some(name) => assert_eq!(open.pop(), Some(name)),
+            None if tag.ends_with('/') => (),
+            None => open.push(tag.split_whitespace().next().expect("a tag's name")),
+        }
+    }
+    assert!(open.is_empty(), "{open:?}");
+}
+
+/// The words of each text element whose class begins so.
+fn texts<'a>(svg: &'a str, class: &'a str) -> impl Iterator<Item = &'a str> {
+    let elements = svg.split("<text class=\"").skip(1).filter(move |element| element.starts_with(class));
+    elements.map(|element| element.split_once('>').unwrap().1.split('<').next().unwrap())
+}
+
+fn count(svg: &str, class: &str) -> usize {
+    svg.matches(&format!("class=\"{class}")).count()
+}
+
+#[test]
+fn answers_are_the_models() {
+    for number in 0..100 {
+        let run = run(21, number);
+        let picture = svg(&run, whole(&run));
+        assert_well_formed(&picture);
+        let listing = String::from_utf8(model::listing::listing(&run.file())).unwrap();
+        let mut answers = texts(&picture, "answer");
+        for line in listing.lines().skip(1) {
+            let numbers: Vec<&str> = line.split(' ').collect();
+            let words = match (numbers[1], numbers[2]) {
+                ("0", _) => "done".into(),
+                ("1", value) => format!("shown {value}"),
+                ("2", _) => "ask first".into(),
+                ("3", "1") => "completed 1 write".into(),
+                ("3", count) => format!("completed {count} writes"),
+                (_, number) => format!("refused {number}"),
+            };
+            assert_eq!(answers.next(), Some(words.as_str()), "run {number}, {line}");
+        }
+        assert_eq!(answers.next(), None);
+    }
+}
+
+/// One mark for each message, read and refusal; the legend has some too.
+#[test]
+fn every_message_and_read_is_there() {
+    for number in 2..50 {
+        let run = run(22, number);
+        let (picture, timeline) = (svg(&run, whole(&run)), Timeline::new(&run));
+        let answered =
+            |answer: u8| timeline.steps.iter().filter(|view| view.answer.numbers().0 == answer).count();
+        assert_eq!(count(&picture, "arrow "), timeline.flights.len() + 3, "run {number}");
+        assert_eq!(count(&picture, "shown\""), answered(1) + 1);
+        assert_eq!(count(&picture, "ask-first\""), answered(2) + 1);
+        assert_eq!(count(&picture, "refused\""), 2 * (answered(4) + 1));
+        let copies = timeline.flights.iter().filter(|flight| flight.copy_of.is_some()).count();
+        assert_eq!(count(&picture, "twice "), copies);
+    }
+}
+
+#[test]
+fn windows_show_their_steps() {
+    let run = from_file(&example("5-old-messages.run")).unwrap();
+    for from in 1..=run.steps.len() {
+        for to in (from..=run.steps.len()).step_by(7) {
+            let picture = svg(&run, Window { from, to });
+            let numbers: Vec<usize> =
+                texts(&picture, "number").map(|number| number.parse().unwrap()).collect();
+            assert!(numbers.into_iter().eq(from..=to));
+            assert_eq!(texts(&picture, "step").count(), to - from + 1);
+        }
+        assert_well_formed(&svg(&run, Window { from, to: run.steps.len() }));
+    }
+}
+
+/// The longest runs and the largest setups are drawn too.
+#[test]
+fn long_runs_do_not_fail() {
+    for number in [0, 1, 50, 51, 100] {
+        let run = run(1, number);
+        assert_eq!(run.steps.len(), 4_000);
+        assert_well_formed(&svg(&run, whole(&run)));
+        let page = page(&run, whole(&run));
+        assert_eq!(page.matches("<p data-step=").count(), 4_000);
+    }
+}
+
+/// The page asks for nothing outside itself, whatever the note says.
+#[test]
+fn the_page_stands_alone() {
+    let mut run = from_file(&example("5-old-messages.run")).unwrap();
+    run.note = b"{listing} <script src=\"x\"> & {style}".to_vec();
+    let page = page(&run, whole(&run));
+    for outside in ["src=", "href=", "url(", "@import", "<link", "https:"] {
+        assert_eq!(page.replace("src=\\&quot;", "").matches(outside).count(), 0, "{outside}");
+    }
+    assert_eq!(page.matches("http:").count(), page.matches("'http://www.w3.org/2000/svg'").count());
+    assert_eq!(
+        page.matches(
+            "<h1>note &quot;{listing} &lt;script src=\\&quot;x\\&quot;&gt; &amp; {style}&quot;</h1>"
+        )
+        .count(),
+        1
+    );
+    assert_eq!(page.matches("<script>").count(), 1);
+    for mark in ["{first}", "{signs}", "{corner}", "{header}", "{names}", "{lanes}", "{title}", "{subtitle}"]
+    {
+        assert!(!page.contains(mark), "{mark}");
+    }
+}
+
+#[test]
+fn a_run_without_steps_has_a_picture() {
+    let empty = Run { note: vec![0], setup: model::gen::setups::sized(1, 1, 1), steps: Vec::new() };
+    assert_well_formed(&svg(&empty, whole(&empty)));
+    assert!(page(&empty, whole(&empty)).contains("note hex 00"));
+}
+
+#[test]
+fn the_program_draws_windows_and_turns_wrong_calls_away() {
+    let file = example("0-document.run");
+    let run = from_file(&file).unwrap();
+    let status = |arguments: &[&str]| run_program(PICTURE, arguments, &file).status;
+    let part = run_program(PICTURE, &["svg", "--from", "3", "--to", "9"], &file);
+    assert_eq!((part.status, part.output), (0, svg(&run, Window { from: 3, to: 9 }).into_bytes()));
+    let rest = run_program(PICTURE, &["html", "--from", "15", "--to", "99"], &file);
+    assert_eq!((rest.status, rest.output), (0, page(&run, Window { from: 15, to: 15 }).into_bytes()));
+    assert_eq!(
+        (status(&["--help"]), status(&[]), status(&["png"]), status(&["svg", "--from"])),
+        (0, 2, 2, 2)
+    );
+    assert_eq!((status(&["svg", "--at", "3"]), status(&["svg", "--to", "x"])), (2, 2));
+    let none = run_program(PICTURE, &["svg", "--from", "16"], &file);
+    assert_eq!((none.status, none.errors.as_str()), (1, "no steps from 16 to 15: the run has 15\n"));
+    assert_eq!((status(&["svg", "--from", "0"]), status(&["svg", "--from", "5", "--to", "4"])), (1, 1));
+}

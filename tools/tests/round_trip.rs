@@ -1,0 +1,60 @@
+//! File to text to file: the same bytes for every file that the reader
+//! accepts. Text to file to text: the canonical form stays.
+
+use model::gen::rng::Rng;
+use model::gen::{damage, runs, setups};
+use model::runfile::read;
+use model::step_record::Step;
+use model::write_runfile::write;
+use tools::text::{from_file, parse, print};
+
+fn there_and_back(file: &[u8]) {
+    let text = print(&from_file(file).expect("an accepted file"));
+    let run = parse(text.as_bytes()).unwrap_or_else(|troubles| panic!("{}", troubles[0]));
+    assert_eq!(run.file(), file);
+    assert_eq!(print(&run), text);
+}
+
+#[test]
+fn generated_runs() {
+    for number in 0..300 {
+        there_and_back(&runs::run(7, number).file());
+    }
+}
+
+#[test]
+fn damaged_files_that_are_still_accepted() {
+    let accepted = (1..4).flat_map(damage::files).filter(|file| read(file).is_ok());
+    assert!(accepted.inspect(|file| there_and_back(file)).count() > 150);
+}
+
+#[test]
+fn any_kind_with_any_fields_after_any_note() {
+    let mut rng = Rng::new(3);
+    for kind in 0..=255 {
+        let any = Step {
+            kind,
+            client: rng.draw() as u8,
+            object: rng.draw() as u8,
+            place: rng.draw() as u8,
+            clock: rng.draw() as u32,
+            value: rng.draw(),
+        };
+        let steps = [any.used_fields(), Step { kind, ..Step::default() }];
+        let note: Vec<u8> = (0..rng.below(300)).map(|_| rng.draw() as u8).collect();
+        there_and_back(&write(&note, &setups::any(&mut rng), &steps));
+    }
+}
+
+/// Notes of characters, some of them hard ones, rather than of bytes.
+#[test]
+fn notes_of_any_characters() {
+    let mut rng = Rng::new(4);
+    let hard = ['"', '\\', '\n', '\r', '\t', '#', '\'', ' ', '\u{301}', '\u{feff}', '\u{7f}', 'é', '🙂'];
+    for _ in 0..300 {
+        let note: String = (0..rng.below(250))
+            .map(|_| if rng.percent(30) { rng.pick(&hard) } else { rng.range(32, 126) as u8 as char })
+            .collect();
+        there_and_back(&write(note.as_bytes(), &setups::sized(1, 1, 1), &[]));
+    }
+}

@@ -1,0 +1,170 @@
+//! The text form line by line, and what is told about bad lines.
+
+use model::step_record::Step;
+use tools::text::words::Trouble;
+use tools::text::{note, parse, print, steps};
+
+const SETUP: &str = "\
+clients 2 volumes 3 objects 4
+volume lease 10 object lease 100 timeout 3
+volume 0 objects 0 3
+volume 2 objects 1 2
+";
+
+fn troubles(text: &str) -> Vec<String> {
+    parse(text.as_bytes()).unwrap_err().iter().map(Trouble::to_string).collect()
+}
+
+/// The only trouble of a text whose setup is right and takes four lines.
+fn trouble(line: &str) -> String {
+    let troubles = troubles(&format!("{SETUP}{line}\n"));
+    assert_eq!(troubles.len(), 1, "{troubles:?}");
+    troubles[0].clone()
+}
+
+#[test]
+fn every_line_both_ways() {
+    let kinds = [
+        ("clock 4294967295", Step::clock(u32::MAX)),
+        ("read client 0 object 3", Step::read(0, 3)),
+        ("ask client 255 object 255", Step::ask(255, 255)),
+        ("write object 3 value 18446744073709551615", Step::write(3, u64::MAX)),
+        ("deliver 0", Step::deliver(0)),
+        ("lose 63", Step::lose(63)),
+        ("double 64", Step::double(64)),
+        ("restart server", Step::restart_server()),
+        ("restart client 2", Step::restart_client(2)),
+        (
+            "kind 12 client 1 object 2 place 3 clock 4 value 5",
+            Step { kind: 12, client: 1, object: 2, place: 3, clock: 4, value: 5 },
+        ),
+    ];
+    let lines: Vec<&str> = kinds.iter().map(|(line, _)| *line).collect();
+    let text = format!("note \"a note\"\n{SETUP}\n{}\n", lines.join("\n"));
+    let run = parse(text.as_bytes()).unwrap();
+    assert_eq!(run.note, b"a note");
+    assert_eq!(run.setup.volume_of[..5], [0, 2, 2, 0, 0]);
+    assert!(run.steps.iter().eq(kinds.iter().map(|(_, step)| step)));
+    assert_eq!(print(&run), text);
+    assert!(kinds.iter().all(|(line, step)| steps::line(step) == *line));
+}
+
+#[test]
+fn spaces_comments_and_line_ends_are_free() {
+    let text = format!("# first\r\n  {}\tclock  007 # why\r\n\n#\ndeliver 1", SETUP.replace('\n', " #x\r\n"));
+    let run = parse(text.as_bytes()).unwrap();
+    assert_eq!(run.steps, [Step::clock(7), Step::deliver(1)]);
+    assert_eq!(print(&run), format!("{SETUP}\nclock 7\ndeliver 1\n"));
+}
+
+#[test]
+fn notes_of_all_sorts() {
+    for (bytes, lines) in [
+        (&b""[..], vec![]),
+        (b"# \"a\" \\", vec![r##"note "# \"a\" \\""##]),
+        (b"one\n\ttwo\r\n", vec![r#"note "one\n""#, r#"note "\ttwo\r\n""#]),
+        ("größer – 道".as_bytes(), vec!["note \"größer – 道\""]),
+        (b"\0ok", vec!["note hex 00 6f 6b"]),
+        (b"\xff\xfe", vec!["note hex ff fe"]),
+        ("\u{202e}".as_bytes(), vec!["note hex e2 80 ae"]),
+    ] {
+        assert_eq!(note::lines(bytes), lines);
+    }
+    let (long, bytes) = (note::lines(&[b'a'; 201]), note::lines(&[7; 65]));
+    assert_eq!((long.len(), long[2].as_str()), (3, "note \"a\""));
+    assert_eq!((bytes.len(), bytes[2].as_str()), (3, "note hex 07"));
+}
+
+#[test]
+fn every_short_note_comes_back() {
+    let pairs = (0..=255u8).flat_map(|a| [vec![a], vec![b'"', a], vec![0xc3, a], vec![a, b'\n', a]]);
+    for bytes in pairs {
+        let mut back = Vec::new();
+        for line in note::lines(&bytes) {
+            note::parse(line.strip_prefix("note").unwrap(), &mut back).unwrap();
+        }
+        assert_eq!(back, bytes);
+    }
+}
+
+#[test]
+fn a_bad_step_is_told() {
+    let end = "expected the end of the line";
+    for (line, wrong) in [
+        ("reed client 0", "found `reed`, expected `volume V objects O ...` or a step: clock, read, "),
+        ("read client 0 objct 3", "found `objct`, expected `object`"),
+        ("read client 0", "found the end of the line, expected `object`"),
+        ("read client 256 object 0", "found `256`, expected a number of the client from 0 to 255"),
+        ("clock +4", "found `+4`, expected a time from 0 to 4294967295"),
+        ("clock -1", "found `-1`, expected a time from 0 to 4294967295"),
+        (
+            "write object 1 value 18446744073709551616",
+            "found `18446744073709551616`, expected a value from 0",
+        ),
+        ("deliver", "found the end of the line, expected a place in the queue from 0 to 255"),
+        ("restart all", "found `all`, expected `server` or `client`"),
+        ("kind 9 client 0", "found `kind 9`, expected an unknown kind: 0, or 10 to 255"),
+    ] {
+        let told = trouble(line);
+        assert!(told.starts_with(&format!("line 5: {wrong}")), "{told}");
+    }
+    assert_eq!(trouble("\nclock 4 5"), format!("line 6: found `5`, {end}"));
+    assert_eq!(trouble("restart server 1"), format!("line 5: found `1`, {end}"));
+}
+
+#[test]
+fn a_bad_note_or_setup_is_told() {
+    let first = |line: &str| troubles(&format!("{line}\n{SETUP}"))[0].clone();
+    assert_eq!(first("note \"open"), "line 1: found the end of the line, expected a closing `\"`");
+    assert_eq!(first("note \"a\" b"), "line 1: found `b`, expected the end of the line");
+    assert_eq!(first(r#"note "\q""#), r#"line 1: found `\\q`, expected \n, \r, \t, \" or \\"#);
+    assert_eq!(first("note hex 0 11"), "line 1: found `0`, expected two hex digits");
+    assert_eq!(first("note hex +1"), "line 1: found `+1`, expected two hex digits");
+    assert_eq!(first("note text"), "line 1: found `text`, expected text in quotes, or `hex` and bytes");
+    assert_eq!(trouble("note \"late\"").split(',').next(), Some("line 5: found `note`"));
+    assert_eq!(trouble("volume 3 objects 0"), "line 5: found `3`, expected a volume from 0 to 2");
+    assert!(trouble("volume 1 objects 3").starts_with("line 5: found object 3 again, after volume 0"));
+    let bad = SETUP.replace("clients 2", "clients 17");
+    assert_eq!(troubles(&bad), ["line 1: found `17`, expected a number of clients from 1 to 16"]);
+    let bad = SETUP.replace("timeout 3", "timeout 61");
+    assert_eq!(troubles(&bad), ["line 2: found `61`, expected ticks from 1 to 60"]);
+}
+
+#[test]
+fn a_missing_line_is_told_at_the_first_step() {
+    let lines: Vec<&str> = SETUP.lines().collect();
+    let without = |place: usize| {
+        let left = [&lines[..place], &lines[place + 1..], &["clock 1", "clock 2"]].concat();
+        troubles(&left.join("\n"))
+    };
+    assert_eq!(without(0), ["line 4: found no such line before, expected `clients C volumes V objects O`"]);
+    assert!(without(1)[0].starts_with("line 4: found no such line before, expected `volume lease"));
+    assert_eq!(without(3), ["line 4: found no volume of object 1 before, expected `volume V objects O ...`"]);
+    assert_eq!(troubles("").len(), 1);
+}
+
+#[test]
+fn every_bad_line_is_told_once() {
+    let text = format!("{SETUP}clock\nclock 1\nread\n").replace("lease 100", "leese 100");
+    let lines: Vec<usize> = parse(text.as_bytes()).unwrap_err().iter().map(|trouble| trouble.line).collect();
+    assert_eq!(lines, [2, 5, 7]);
+}
+
+#[test]
+fn bytes_that_are_no_text_are_told() {
+    assert_eq!(
+        parse(b"\n\xff").unwrap_err()[0].to_string(),
+        "line 2: found bytes that are no text, expected UTF-8"
+    );
+    assert_eq!(parse(b"# \0").unwrap_err()[0].to_string(), "line 1: found a zero byte, expected text");
+}
+
+#[test]
+fn the_file_keeps_its_limits() {
+    let steps = |count: usize| format!("{SETUP}{}", "clock 0\n".repeat(count));
+    assert_eq!(parse(steps(4_000).as_bytes()).unwrap().steps.len(), 4_000);
+    assert_eq!(troubles(&steps(4_001)), ["line 4005: found step 4001, expected at most 4000 steps"]);
+    let noted = |len: usize| format!("note \"{}\"\n{SETUP}", "n".repeat(len));
+    assert_eq!(parse(noted(65_480).as_bytes()).unwrap().file().len(), 65_536);
+    assert!(troubles(&noted(65_481))[0].contains("found a note of 65481 bytes, expected at most 65480"));
+}

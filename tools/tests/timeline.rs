@@ -1,0 +1,88 @@
+//! The timeline of generated runs, held to the model's tables at each step.
+
+use std::collections::BTreeMap;
+
+use model::gen::runs::{run, Run};
+use tools::timeline::flights::{End, Flights};
+use tools::timeline::{tracks, Timeline};
+use tools::trace::walk;
+
+/// The flights under way are the model's queue, place by place.
+#[test]
+fn flights_follow_the_queue() {
+    let mut ends = [0; 4];
+    for number in 0..200 {
+        let mut flights = Flights::default();
+        walk(&run(5, number), |moment| {
+            flights.follow(moment);
+            assert!(flights.queue().eq(moment.after.tables.queue.messages().iter().copied()));
+        });
+        for flight in &flights.all {
+            ends[match flight.end {
+                End::UnderWay => 0,
+                End::Delivered(_) => 1,
+                End::Lost(_) => 2,
+                End::QueueFull => 3,
+            }] += 1;
+        }
+    }
+    assert!(ends.iter().all(|&count| count > 50), "{ends:?}");
+}
+
+/// A full queue loses what an unfull one would have taken.
+#[test]
+fn messages_to_a_full_queue_are_noted() {
+    use model::step_record::Step;
+    let setup = model::gen::setups::sized(2, 1, 1);
+    let hold = |client| [Step::ask(client, 0), Step::deliver(0), Step::deliver(0), Step::deliver(0)];
+    let granted = |client| [Step::ask(client, 0), Step::deliver(0), Step::deliver(0)];
+    let steps =
+        [&hold(0)[..], &granted(0), &hold(1), &granted(1), &[Step::ask(0, 0)], &[Step::double(0); 62]]
+            .concat();
+    let lost = |step: Step| {
+        let steps = [&steps[..], &[step]].concat();
+        let timeline = Timeline::new(&Run { note: Vec::new(), setup, steps });
+        timeline.flights.iter().filter(|flight| flight.end == End::QueueFull).count()
+    };
+    assert_eq!((lost(Step::ask(1, 0)), lost(Step::write(0, 7)), lost(Step::double(3))), (0, 1, 0));
+    let mut full = steps.clone();
+    full.push(Step::ask(1, 0));
+    let timeline =
+        |step| Timeline::new(&Run { note: Vec::new(), setup, steps: [&full[..], &[step]].concat() });
+    for (step, count) in
+        [(Step::ask(1, 0), 1), (Step::write(0, 7), 2), (Step::double(3), 1), (Step::deliver(0), 0)]
+    {
+        let flights = timeline(step).flights;
+        assert_eq!(flights.iter().filter(|flight| flight.end == End::QueueFull).count(), count, "{step:?}");
+    }
+}
+
+/// At each step the spans that cover it are what the tables hold.
+#[test]
+fn spans_cover_what_the_tables_hold() {
+    for number in (0..100).filter(|number| number % 50 > 1) {
+        let run = run(6, number);
+        let timeline = Timeline::new(&run);
+        walk(&run, |moment| {
+            let covers = |from: usize, to: Option<usize>| {
+                from <= moment.number && to.is_none_or(|to| moment.number < to)
+            };
+            let spans = timeline.spans.iter().filter(|span| covers(span.from, span.to));
+            let covered: BTreeMap<_, _> = spans.map(|span| (span.track, span.detail)).collect();
+            assert_eq!(covered, tracks::of(moment.setup, moment.after));
+        });
+    }
+}
+
+#[test]
+fn steps_have_the_models_answers() {
+    for number in 0..60 {
+        let run = run(8, number);
+        let mut listing = String::from("step answer value\n");
+        for (place, view) in Timeline::new(&run).steps.iter().enumerate() {
+            let (answer, value) = view.answer.numbers();
+            listing += &format!("{} {answer} {value}\n", place + 1);
+        }
+        assert_eq!(listing.as_bytes(), model::listing::listing(&run.file()));
+    }
+}
