@@ -64,7 +64,7 @@ line-short step number value h k =
 done-small : (n : ℕ) → doneOrCompleted n < 10
 done-small n = cond-keeps (λ (k : ℕ). k < 10) (eqb n 0) (λ _. omega arith) (λ _. omega arith)
 
-answer-small : (a : Answer) → answerNumber a < 10
+pub answer-small : (a : Answer) → answerNumber a < 10
 answer-small Done = omega arith
 answer-small (Shown x) = omega arith
 answer-small AskFirst = omega arith
