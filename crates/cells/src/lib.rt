@@ -12,13 +12,6 @@ pub fn at_8(a: &[u32; 8], i: usize) -> u32
     a[i]
 }
 
-pub fn put_8(a: &mut [u32; 8], i: usize, x: u32)
-    requires { ⌜ i < 8 ⌝ }
-    ensures { λ r. ⌜ now (a .exit) ≡ set (now (a .entry)) i x ⌝ }
-{
-    a[i] = x;
-}
-
 pub fn at_16(a: &[u32; 16], i: usize) -> u32
     requires { ⌜ i < 16 ⌝ }
     ensures { λ r. ⌜ r ≡ getD (now (a .entry)) i 0 ⌝ }
@@ -40,13 +33,6 @@ pub fn at_32(a: &[u32; 32], i: usize) -> u32
     a[i]
 }
 
-pub fn put_32(a: &mut [u32; 32], i: usize, x: u32)
-    requires { ⌜ i < 32 ⌝ }
-    ensures { λ r. ⌜ now (a .exit) ≡ set (now (a .entry)) i x ⌝ }
-{
-    a[i] = x;
-}
-
 pub fn at_128(a: &[u32; 128], i: usize) -> u32
     requires { ⌜ i < 128 ⌝ }
     ensures { λ r. ⌜ r ≡ getD (now (a .entry)) i 0 ⌝ }
@@ -59,13 +45,6 @@ pub fn put_128(a: &mut [u32; 128], i: usize, x: u32)
     ensures { λ r. ⌜ now (a .exit) ≡ set (now (a .entry)) i x ⌝ }
 {
     a[i] = x;
-}
-
-pub fn at_512(a: &[u32; 512], i: usize) -> u32
-    requires { ⌜ i < 512 ⌝ }
-    ensures { λ r. ⌜ r ≡ getD (now (a .entry)) i 0 ⌝ }
-{
-    a[i]
 }
 
 pub fn put_512(a: &mut [u32; 512], i: usize, x: u32)
@@ -82,13 +61,6 @@ pub fn flag_32(a: &[bool; 32], i: usize) -> bool
     a[i]
 }
 
-pub fn mark_32(a: &mut [bool; 32], i: usize, x: bool)
-    requires { ⌜ i < 32 ⌝ }
-    ensures { λ r. ⌜ now (a .exit) ≡ set (now (a .entry)) i x ⌝ }
-{
-    a[i] = x;
-}
-
 pub fn flag_128(a: &[bool; 128], i: usize) -> bool
     requires { ⌜ i < 128 ⌝ }
     ensures { λ r. ⌜ r ≡ getD (now (a .entry)) i false ⌝ }
@@ -101,13 +73,6 @@ pub fn mark_128(a: &mut [bool; 128], i: usize, x: bool)
     ensures { λ r. ⌜ now (a .exit) ≡ set (now (a .entry)) i x ⌝ }
 {
     a[i] = x;
-}
-
-pub fn flag_512(a: &[bool; 512], i: usize) -> bool
-    requires { ⌜ i < 512 ⌝ }
-    ensures { λ r. ⌜ r ≡ getD (now (a .entry)) i false ⌝ }
-{
-    a[i]
 }
 
 pub fn mark_512(a: &mut [bool; 512], i: usize, x: bool)

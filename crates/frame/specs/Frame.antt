@@ -85,7 +85,7 @@ same a b =
     && eqb (a .expiry) (b .expiry)
     && eqb (a .value) (b .value)
 
--- Kind, value present and zero fields are right exactly where that message has these fields; `Round` shows what follows from it
+-- Kind, value present and zero fields are right exactly where that message has these fields; `Questions` writes that out, kind by kind, and `Round` shows what follows from it
 abbrev pub sound : Fields → Bool
 sound f = same (fieldsOf (messageIn f)) f
 

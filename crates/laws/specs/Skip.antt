@@ -7,7 +7,7 @@ use mathlib.Core.Path.{_≡_, refl, sym, ap, _∙_}
 use lib.Dec.{ltb}
 use borrow.Author.Tests.{lt-ltb, le-ltb}
 use Rattle.laws.specs.Choice.{true-or-false}
-use Rattle.laws.specs.Loop.{foldFrom, firstFrom, anyFrom}
+use Rattle.laws.specs.Loop.{foldFrom, firstFrom, anyFrom, first-stop, first-end}
 
 module _ (p : ℕ → Bool) where
   -- where the first number is
@@ -102,3 +102,17 @@ module _ {ℓ} {S : Type ℓ} (F : S → ℕ → S) (p : S → ℕ → Bool) (st
     where
       whole : j + (N - j) ≡ N
       whole = omega arith
+
+-- r is the first number from `from` on, and below n, that passes; n where there is none
+pub record Found (p : ℕ → Bool) (from n r : ℕ) : Type 0 where
+  pub is : r ≡ firstFrom p from (n - from)
+  pub low : from ≤ r
+  pub high : r ≤ n
+
+-- a search for it stops, or comes to its end
+module _ (p : ℕ → Bool) (n j from : ℕ) where
+  pub found-stop : (r : Bool) → from ≤ j → j < n → r ≡ p j → r ≡ true → firstFrom p j (n - j) ≡ firstFrom p from (n - from) → Found p from n j
+  found-stop r l h e f i = record { is = first-stop p n j (firstFrom p from (n - from)) r h e f i; low = l; high = omega arith }
+
+  pub found-end : from ≤ j → j ≤ n → n ≤ j → firstFrom p j (n - j) ≡ firstFrom p from (n - from) → Found p from n j
+  found-end l k h i = record { is = first-end p n j (firstFrom p from (n - from)) h i; low = l; high = k }

@@ -7,30 +7,21 @@ use mathlib.Core.Path.{_≡_, refl, sym, ap, _∙_}
 use lib.ListN.{set}
 use borrow.Author.Tests.{lt-ltb, le-ltb}
 use Rattle.laws.specs.Choice.{cond-keeps}
-use Rattle.laws.specs.Loop.{foldFrom, firstFrom, fold-again, fold-end, first-stop, first-end}
-use Rattle.laws.specs.Skip.{fold-skip, first-is}
+use Rattle.laws.specs.Loop.{foldFrom, firstFrom, fold-again, fold-end}
+use Rattle.laws.specs.Skip.{Found, fold-skip, first-is}
 use Rattle.protocol.specs.declared.message.Queue.{Queue}
 use Rattle.protocol.specs.declared.message.Kind.the-variants.{Invalidate}
 use Rattle.protocol.specs.declared.setup.Setup.{Setup}
 use Rattle.protocol.specs.Setup.{inRange, volumeOf}
 use Rattle.protocol.specs.SoundLaws.{ranged, volume-in}
 use Rattle.protocol.specs.Messages.{message, pushed}
-use Rattle.leases.specs.Parts.{Placed, Found, waitingFor, notifyOne}
+use Rattle.leases.specs.Parts.{Placed, waitingFor, notifyOne}
 
 pub placed : (s : Setup) (o : ℕ) → inRange s ≡ true → o < s .objects → Placed s o (volumeOf s o)
 placed s o e h =
     let r = ranged s e in
     let v = volume-in s e o h in
     record { is = refl; exists = v; volume = omega arith; object = omega arith; clients = r .clients; objects = r .objects }
-
--- ---- the first number that passes
-
-module _ (p : ℕ → Bool) (n j A from : ℕ) where
-  pub found-stop : (r : Bool) → from ≤ j → j < n → r ≡ p j → r ≡ true → firstFrom p j (n - j) ≡ firstFrom p from (n - from) → Found p from n j
-  found-stop r l h e f i = record { is = first-stop p n j (firstFrom p from (n - from)) r h e f i; low = l; high = omega arith }
-
-  pub found-end : from ≤ j → j ≤ n → n ≤ j → firstFrom p j (n - j) ≡ firstFrom p from (n - from) → Found p from n j
-  found-end l k h i = record { is = first-end p n j (firstFrom p from (n - from)) h i; low = l; high = k }
 
 -- ---- INVALIDATEs sent
 

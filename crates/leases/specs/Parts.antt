@@ -1,17 +1,18 @@
 -- The rules of writes, over the single tables that a function is lent.
-use Prim.Native.Nat.{ℕ, _+_, _-_, min, max, _<_, _≤_}
+use Prim.Native.Nat.{ℕ, _+_, min, max, _<_, _≤_}
 use mathlib.Core.Bool.{Bool, true, false, cond, not, _&&_, _||_}
-use mathlib.Core.List.{List}
+use mathlib.Core.List.{List, []}
 use mathlib.Core.Path.{_≡_}
 use lib.ListN.{getD, set}
-use Rattle.laws.specs.Loop.{foldFrom, firstFrom}
+use Rattle.laws.specs.Loop.{foldFrom}
 use Rattle.laws.specs.Store.{storeEach, always}
 use Rattle.protocol.specs.declared.message.Queue.{Queue}
 use Rattle.protocol.specs.declared.message.Kind.the-variants.{Invalidate}
 use Rattle.protocol.specs.declared.setup.Setup.{Setup}
+use Rattle.protocol.specs.declared.tables.Tables.{Tables}
 use Rattle.protocol.specs.Setup.{volumeOf}
-use Rattle.protocol.specs.Messages.{message, pushed}
-use Rattle.protocol.specs.Tables.{byVolume, byObject}
+use Rattle.protocol.specs.Messages.{message, pushed, emptyQueue}
+use Rattle.protocol.specs.Tables.{byVolume, byObject, freshSessions, freshViews}
 use Rattle.protocol.specs.Leases.{serverAlive}
 
 -- what an object's volume is known to be, and the bounds that come with it
@@ -39,12 +40,6 @@ latestBy clock m volume object guard = max (max (clock + m) (min volume object))
 abbrev pub waitingFor : List Bool → ℕ → ℕ → Bool
 waitingFor waiting o d = getD waiting (byObject d o) false
 
--- r is the first number from `from` on, and below n, that passes; n where there is none
-pub record Found (p : ℕ → Bool) (from n r : ℕ) : Type 0 where
-  pub is : r ≡ firstFrom p from (n - from)
-  pub low : from ≤ r
-  pub high : r ≤ n
-
 -- one client marked unreachable, if it is still waited for
 abbrev pub markOne : List Bool → ℕ → ℕ → List Bool → ℕ → List Bool
 markOne waiting v o l d = cond (waitingFor waiting o d) (set l (byVolume d v) true) l
@@ -58,3 +53,15 @@ notifyOne waiting o e w q d = cond (waitingFor waiting o d) (pushed q (message d
 
 abbrev pub notifiedBy : List Bool → ℕ → ℕ → ℕ → Queue → ℕ → Queue
 notifiedBy waiting o e w q n = foldFrom (notifyOne waiting o e w) q 0 n
+
+-- tables that hold what the tests of a standing write read
+abbrev pub scene : ℕ → List ℕ → List Bool → List ℕ → List Bool → Tables
+scene clock guard standing end waiting = record {
+  clock = clock;
+  volumes = record { epoch = []; expiry = []; guard = guard };
+  sessions = freshSessions;
+  objects = record { value = []; version = []; expiry = []; standing = standing; pending = []; end = end };
+  holders = record { lease = []; waiting = waiting };
+  views = freshViews;
+  queue = emptyQueue;
+}

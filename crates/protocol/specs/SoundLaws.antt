@@ -12,6 +12,7 @@ use lib.Seq.{getD-set-other}
 use Rattle.laws.specs.Choice.{and-true, not-both, same?}
 use Rattle.laws.specs.Loop.{allFrom, all-each}
 use Rattle.protocol.specs.declared.setup.Setup.{Setup}
+use Rattle.protocol.specs.declared.tables.Objects.{Objects}
 use Rattle.protocol.specs.declared.tables.Tables.{Tables}
 use Rattle.protocol.specs.Setup.{between, inRange, volumeOf, volumeFits}
 use Rattle.protocol.specs.Tables.{standingAt, versionAt, endAt, objectExpiryAt}
@@ -62,8 +63,8 @@ module _ (s : Setup) (e : inRange s ≡ true) where
       ltb-true (volumeOf s o) (s .volumes) (rw (lt-ltb o (s .objects) h) at f)
 
 -- every standing write can still be completed: its version can grow
-pub record Growing (s : Setup) (t : Tables) : Type 0 where
-  pub below : (o : ℕ) → o < s .objects → standingAt t o ≡ true → versionAt t o < 4294967295
+pub record Growing (s : Setup) (b : Objects) : Type 0 where
+  pub below : (o : ℕ) → o < s .objects → getD (b .standing) o false ≡ true → getD (b .version) o 0 < 4294967295
 
 module _ (s : Setup) (t : Tables) (e : tablesSound s t ≡ true) where
   clock-and-objects : (t .clock ≤ clockLimit) × (allFrom (objectSound t) 0 (s .objects) ≡ true)
@@ -86,7 +87,7 @@ module _ (s : Setup) (t : Tables) (e : tablesSound s t ≡ true) where
       let g = and-true (leb 1 (versionAt t o) && timeFits (objectExpiryAt t o)) (not (standingAt t o) || (timeFits (endAt t o) && canGrow (versionAt t o))) f .1 in
       ltb-true (versionAt t o) 4294967295 (and-true (timeFits (endAt t o)) (canGrow (versionAt t o)) (rw k at g) .1)
 
-  pub growing : Growing s t
+  pub growing : Growing s (t .objects)
   growing = record { below = sound-version }
 
 cleared : (l : List Bool) (o : ℕ) → getD (set l o false) o false ≡ false
@@ -95,7 +96,7 @@ cleared (x ∷ l) zero = refl
 cleared (x ∷ l) (suc o) = cleared l o
 
 -- completing a write leaves the others as they were
-pub completed-keeps : (s : Setup) (t : Tables) (o : ℕ) → Growing s t → Growing s (completed s t o)
+pub completed-keeps : (s : Setup) (t : Tables) (o : ℕ) → Growing s (t .objects) → Growing s (completed s t o .objects)
 unfolding completed posted
 completed-keeps s t o g = record { below = λ k h e. pick k h e (same? k o) }
   where

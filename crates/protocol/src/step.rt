@@ -14,7 +14,7 @@ pub struct Step {
     pub value: u64,
 }
 
-// What a step answers. 01's number and value of each are `answerNumber` and `answerValue` of specs/Answer.antt.
+// What a step answers. 01's number and value of each are `answerNumber` and `answerValue` of specs/Answers.antt.
 pub enum Answer {
     Done,
     Shown(u64),

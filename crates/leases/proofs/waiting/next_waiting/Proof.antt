@@ -2,7 +2,7 @@ use mathlib.Core.Path.{_≡_, refl}
 use Prim.Native.Nat.{_≤_, _-_}
 use Rattle.laws.specs.Loop.{firstFrom, first-again}
 use Rattle.leases.specs.Parts.{waitingFor}
-use Rattle.leases.proofs.Laws.{found-stop, found-end}
+use Rattle.laws.specs.Skip.{found-stop, found-end}
 use borrow.Author.Needs.{needs}
 use Rattle.leases.proofs.waiting.next_waiting.Statement.{statement}
 use Rattle.leases.proofs.waiting.next_waiting.Tie as tie
