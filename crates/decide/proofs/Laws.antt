@@ -2,20 +2,40 @@
 use Prim.Native.Nat.{ℕ, _+_, _*_, _<_, _≤_, _^_}
 use native.Mathlib.Nat.{mul-le-mul-right, lt-of-le-of-lt, le-of-lt}
 use native.Mathlib.Omega.{arith}
-use mathlib.Core.Bool.{Bool, true, false, cond}
+use mathlib.Core.Bool.{Bool, true, false, cond, not, _&&_, _||_}
 use mathlib.Core.Path.{_≡_, refl, sym, ap, _∙_}
-use lib.Dec.{eqb}
-use borrow.Author.Tests.{eq-eqb, ne-eqb}
+use lib.Dec.{ltb, leb, eqb}
+use borrow.Author.Tests.{eq-eqb, ne-eqb, ltb-true, leb-true}
 use Rattle.protocol.specs.declared.message.Kind.{Kind}
-use Rattle.protocol.specs.declared.message.Kind.the-variants.{Grant}
+use Rattle.protocol.specs.declared.message.Kind.the-variants.{Renew, Grant, Invalidate, Ack, Offer, Dropped}
 use Rattle.protocol.specs.declared.message.Message.{Message}
 use Rattle.protocol.specs.declared.message.Payload.{Payload}
 use Rattle.protocol.specs.declared.setup.Setup.{Setup}
 use Rattle.protocol.specs.declared.step.Step.{Step}
 use Rattle.protocol.specs.declared.step.Target.{Target}
 use Rattle.protocol.specs.declared.tables.Tables.{Tables}
-use Rattle.protocol.specs.Messages.{messageAt, objectOf}
+use Rattle.protocol.specs.declared.records.Copy.{Copy}
+use Rattle.protocol.specs.declared.records.Request.{Request}
+use Rattle.protocol.specs.declared.step.Answer.{Answer}
+use Rattle.protocol.specs.declared.step.Answer.the-variants.{Done, Completed, Delivered}
+use Rattle.protocol.specs.declared.step.Counted.{Counted}
+use Rattle.protocol.specs.declared.step.Decision.{Decision}
+use Rattle.protocol.specs.declared.step.Received.{Received}
+use Rattle.protocol.specs.Setup.{volumeOf, inRange}
+use Rattle.protocol.specs.Messages.{messageAt, objectOf, doubled}
+use Rattle.protocol.specs.Tables.{epochAt, versionAt, standingAt, withQueue}
+use Rattle.protocol.specs.Writes.{settled, writeStaged, clockStaged}
+use Rattle.protocol.specs.Server.{renewed, ackStaged, dropStaged, serverRestarted}
+use Rattle.protocol.specs.Sound.{kindSound, timeFits, canGrow, tablesSound}
+use Rattle.protocol.specs.SoundLaws.{ranged, volume-in}
+use Rattle.protocol.specs.Gate.{usesClient, usesObject, usesPlace, isWrite, isAsk, isRestartServer, known, refusalOfStep, refusal}
+use Rattle.protocol.specs.Answers.{completedAnswer}
+use Rattle.protocol.specs.Decide.{kept, uncounted, byServer, grantReceived, invalidateReceived, offerReceived, received, answered, counting, readDecided, askDecided, delivered, taken, deliverDecided, restartDecided, performed, refusedWith, decided}
 use Rattle.protocol.specs.World.{targetAt, target}
+use Rattle.decide.specs.Taken.{taken-sound}
+use Rattle.decide.specs.Accepted.{accepted, client-in, object-in, place-in, none-stands, version-grows, epochs-grow, number-grows, refusal-none, sound-length, sound-message}
+use Rattle.laws.specs.Choice.{and-true}
+use Rattle.laws.specs.Loop.{allFrom}
 
 -- a byte times a number of 32 bits
 pub byte-times : (a b : ℕ) → a < 256 → b < 4294967296 → a * b ≤ 1099511627776
@@ -32,3 +52,197 @@ module _ (s : Setup) (t : Tables) (x : Step) (g : Target) where
   pub target-named : (x .kind ≡ 5 → ⊥) → g ≡ targetAt s (x .client) (x .object) → g ≡ target s t x
   unfolding target
   target-named h e = rw (ne-eqb _ _ h) e
+
+-- bounds of a setup in range
+module _ (s : Setup) (e : inRange s ≡ true) where
+  pub client-16 : (d : ℕ) → d < s .clients → d < 16
+  client-16 d h = let r = ranged s e in omega arith
+
+  pub object-32 : (o : ℕ) → o < s .objects → o < 32
+  object-32 o h = let r = ranged s e in omega arith
+
+  pub volume-8 : (v : ℕ) → v < s .volumes → v < 8
+  volume-8 v h = let r = ranged s e in omega arith
+
+  pub volume-of-8 : (o : ℕ) → o < s .objects → volumeOf s o < 8
+  volume-of-8 o h = let r = ranged s e in let k = volume-in s e o h in omega arith
+
+  pub volumes-8 : s .volumes ≤ 8
+  volumes-8 = ranged s e .volumes
+
+pub ruleset bounds = (client-16, object-32, volume-8, volume-of-8, volumes-8)
+
+-- the item that a sound message names exists
+module _ (s : Setup) (k : Kind) (h : kindSound s k ≡ true) where
+  pub renew-in : (o n e w : ℕ) → k ≡ Renew o n e w → o < s .objects
+  renew-in o n e w q = ltb-true _ _ (rw q at h)
+
+  pub grant-in : (o n x e w y : ℕ) (p : Payload) → k ≡ Grant o n x e w y p → o < s .objects
+  grant-in o n x e w y p q = ltb-true _ _ (and-true _ _ (and-true (ltb o (s .objects) && timeFits x) (timeFits y) (rw q at h) .0) .0)
+
+  pub ack-in : (o e w : ℕ) → k ≡ Ack o e w → o < s .objects
+  ack-in o e w q = ltb-true _ _ (rw q at h)
+
+  pub offer-in : (v n e : ℕ) → k ≡ Offer v n e → v < s .volumes
+  offer-in v n e q = ltb-true _ _ (rw q at h)
+
+  pub dropped-in : (v n e : ℕ) → k ≡ Dropped v n e → v < s .volumes
+  dropped-in v n e q = ltb-true _ _ (rw q at h)
+
+pub ruleset named = (client-16, object-32, volume-8, volume-of-8, volumes-8, renew-in, grant-in, ack-in, offer-in, dropped-in)
+
+-- a message received, by its kind
+module _ (s : Setup) (t : Tables) (c : Copy) (r : Request) (d : ℕ) (k : Kind) (g : Received) where
+  pub receive-renew : (o n e w : ℕ) (u : Tables) (m : Counted) → k ≡ Renew o n e w → u ≡ renewed s t d o n e w → m ≡ uncounted u → g ≡ byServer c r m → g ≡ received s t c r d k
+  unfolding received
+  receive-renew o n e w u m q h i j = rw (q, ← h, ← i) j
+
+  pub receive-grant : (o n x e w y : ℕ) (p : Payload) → k ≡ Grant o n x e w y p → g ≡ grantReceived s t c r d o n x e w y p → g ≡ received s t c r d k
+  unfolding received
+  receive-grant o n x e w y p q h = rw q h
+
+  pub receive-invalidate : (o e w : ℕ) → k ≡ Invalidate o e w → g ≡ invalidateReceived t r d o e w → g ≡ received s t c r d k
+  unfolding received
+  receive-invalidate o e w q h = rw q h
+
+  pub receive-ack : (o e w : ℕ) (m : Counted) → k ≡ Ack o e w → m ≡ settled s (ackStaged s t d o e w) → g ≡ byServer c r m → g ≡ received s t c r d k
+  unfolding received
+  receive-ack o e w m q h i = rw (q, ← h) i
+
+  pub receive-offer : (v n e : ℕ) → k ≡ Offer v n e → g ≡ offerReceived t c r d v n e → g ≡ received s t c r d k
+  unfolding received
+  receive-offer v n e q h = rw q h
+
+  pub receive-dropped : (v n e : ℕ) (m : Counted) → k ≡ Dropped v n e → m ≡ settled s (dropStaged s t d v n e) → g ≡ byServer c r m → g ≡ received s t c r d k
+  unfolding received
+  receive-dropped v n e m q h i = rw (q, ← h) i
+
+-- a message taken off the list of sound tables
+module _ (s : Setup) (t : Tables) (i : ℕ) (e : tablesSound s t ≡ true) (h : i < t .queue .len) where
+  pub left-sound : (u : Tables) → u ≡ taken t i → tablesSound s u ≡ true
+  left-sound u p = rw p (taken-sound s t i h e)
+
+  module _ (m : Message) (p : m ≡ messageAt (t .queue) i) where
+    pub taken-client : m .client < s .clients
+    taken-client = rw p (sound-message s t e i h .0)
+
+    pub taken-kind : kindSound s (m .kind) ≡ true
+    taken-kind = rw p (sound-message s t e i h .1)
+
+pub ruleset takes = (sound-length, left-sound, taken-client, taken-kind)
+
+pub deliver-law : (s : Setup) (t u : Tables) (c : Copy) (r : Request) (i : ℕ) (m : Message) (g : Received) → m ≡ messageAt (t .queue) i → u ≡ taken t i
+    → g ≡ received s u c r (m .client) (m .kind) → answered (g .change) (g .counted .tables) (Delivered m (g .counted .count)) ≡ deliverDecided s t c r i
+unfolding deliverDecided
+deliver-law s t u c r i m g p q h = rw (← p, ← q, ← h)
+
+-- the answer of a clock step and of a write
+pub none-completed : (n : ℕ) → n ≡ 0 → Done ≡ completedAnswer n
+none-completed n h = rw (eq-eqb _ _ h)
+
+pub some-completed : (n : ℕ) → (n ≡ 0 → ⊥) → Completed n ≡ completedAnswer n
+some-completed n h = rw (ne-eqb _ _ h)
+
+-- an accepted step, by its kind
+module _ (s : Setup) (t : Tables) (c : Copy) (r : Request) (x : Step) (d : Decision) where
+  pub by-clock : (n : Counted) → x .kind ≡ 1 → n ≡ settled s (clockStaged s t (x .clock)) → d ≡ counting c r n → d ≡ performed s t c r x
+  unfolding performed
+  by-clock n k h e = rw (k, ← h) e
+
+  pub by-read : x .kind ≡ 2 → d ≡ readDecided s t c r (x .client) (x .object) → d ≡ performed s t c r x
+  unfolding performed
+  by-read k e = rw k e
+
+  pub by-ask : x .kind ≡ 3 → d ≡ askDecided s t c r (x .client) (x .object) → d ≡ performed s t c r x
+  unfolding performed
+  by-ask k e = rw k e
+
+  pub by-write : (n : Counted) → x .kind ≡ 4 → n ≡ settled s (writeStaged s t (x .object) (x .value)) → d ≡ counting c r n → d ≡ performed s t c r x
+  unfolding performed
+  by-write n k h e = rw (k, ← h) e
+
+  pub by-deliver : x .kind ≡ 5 → d ≡ deliverDecided s t c r (x .place) → d ≡ performed s t c r x
+  unfolding performed
+  by-deliver k e = rw k e
+
+  pub by-lose : (u : Tables) → x .kind ≡ 6 → u ≡ taken t (x .place) → d ≡ answered (kept c r) u Done → d ≡ performed s t c r x
+  unfolding performed
+  by-lose u k h e = rw (k, ← h) e
+
+  pub by-double : (u : Tables) → x .kind ≡ 7 → u ≡ withQueue t (doubled (t .queue) (x .place)) → d ≡ answered (kept c r) u Done → d ≡ performed s t c r x
+  unfolding performed
+  by-double u k h e = rw (k, ← h) e
+
+  pub by-restart-server : (u : Tables) → x .kind ≡ 8 → u ≡ serverRestarted s t → d ≡ answered (kept c r) u Done → d ≡ performed s t c r x
+  unfolding performed
+  by-restart-server u k h e = rw (k, ← h) e
+
+  by-restart-client : x .kind ≡ 9 → d ≡ restartDecided s t c r (x .client) → d ≡ performed s t c r x
+  unfolding performed
+  by-restart-client k e = rw k e
+
+past : (k n : ℕ) → n ≤ k → (k ≡ n → ⊥) → n + 1 ≤ k
+past k n h e = omega arith
+
+nine : (k : ℕ) → 9 ≤ k → k ≤ 9 → k ≡ 9
+nine k h i = omega arith
+
+-- what an accepted step names exists, and what must grow can
+module _ (s : Setup) (t : Tables) (r : Request) (x : Step) (a : refusalOfStep s t r x ≡ 0) (k : ℕ) (h : x .kind ≡ k) where
+  pub client-named : (eqb k 2 || eqb k 3 || eqb k 9) ≡ true → x .client < s .clients
+  client-named e = client-in (accepted s t r x a) (rw h e)
+
+  pub object-named : (eqb k 2 || eqb k 3 || eqb k 4) ≡ true → x .object < s .objects
+  object-named e = object-in (accepted s t r x a) (rw h e)
+
+  pub place-named : (eqb k 5 || eqb k 6 || eqb k 7) ≡ true → x .place < t .queue .len
+  place-named e = place-in (accepted s t r x a) (rw h e)
+
+  pub version-can-grow : eqb k 4 ≡ true → versionAt t (x .object) < 4294967295
+  version-can-grow e = version-grows (accepted s t r x a) (rw h e)
+
+  pub none-standing : eqb k 4 ≡ true → standingAt t (x .object) ≡ false
+  none-standing e = none-stands (accepted s t r x a) (rw h e)
+
+  pub number-can-grow : eqb k 3 ≡ true → r .next < 4294967295
+  number-can-grow e = number-grows (accepted s t r x a) (rw h e)
+
+  pub epochs-can-grow : eqb k 8 ≡ true → allFrom (λ (v : ℕ). canGrow (epochAt t v)) 0 (s .volumes) ≡ true
+  epochs-can-grow e = epochs-grow (accepted s t r x a) (rw h e)
+
+-- what is left of the kinds: 9
+module _ (s : Setup) (t : Tables) (r : Request) (x : Step) (e : refusalOfStep s t r x ≡ 0) (n1 : x .kind ≡ 1 → ⊥) (n2 : x .kind ≡ 2 → ⊥) (n3 : x .kind ≡ 3 → ⊥)
+    (n4 : x .kind ≡ 4 → ⊥) (n5 : x .kind ≡ 5 → ⊥) (n6 : x .kind ≡ 6 → ⊥) (n7 : x .kind ≡ 7 → ⊥) (n8 : x .kind ≡ 8 → ⊥) where
+  last : x .kind ≡ 9
+  unfolding known
+  last =
+      let k = and-true (leb 1 (x .kind)) (leb (x .kind) 9) (accepted s t r x e .knows) in
+      nine _ (past _ 8 (past _ 7 (past _ 6 (past _ 5 (past _ 4 (past _ 3 (past _ 2 (past _ 1 (leb-true 1 _ (k .0)) n1) n2) n3) n4) n5) n6) n7) n8) (leb-true _ 9 (k .1))
+
+  pub last-client : x .client < s .clients
+  last-client = client-named s t r x e 9 last refl
+
+  pub by-last : (c : Copy) (d : Decision) → d ≡ restartDecided s t c r (x .client) → d ≡ performed s t c r x
+  by-last c d h = by-restart-client s t c r x d last h
+
+pub ruleset lets = (client-16, object-32, volume-8, volume-of-8, volumes-8, client-named, last-client, object-named, place-named, version-can-grow, none-standing, number-can-grow, epochs-can-grow, sound-length)
+
+module _ (s : Setup) (t : Tables) (records : Bool) (c : Copy) (r : Request) (x : Step) (k : ℕ) (p : k ≡ refusal s t records r x) where
+  pub setup-asked : k ≡ 0 → inRange s ≡ true
+  setup-asked h = refusal-none s t records r x (sym p ∙ h) .0
+
+  pub tables-asked : k ≡ 0 → tablesSound s t ≡ true
+  tables-asked h = refusal-none s t records r x (sym p ∙ h) .1 .0
+
+  pub step-asked : k ≡ 0 → refusalOfStep s t r x ≡ 0
+  step-asked h = refusal-none s t records r x (sym p ∙ h) .1 .1
+
+  pub decided-accepted : (d : Decision) → k ≡ 0 → d ≡ performed s t c r x → d ≡ decided s t records c r x
+  unfolding decided
+  decided-accepted d h e = rw (← p, h) e
+
+  pub decided-refused : (k ≡ 0 → ⊥) → refusedWith t c r k ≡ decided s t records c r x
+  unfolding decided
+  decided-refused h = rw (← p, ne-eqb _ _ h)
+
+pub ruleset questions = (setup-asked, tables-asked, step-asked)
