@@ -119,17 +119,14 @@ module _ (s : Setup) (g : Sweep) (first : ℕ) where
   pub sweep-length : (j m : ℕ) (l : List Copy) → length (foldFrom (sweepAt s g first) l j m) ≡ length l
   sweep-length j m l = fold-keeps (λ (k : List Copy). length k ≡ length l) (sweepAt s g first) (λ k i e. simp length-set e) l j m refl
 
+at-most : (s : Setup) (g : Sweep) → sweeps g (s .objects) ≤ s .objects
+at-most s Keep = omega arith
+at-most s (Expire v) = omega arith
+at-most s Erase = omega arith
+
 module _ (s : Setup) (g : Sweep) (client : ℕ) (l : List Copy) (h : copyCount s ≤ length l) where
   abbrev start : ℕ
   start = client * s .objects
-
-  at-most : sweeps g (s .objects) ≤ s .objects
-  at-most = go g
-    where
-      go : (g : Sweep) → sweeps g (s .objects) ≤ s .objects
-      go Keep = omega arith
-      go (Expire v) = omega arith
-      go Erase = omega arith
 
   -- the client's copies lie among the setup's, or it has none
   sweep-taken : take (copyCount s) (foldFrom (sweepAt s g start) l start (reach s client g)) ≡ sweptAll s g start (take (copyCount s) l)
@@ -143,10 +140,34 @@ module _ (s : Setup) (g : Sweep) (client : ℕ) (l : List Copy) (h : copyCount s
       inside : client < s .clients → start + sweeps g (s .objects) ≤ copyCount s
       inside e =
           let k : suc client * s .objects ≤ s .clients * s .objects = mul-le-mul-right (s .objects) e in
-          omega (arith, k, at-most, suc-mul client (s .objects))
+          omega (arith, k, at-most s g, suc-mul client (s .objects))
 
       past : s .clients ≤ client → length (take (copyCount s) l) ≤ start
       past e = omega (arith, length-take-le (copyCount s) l h, mul-le-mul-right (s .objects) e)
+
+first-place : (s : Setup) (t : Tables) (x : Step) → target s t x .first ≡ target s t x .client * s .objects
+unfolding target
+first-place s t x = cond-keeps (λ (a : Target). a .first ≡ a .client * s .objects) (isDeliver x) (λ _. refl) (λ _. refl)
+
+-- a sweep stays inside the array
+pub sweep-fits : (s : Setup) (t : Tables) (x : Step) (g : Sweep) → inRange s ≡ true → 0 < reach s (target s t x .client) g
+    → (reach s (target s t x .client) g ≤ 32) × (target s t x .first + reach s (target s t x .client) g ≤ 512)
+sweep-fits s t x g i = rw (first-place s t x) (go (target s t x .client))
+  where
+    rs : Ranges s
+    rs = ranges s i
+
+    inner : (d : ℕ) → ltb d (s .clients) ≡ true → d ≤ 15
+    inner d e = omega (arith, ltb-true d (s .clients) e, rs .clients .1)
+
+    bound : (d : ℕ) → ltb d (s .clients) ≡ true → d * s .objects ≤ 15 * 32
+    bound d e = mul-le-mul (inner d e) (rs .objects .1)
+
+    go : (d : ℕ) → 0 < reach s d g → (reach s d g ≤ 32) × (d * s .objects + reach s d g ≤ 512)
+    go d =
+        cond-keeps (λ (n : ℕ). 0 < n → (n ≤ 32) × (d * s .objects + n ≤ 512)) (ltb d (s .clients))
+        (λ e _. (omega (arith, at-most s g, rs .objects .1), omega (arith, at-most s g, rs .objects .1, bound d e)))
+        (λ e h. absurd (omega arith))
 
 -- ---- one step on the arrays
 module _ (s : Setup) (t : Tables) (cs : List Copy) (rs : List Request) (i : inRange s ≡ true) (o : Owned s t cs rs) (x : Step) where
@@ -175,14 +196,10 @@ module _ (s : Setup) (t : Tables) (cs : List Copy) (rs : List Request) (i : inRa
   unfolding decision decided refusal
   decides = rw (sounds s before (o .sound) i, seen-copy, seen-request)
 
-  first-of : target s t x .first ≡ target s t x .client * s .objects
-  unfolding target
-  first-of = cond-keeps (λ (a : Target). a .first ≡ a .client * s .objects) (isDeliver x) (λ _. refl) (λ _. refl)
-
   swept-left : (d : Decision) (l : List Copy) → copyCount s ≤ length l
       → take (copyCount s) (foldFrom (sweepAt s (d .change .sweep) (target s t x .first)) l (target s t x .first) (reach s (target s t x .client) (d .change .sweep)))
       ≡ sweptAll s (d .change .sweep) (target s t x .first) (take (copyCount s) l)
-  swept-left d l k = rw first-of (sweep-taken s (d .change .sweep) (target s t x .client) l k)
+  swept-left d l k = rw (first-place s t x) (sweep-taken s (d .change .sweep) (target s t x .client) l k)
 
   copies-left : (d : Decision) → take (copyCount s) (copiesLeft s cs (target s t x) d) ≡ copiesAfter s (before .copies) (target s t x) d
   copies-left d =

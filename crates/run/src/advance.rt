@@ -3,8 +3,6 @@ ghost use mathlib.Core.Bool.{true};
 ghost use mathlib.Core.Path.{_≡_};
 ghost use Rattle.protocol.specs.Setup.{inRange};
 ghost use Rattle.protocol.specs.Sound.{tablesSound};
-ghost use Rattle.protocol.specs.Gate.{refusalOfStep};
-ghost use Rattle.protocol.specs.Decide.{performed};
 ghost use Rattle.run.specs.Owned.{decidedOn};
 use protocol::records::Copy;
 use protocol::records::Request;
@@ -17,25 +15,6 @@ use protocol::step::Step;
 use protocol::step::Sweep;
 use protocol::tables::Tables;
 
-fn perform(s: Setup, t: Tables, c: Copy, r: Request, x: Step) -> Decision
-    requires { ⌜ inRange s ≡ true ⌝ }
-    requires { ⌜ tablesSound s t ≡ true ⌝ }
-    requires { ⌜ refusalOfStep s t r x ≡ 0 ⌝ }
-    ensures { λ d. ⌜ d ≡ performed s t c r x ⌝ }
-{
-    Decision {
-        change: Change {
-            copy: c,
-            request: r,
-            sweep: Sweep::Keep,
-        },
-        outcome: Outcome {
-            answer: Answer::Done,
-            tables: t,
-        },
-    }
-}
-
 pub fn advance(s: Setup, t: Tables, c: Copy, r: Request, x: Step) -> Decision
     requires { ⌜ inRange s ≡ true ⌝ }
     requires { ⌜ tablesSound s t ≡ true ⌝ }
@@ -43,7 +22,7 @@ pub fn advance(s: Setup, t: Tables, c: Copy, r: Request, x: Step) -> Decision
 {
     let k = gate::steps::refusal_of_step(s, t, r, x);
     if k == 0 {
-        return perform(s, t, c, r, x);
+        return decide::perform::perform(s, t, c, r, x);
     }
     Decision {
         change: Change {

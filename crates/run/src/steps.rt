@@ -1,10 +1,8 @@
 // The steps of a run, one after the other, on tables and records that the run owns.
-ghost use Prim.Native.Nat.{ℕ, _+_, _*_, _≤_};
 ghost use mathlib.Core.Bool.{true};
 ghost use mathlib.Core.Path.{_≡_};
-ghost use lib.ListN.{length};
 ghost use Rattle.protocol.specs.Setup.{inRange};
-ghost use Rattle.run.specs.Ran.{RanSteps};
+ghost use Rattle.run.specs.Ran.{Roomy, RanSteps};
 use crate::advance;
 use crate::places;
 use protocol::records::Copy;
@@ -30,7 +28,7 @@ pub fn run_steps(
     at: usize,
 ) -> Left
     requires { ⌜ inRange s ≡ true ⌝ }
-    requires { ⌜ (first + 16 * count ≤ length (now file)) × (count ≤ 4000) × (at + 28 * count + 63 ≤ length (now out)) ⌝ }
+    requires { ⌜ Roomy (now file) first count (now out) at ⌝ }
     ensures { λ r. ⌜ RanSteps s (now (file .entry)) first count (now (out .entry)) (now (out .exit)) at r ⌝ }
 {
     let clients = s.clients as usize;

@@ -5,7 +5,7 @@ use Rattle.run.proofs.advance.advance.Tie as tie
 use Rattle.run.proofs.advance.advance.Reads as reads
 use Rattle.run.proofs.advance.advance.Lts as lts
 use Rattle.gate.proofs.steps.refusal_of_step.Reads as refusal-of-step-reads
-use Rattle.run.proofs.advance.perform.Reads as perform-reads
+use Rattle.decide.proofs.perform.perform.Reads as perform-reads
 
 refusal-of-step-requires : tie.Need-refusal-of-step-requires
 refusal-of-step-requires c κs = search (eight-volumes, needs)
