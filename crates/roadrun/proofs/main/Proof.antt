@@ -1,5 +1,4 @@
-use mathlib.Core.Path.{sym}
-use lib.Seq.{length-take-le}
+use Rattle.roadrun.proofs.Laws.{part-long}
 use Rattle.run.specs.Listed.{listed-fits}
 use borrow.Author.Needs.{needs}
 use Rattle.roadrun.proofs.main.Statement.{statement}
@@ -35,7 +34,7 @@ array-share-prefix-out : tie.Need-array-share-prefix-out
 array-share-prefix-out c = search (listed-fits, needs)
 
 slice-aggregate-write-all : tie.Need-slice-aggregate-write-all
-slice-aggregate-write-all c = sym (length-take-le _ _ (listed-fits _ _ _ _ _ (c .before .before .before .before .before .list .ensures .0) (c .before .before .before .before .before .list .ensures .1) (c .before .known-told .given)))
+slice-aggregate-write-all c = search (part-long, needs)
 
 write-all-requires : tie.Need-write-all-requires
 write-all-requires c κs = search needs
