@@ -23,9 +23,8 @@ impl CaseTables {
             60 => self.copies[place].version = word(value),
             61 => self.copies[place].value = value,
             62 => self.copies[place].expiry = word(value),
-            63 => self.copy_count = value as usize,
+            63 => self.other = value != 0,
             70..=73 => change_request(&mut self.requests[place], field, value),
-            74 => self.request_count = value as usize,
             _ => panic!("field {field}"),
         }
     }

@@ -15,9 +15,8 @@ pub struct CaseTables {
     pub(super) rows: [Row; QUEUE],
     pub(super) copies: Vec<ObjectCopy>,
     pub(super) requests: Vec<Request>,
-    /// How many records are lent.
-    pub(super) copy_count: usize,
-    pub(super) request_count: usize,
+    /// Whether another number of records is lent than the setup has.
+    pub(super) other: bool,
 }
 
 /// What every place of the list holds at first.
@@ -43,14 +42,15 @@ impl CaseTables {
             rows: [RENEW; QUEUE],
             copies: NO_COPIES.to_vec(),
             requests: NO_REQUESTS.to_vec(),
-            copy_count: 0,
-            request_count: 0,
+            other: false,
         }
     }
 
     /// The parts as a step call wants them.
     pub fn parts(&mut self) -> (&Setup, &mut Tables, &mut [ObjectCopy], &mut [Request]) {
-        let copies = &mut self.copies[..self.copy_count];
-        (&self.setup, &mut self.tables, copies, &mut self.requests[..self.request_count])
+        let clients = usize::from(self.setup.clients);
+        let copies = (clients * usize::from(self.setup.objects)).min(self.copies.len());
+        let requests = clients.min(self.requests.len()) - usize::from(self.other);
+        (&self.setup, &mut self.tables, &mut self.copies[..copies], &mut self.requests[..requests])
     }
 }
