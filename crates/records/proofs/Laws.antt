@@ -1,5 +1,5 @@
 -- What each way through a function's tests found, put together.
-use Prim.Native.Nat.{ℕ, zero, suc, _+_, _-_, _*_, _^_, _≤_, _<_}
+use Prim.Native.Nat.{ℕ, zero, suc, _+_, _-_, _≤_, _<_}
 use native.Mathlib.Omega.{arith}
 use mathlib.Core.Bool.{Bool, true, false, _&&_}
 use mathlib.Core.List.{List}
@@ -7,9 +7,9 @@ use mathlib.Core.Logic.{⊎-elim}
 use mathlib.Core.Path.{_≡_, refl, sym, ap, _∙_}
 use lib.ListN.{length, getD, set, length-set, List·getD-eq-default}
 use lib.Seq.{set-out}
-use lib.Dec.{ltb}
-use borrow.Author.Tests.{ltb-true, ltb-false, lt-ltb, le-ltb, eq-eqb, ne-eqb}
-use Rattle.laws.specs.Choice.{true-or-false}
+use lib.Dec.{T, ltb, eqb}
+use borrow.Author.Tests.{ltb-true, ltb-false, eqb-true, lt-ltb, le-ltb, eq-eqb, ne-eqb}
+use Rattle.laws.specs.Choice.{and-true as both-of, true-or-false}
 use Rattle.laws.specs.Loop.{foldFrom}
 use Rattle.protocol.specs.declared.records.Copy.{Copy}
 use Rattle.protocol.specs.declared.records.Request.{Request}
@@ -19,21 +19,13 @@ use Rattle.protocol.specs.declared.step.Sweep.the-variants.{Keep, Expire, Erase
 use Rattle.protocol.specs.Setup.{volumeOf}
 use Rattle.protocol.specs.Tables.{noCopy}
 use Rattle.protocol.specs.Client.{swept, sweepAt, sweptAll, sweeps}
-use Rattle.records.specs.Places.{stopOf}
+use Rattle.records.specs.Places.{stopOf, isNone}
 use Rattle.records.specs.declared.turn.Turn.the-variants.{Keep as KeepIt, Take, End}
 use Rattle.records.specs.Turns.{isOver, turnOf}
 
 -- an element past the end
 pub past-end : (l : List ℕ) (i n : ℕ) → length l ≡ n → n ≤ i → 0 ≡ getD l i 0
 past-end l i n e h = sym (List·getD-eq-default l 0 {n = i} (rw e h))
-
--- two counts of 32 bits, multiplied
-pub mul-fits : (a b : ℕ) → a < 4294967296 → b < 4294967296 → a * b < 2 ^ 64
-mul-fits a b h k = omega (arith, mul-most a b 4294967295 (omega arith))
-  where
-    mul-most : (c o m : ℕ) → o ≤ m → c * o ≤ c * m
-    mul-most zero o m h = omega arith
-    mul-most (suc c) o m h = omega (arith, mul-most c o m h)
 
 -- an answer so far, and one more test
 pub and-again : (ok p q : Bool) {r : Bool} → (ok && (p && q)) ≡ r → ((ok && p) && q) ≡ r
@@ -127,3 +119,20 @@ module _ (before after : Request) where
   pub turn-take : (after .next ≡ before .next → ⊥) → Take (after .object) ≡ turnOf before after
   unfolding turnOf
   turn-take n = rw (ne-eqb _ _ n)
+
+-- a copy of which nothing is left is none
+pub none-is : (c : Copy) → T (isNone c) → c ≡ noCopy
+none-is c h =
+    let a = both-of (eqb (c .version) 0) (eqb (c .value) 0 && eqb (c .expiry) 0) (is-true (isNone c) h) in
+    let b = both-of (eqb (c .value) 0) (eqb (c .expiry) 0) (a .1) in
+    same (c .version) (c .value) (c .expiry) (eqb-true _ _ (a .0)) (eqb-true _ _ (b .0)) (eqb-true _ _ (b .1))
+  where
+    at : ℕ → ℕ → ℕ → Copy
+    at v x e = record { version = v; value = x; expiry = e }
+
+    same : (v x e : ℕ) → v ≡ 0 → x ≡ 0 → e ≡ 0 → at v x e ≡ at 0 0 0
+    same v x e f g h = rw (f, g, h)
+
+    is-true : (b : Bool) → T b → b ≡ true
+    is-true true t = refl
+    is-true false t = absurd t

@@ -4,7 +4,9 @@ ghost use mathlib.Core.Bool.{_&&_};
 ghost use lib.Dec.{eqb};
 ghost use lib.ListN.{getD, set};
 ghost use Rattle.protocol.specs.Tables.{noCopy};
+ghost use Rattle.records.specs.Places.{isNone};
 ghost use Rattle.protocol.specs.Sound.{timeFits, copiesSound};
+use client::copy::none;
 use gate::records::copy_sound;
 use protocol::records::Copy;
 use protocol::setup::Setup;
@@ -29,6 +31,31 @@ pub fn store(copies: &mut [Copy], i: usize, c: Copy)
 {
     if i < copies.len() {
         copies[i] = c;
+    }
+}
+
+// "erase the copy (version, value and expiry 0)"
+pub fn erase(copies: &mut [Copy], i: usize)
+    ensures { λ _. ⌜ now (copies .exit) ≡ set (now (copies .entry)) i noCopy ⌝ }
+{
+    let c = none();
+    store(&mut *copies, i, c);
+}
+
+fn is_none(c: Copy) -> bool
+    ensures { λ r. ⌜ r ≡ isNone c ⌝ }
+{
+    (c.version == 0) & ((c.value == 0) & (c.expiry == 0))
+}
+
+// What a decision makes of one copy: it is erased, or stored.
+pub fn settle(copies: &mut [Copy], i: usize, c: Copy)
+    ensures { λ _. ⌜ now (copies .exit) ≡ set (now (copies .entry)) i c ⌝ }
+{
+    if is_none(c) {
+        erase(&mut *copies, i);
+    } else {
+        store(&mut *copies, i, c);
     }
 }
 

@@ -2,7 +2,7 @@ ghost use mathlib.Core.Path.{_≡_};
 ghost use Prim.Native.Nat.{_<_};
 ghost use mathlib.Core.Bool.{_&&_};
 ghost use lib.Dec.{eqb};
-ghost use lib.ListN.{getD, set};
+ghost use lib.ListN.{getD};
 ghost use Rattle.protocol.specs.Tables.{noRequest};
 ghost use Rattle.protocol.specs.Sound.{requestSound, requestsSound};
 ghost use Rattle.protocol.specs.Client.{numbered, ended};
@@ -24,15 +24,6 @@ pub fn look(requests: &[Request], i: usize) -> Request
         standing: false,
         number: 0,
         object: 0,
-    }
-}
-
-// One client's request stored; nothing where there is no such client.
-pub fn store(requests: &mut [Request], i: usize, r: Request)
-    ensures { λ _. ⌜ now (requests .exit) ≡ set (now (requests .entry)) i r ⌝ }
-{
-    if i < requests.len() {
-        requests[i] = r;
     }
 }
 

@@ -1,4 +1,4 @@
-use Rattle.records.proofs.Laws.{mul-fits}
+use Rattle.records.specs.Places.{mul-fits}
 use borrow.Author.Needs.{needs}
 use Rattle.records.proofs.copies.as_many.Statement.{statement}
 use Rattle.records.proofs.copies.as_many.Tie as tie

@@ -1,0 +1,4 @@
+pub mod Lent
+pub mod Moved
+pub mod Owned
+pub mod Refused
