@@ -1,0 +1,68 @@
+use Rattle.listing.proofs.Laws.{completed-number, delivered-number}
+use borrow.Author.Needs.{needs}
+use Rattle.listing.proofs.answer.number_of.Statement.{statement}
+use Rattle.listing.proofs.answer.number_of.Tie as tie
+use Rattle.listing.proofs.answer.number_of.Reads as reads
+use Rattle.listing.proofs.answer.number_of.Lts as lts
+use Rattle.listing.proofs.answer.done_or_completed.Reads as done-or-completed-reads
+
+enum-told : tie.Need-enum-told
+enum-told c = search needs
+
+enum-told-2 : tie.Need-enum-told-2
+enum-told-2 c = search needs
+
+enum-told-3 : tie.Need-enum-told-3
+enum-told-3 c = search needs
+
+enum-known-a : tie.Need-enum-known-a
+enum-known-a c = search needs
+
+done-or-completed-requires : tie.Need-done-or-completed-requires
+done-or-completed-requires c κs = search needs
+
+enum-known-a-2 : tie.Need-enum-known-a-2
+enum-known-a-2 c = search needs
+
+done-or-completed-requires-2 : tie.Need-done-or-completed-requires-2
+done-or-completed-requires-2 c κs = search needs
+
+enum-told-4 : tie.Need-enum-told-4
+enum-told-4 c = search needs
+
+returns : tie.Need-returns
+returns c = search needs
+
+returns-2 : tie.Need-returns-2
+returns-2 c = search needs
+
+returns-3 : tie.Need-returns-3
+returns-3 c = search needs
+
+returns-4 : tie.Need-returns-4
+returns-4 c = search (completed-number, needs)
+
+returns-5 : tie.Need-returns-5
+returns-5 c = search (delivered-number, needs)
+
+returns-6 : tie.Need-returns-6
+returns-6 c = search needs
+
+pub number-of-spec : {M : Type 1} → statement M
+number-of-spec =
+    tie.close
+    (tie.spec
+    enum-told
+    enum-told-2
+    enum-told-3
+    enum-known-a
+    done-or-completed-requires
+    enum-known-a-2
+    done-or-completed-requires-2
+    enum-told-4
+    returns
+    returns-2
+    returns-3
+    returns-4
+    returns-5
+    returns-6)

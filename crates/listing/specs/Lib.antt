@@ -1,0 +1,3 @@
+pub mod Decimal
+pub mod Written
+pub mod Listing

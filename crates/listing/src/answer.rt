@@ -1,0 +1,40 @@
+// 01's number and value of each answer.
+ghost use Prim.Native.Nat.{ℕ};
+ghost use mathlib.Core.Path.{_≡_};
+ghost use Rattle.protocol.specs.Answers.{doneOrCompleted, answerNumber, answerValue};
+use protocol::step::Answer;
+
+fn done_or_completed(n: u32) -> u64
+    ensures { λ r. ⌜ r ≡ doneOrCompleted n ⌝ }
+{
+    if n == 0 {
+        return 0;
+    }
+    3
+}
+
+pub fn number_of(a: Answer) -> u64
+    ensures { λ r. ⌜ r ≡ answerNumber a ⌝ }
+{
+    match a {
+        Answer::Done => 0,
+        Answer::Shown(_) => 1,
+        Answer::AskFirst => 2,
+        Answer::Completed(n) => done_or_completed(n),
+        Answer::Delivered(_, n) => done_or_completed(n),
+        Answer::Refused(_) => 4,
+    }
+}
+
+pub fn value_of(a: Answer) -> u64
+    ensures { λ r. ⌜ r ≡ answerValue a ⌝ }
+{
+    match a {
+        Answer::Done => 0,
+        Answer::Shown(x) => x,
+        Answer::AskFirst => 0,
+        Answer::Completed(n) => n as u64,
+        Answer::Delivered(_, n) => n as u64,
+        Answer::Refused(k) => k as u64,
+    }
+}

@@ -1,0 +1,48 @@
+// The listing of a run in bytes (01, "Frame, run file and listing"). Each function writes at a place of a lent output, and gives the place after.
+mod answer;
+mod number;
+
+ghost use Prim.Native.Nat.{ℕ, _+_, _≤_};
+ghost use lib.ListN.{length};
+ghost use Rattle.listing.specs.Written.{Written};
+ghost use Rattle.listing.specs.Listing.{header, line, lineOf};
+use protocol::step::Answer;
+
+// Any bytes.
+pub fn write_bytes(out: &mut [u8], at: usize, s: &[u8]) -> usize
+    requires { ⌜ at + length (now s) ≤ length (now out) ⌝ }
+    ensures { λ r. ⌜ Written (now (out .entry)) (now (out .exit)) at (now (s .entry)) r ⌝ }
+{
+    let n = s.len();
+    let mut i = 0;
+    while i < n {
+        out[at + i] = s[i];
+        i += 1;
+    }
+    at + n
+}
+
+pub fn write_header(out: &mut [u8], at: usize) -> usize
+    requires { ⌜ at + 18 ≤ length (now out) ⌝ }
+    ensures { λ r. ⌜ Written (now (out .entry)) (now (out .exit)) at header r ⌝ }
+{
+    write_bytes(out, at, b"step answer value\n")
+}
+
+// A line of three numbers.
+pub fn write_numbers(out: &mut [u8], at: usize, step: u64, number: u64, value: u64) -> usize
+    requires { ⌜ at + 63 ≤ length (now out) ⌝ }
+    ensures { λ r. ⌜ Written (now (out .entry)) (now (out .exit)) at (line step number value) r ⌝ }
+{
+    let a = number::write_field(out, at, step, 32);
+    let b = number::write_field(out, a, number, 32);
+    number::write_field(out, b, value, 10)
+}
+
+// The line of a step and its answer.
+pub fn write_line(out: &mut [u8], at: usize, step: u64, a: Answer) -> usize
+    requires { ⌜ at + 63 ≤ length (now out) ⌝ }
+    ensures { λ r. ⌜ Written (now (out .entry)) (now (out .exit)) at (lineOf step a) r ⌝ }
+{
+    write_numbers(out, at, step, answer::number_of(a), answer::value_of(a))
+}
