@@ -5,6 +5,7 @@
 
 pub mod answer;
 pub mod bits;
+pub mod cases;
 pub mod child;
 pub mod client;
 pub mod copies;

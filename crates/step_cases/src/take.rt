@@ -1,0 +1,87 @@
+// One step of a case, and the line that it prints.
+use crate::world::World;
+use protocol::step::Answer;
+use protocol::step::Step;
+
+pub struct Taken {
+    pub answer: Answer,
+    pub world: World,
+}
+
+// The step on as many records as the setup has.
+fn on_records(w: World, x: Step) -> Taken {
+    let setup = w.setup;
+    let other = w.other;
+    let t = w.tables;
+    let c = w.copies;
+    let r = w.requests;
+    let o = step::owned::step_on(setup, t, c, r, x);
+    let copies = o.copies;
+    let requests = o.requests;
+    let outcome = o.outcome;
+    let tables = outcome.tables;
+    let answer = outcome.answer;
+    let world = World {
+        setup,
+        tables,
+        copies,
+        requests,
+        other,
+    };
+    Taken { answer, world }
+}
+
+// The caller by value lends no other number of records. It is unsound, and that is how it reaches `decide`.
+fn on_others(w: World, x: Step) -> Taken {
+    let s = w.setup;
+    let t = w.tables;
+    let c = w.copies[0];
+    let r = w.requests[0];
+    let d = decide::decide(s, t, false, c, r, x);
+    let outcome = d.outcome;
+    let answer = outcome.answer;
+    Taken { answer, world: w }
+}
+
+pub fn stepped(w: World, x: Step) -> Taken {
+    if w.other {
+        return on_others(w, x);
+    }
+    on_records(w, x)
+}
+
+fn number(n: u64) {
+    io::print_decimal(1, n);
+    io::write_all(1, b" ");
+}
+
+fn last(n: u64) {
+    io::print_decimal(1, n);
+    io::write_all(1, b"\n");
+}
+
+fn line(answer: u64, value: u64) {
+    number(answer);
+    last(value);
+}
+
+fn completed(n: u32) {
+    if n == 0 {
+        line(0, 0);
+        return;
+    }
+    line(3, n as u64);
+}
+
+// The case, and 01's number and value of the answer.
+pub fn show(id: u64, a: Answer) {
+    number(id);
+    match a {
+        Answer::Done => line(0, 0),
+        Answer::Shown(x) => line(1, x),
+        Answer::AskFirst => line(2, 0),
+        Answer::Completed(n) => completed(n),
+        Answer::Delivered(_, n) => completed(n),
+        Answer::Refused(k) => line(4, k as u64),
+    }
+}

@@ -1,0 +1,12 @@
+//! Prints the model's answers to the cases on standard input.
+
+use std::io::{self, Read};
+
+use model::cases::lines;
+
+fn main() -> io::Result<()> {
+    let mut text = String::new();
+    io::stdin().read_to_string(&mut text)?;
+    print!("{}", lines(&text));
+    Ok(())
+}
