@@ -8,21 +8,24 @@ use mathlib.Core.Path.{_≡_, refl, sym, ap, _∙_}
 use lib.Dec.{ltb, eqb}
 use lib.ListN.{length, getD, set, take, drop, replicate}
 use lib.Seq.{sets, sets-eq, take-append-seam, length-take-le}
-use borrow.Author.Tests.{lt-ltb, le-ltb, le-leb, lt-leb, ne-eqb, ltb-true}
+use borrow.Author.Tests.{lt-ltb, le-ltb, le-leb, lt-leb, eq-eqb, ne-eqb, ltb-true}
 use Rattle.laws.specs.Choice.{cond-keeps, and-true, true-or-false}
 use mathlib.Core.Logic.{⊎-elim}
 use Rattle.laws.specs.Loop.{foldFrom, fold-again}
 use Rattle.protocol.specs.declared.records.Copy.{Copy}
 use Rattle.protocol.specs.declared.records.Request.{Request}
 use Rattle.protocol.specs.declared.setup.Setup.{Setup}
-use Rattle.protocol.specs.declared.step.Answer.the-variants.{Refused}
+use Rattle.protocol.specs.declared.step.Answer.{Answer}
+use Rattle.protocol.specs.declared.step.Answer.the-variants.{Shown, AskFirst, Refused}
+use Rattle.client.specs.Shown.{shownAt}
 use Rattle.protocol.specs.declared.step.Decision.{Decision}
 use Rattle.protocol.specs.declared.step.Step.{Step}
 use Rattle.protocol.specs.declared.step.Sweep.{Sweep}
 use Rattle.protocol.specs.declared.step.Target.{Target}
 use Rattle.protocol.specs.declared.tables.Tables.{Tables}
-use Rattle.protocol.specs.Setup.{inRange}
-use Rattle.protocol.specs.Tables.{noCopy, noRequest, freshRequest, freshTables}
+use Rattle.protocol.specs.Setup.{volumeOf, inRange}
+use Rattle.protocol.specs.Leases.{clientClock}
+use Rattle.protocol.specs.Tables.{byVolume, noCopy, noRequest, freshRequest, freshTables}
 use Rattle.protocol.specs.Sound.{tablesSound, sound}
 use Rattle.protocol.specs.World.{target}
 use Rattle.protocol.specs.Soundness.Question.{sounds}
@@ -34,13 +37,14 @@ use Rattle.runfile.specs.Steps.{stepsOf, Parts, whole, formed-parts}
 use Rattle.runfile.specs.Reading.{formed, contents-read, setup-read}
 use Rattle.listing.specs.Listing.{header, length-header, line, lineOf}
 use Rattle.listing.specs.Written.{Written, written-then}
-use Rattle.protocol.specs.Client.{swept, sweeps, sweepAt}
-use Rattle.protocol.specs.Gate.{refusalOfStep}
-use Rattle.protocol.specs.Decide.{performed, refusedWith}
-use Rattle.protocol.specs.Soundness.Steps.{ranges, recordsOf}
+use Rattle.protocol.specs.Client.{showable, swept, sweeps, sweepAt}
+use Rattle.protocol.specs.Gate.{isRead, refusalOfStep}
+use Rattle.protocol.specs.Decide.{kept, answered, readDecided, performed}
+use Rattle.decide.specs.Accepted.{Accepted, accepted, client-in, object-in}
+use Rattle.protocol.specs.Soundness.Steps.{ranges, recordsOf, read-performed}
 use Rattle.run.specs.Owned.{copyCount, worldOf, Owned, placeIn, reach, decidedOn, sweep-fits}
 use Rattle.run.specs.declared.steps.Left.{Left}
-use Rattle.run.specs.Ran.{RanSteps, Roomy, Running, run-again}
+use Rattle.run.specs.Ran.{RanSteps, Roomy, Running, run-on, run-again}
 use Rattle.run.specs.declared.Listed.{Listed}
 use Rattle.run.specs.declared.Listed.the-variants as listing-answer
 use Rattle.run.specs.Listed.{setupOf, answersOf, printed, listed, output, printed-short}
@@ -74,12 +78,13 @@ module _ (s : Setup) (g : Sweep) (first : ℕ) where
 pub eight-volumes : (s : Setup) → inRange s ≡ true → s .volumes ≤ 8
 eight-volumes s i = ranges s i .volumes .1
 
-module _ (s : Setup) (t : Tables) (c : Copy) (r : Request) (x : Step) (k : ℕ) (e : k ≡ refusalOfStep s t r x) where
-  pub decided-yes : (d : Decision) → k ≡ 0 → d ≡ performed s t c r x → d ≡ decidedOn s t c r x
-  decided-yes d h f = rw (← e, h) f
+-- ---- what a read answers
+pub shown-yes : (b : Bool) (v : ℕ) → b ≡ true → Shown v ≡ cond b (Shown v) AskFirst
+shown-yes b v e = rw e
 
-  pub decided-no : (k ≡ 0 → ⊥) → refusedWith t c r k ≡ decidedOn s t c r x
-  decided-no h = rw (← e, ne-eqb k 0 h)
+pub read-by : (a : Answer) (b : Bool) (clock lease : ℕ) (c : Copy) → b ≡ shownAt clock lease c → a ≡ cond b (Shown (c .value)) AskFirst
+    → a ≡ cond (shownAt clock lease c) (Shown (c .value)) AskFirst
+read-by a b clock lease c e f = rw (← e) f
 
 -- ---- one turn of the loop over the steps
 pub tables-fresh : (s : Setup) (f : FreshTables) → f ≡ freshFor s → f .tables ≡ freshTables
@@ -132,6 +137,52 @@ module _ (s : Setup) (file : List ℕ) (first count : ℕ) (out₀ : List ℕ) (
   turn out t cs rs at k h g x ex a ea p ep q eq d ed n en ds es none e0 out′ at′ w =
       rw (e0, es, en, ep, eq, ea)
       (run-again s file first count out₀ start i fits few out t cs rs at k h g x ex d (rw (ep, eq, ea) at ed) out′ at′ w)
+
+  pub turn-kept : (out : List ℕ) (t : Tables) (cs : List Copy) (rs : List Request) (at k : ℕ) → k < count → Running s file first count out₀ start out t cs rs at k
+      → (x : Step) → x ≡ stepAt file first k → (a : Target) → a ≡ target s t x
+      → (p : ℕ) → p ≡ placeIn (a .copy) (copyCount s) 512 → (q : ℕ) → q ≡ placeIn (a .client) (s .clients) 16
+      → (b : Answer) → decidedOn s t (getD cs p noCopy) (getD rs q noRequest) x ≡ answered (kept (getD cs p noCopy) (getD rs q noRequest)) t b
+      → (out′ : List ℕ) (at′ : ℕ) → Written out out′ at (lineOf (k + 1) b) at′
+      → Running s file first count out₀ start out′ t cs rs at′ (k + 1)
+  turn-kept out t cs rs at k h g x ex a ea p ep q eq b ed out′ at′ w =
+      run-on s file first count out₀ start i fits few out t cs rs at k h g x ex b (rw (ep, eq, ea) at ed) out′ at′ w
+
+-- ---- by which way a step was decided
+module _ (s : Setup) (t : Tables) (r : Request) (x : Step) (no : ℕ) (e : no ≡ refusalOfStep s t r x) (h : no ≡ 0) where
+  pub none-refused : refusalOfStep s t r x ≡ 0
+  none-refused = sym e ∙ h
+
+  pub read-fits : inRange s ≡ true → x .kind ≡ 2 → (x .client < 16) × (x .object < 32) × (volumeOf s (x .object) < 8)
+  read-fits i f = go (accepted s t r x none-refused)
+    where
+      reads : isRead x ≡ true
+      reads = eq-eqb _ _ f
+
+      go : Accepted s t r x → (x .client < 16) × (x .object < 32) × (volumeOf s (x .object) < 8)
+      go a =
+          let d : x .client < s .clients = client-in a (rw reads) in
+          let o : x .object < s .objects = object-in a (rw reads) in (
+            omega (arith, ranges s i .clients .1),
+            omega (arith, ranges s i .objects .1),
+            omega (arith, ranges s i .volumes .1, ranges s i .within (x .object) o),
+          )
+
+module _ (s : Setup) (t : Tables) (c : Copy) (r : Request) (x : Step) (no : ℕ) (e : no ≡ refusalOfStep s t r x) where
+  pub refused-keeps : (no ≡ 0 → ⊥) → decidedOn s t c r x ≡ answered (kept c r) t (Refused no)
+  refused-keeps h = rw (← e, ne-eqb no 0 h)
+
+  module _ (h : no ≡ 0) where
+    pub performs : (d : Decision) → d ≡ performed s t c r x → d ≡ decidedOn s t c r x
+    performs d f = rw (← e, h) f
+
+    pub read-keeps : (b : Answer) → x .kind ≡ 2
+        → b ≡ cond (shownAt (t .clock) (getD (t .views .expiry) (byVolume (x .client) (volumeOf s (x .object))) 0) c) (Shown (c .value)) AskFirst
+        → decidedOn s t c r x ≡ answered (kept c r) t b
+    unfolding readDecided showable shownAt clientClock
+    read-keeps b f g =
+        rw (← e, h, g) (read-performed s t c r x f
+        ∙ cond-keeps (λ (d : Decision). d ≡ answered (kept c r) t (cond (showable s t c (x .client) (x .object)) (Shown (c .value)) AskFirst)) (showable s t c (x .client) (x .object))
+        (λ k. rw k) (λ k. rw k))
 
 -- ---- a file printed
 module _ (l : List ℕ) (r : Contents) (e : r ≡ contentsOf l) (out₀ out : List ℕ) (at : ℕ) (w : Written out₀ out 0 header at) where

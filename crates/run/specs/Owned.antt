@@ -7,7 +7,7 @@ use mathlib.Core.List.{List, [], _∷_}
 use mathlib.Core.Path.{_≡_, refl, sym, ap, _∙_}
 use lib.Dec.{ltb}
 use lib.ListN.{length, getD, set, take, replicate, length-set, List·getD-eq-default}
-use lib.Seq.{take-set-le, take-set-lt, set-out, getD-take, length-take-le}
+use lib.Seq.{set-getD, take-set-le, take-set-lt, set-out, getD-take, length-take-le}
 use borrow.Author.Tests.{ltb-true, ltb-false}
 use Rattle.laws.specs.Choice.{cond-keeps}
 use Rattle.laws.specs.Loop.{foldFrom, fold-keeps}
@@ -25,7 +25,7 @@ use Rattle.protocol.specs.Setup.{inRange}
 use Rattle.protocol.specs.Tables.{noCopy, noRequest}
 use Rattle.protocol.specs.Client.{sweeps, sweepAt, sweptAll}
 use Rattle.protocol.specs.Gate.{isDeliver, refusalOfStep, refusal}
-use Rattle.protocol.specs.Decide.{decidedBy, decided}
+use Rattle.protocol.specs.Decide.{kept, answered, decidedBy, decided}
 use Rattle.protocol.specs.World.{World, targetAt, target, decision, copiesAfter, requestsAfter, stepped, answerOf}
 use Rattle.protocol.specs.Soundness.Steps.{Ranges, ranges}
 use Rattle.protocol.specs.Soundness.Question.{SoundWorld, sounds, stepped-sound}
@@ -212,6 +212,13 @@ module _ (s : Setup) (t : Tables) (cs : List Copy) (rs : List Request) (i : inRa
   requests-left : (d : Decision) → take (s .clients) (requestsLeft s rs (target s t x) d) ≡ requestsAfter (before .requests) (target s t x) d
   requests-left d =
       take-set-le (s .clients) _ 16 noRequest few-clients ∙ item-set (s .clients) 16 rs few-clients (omega (arith, o .requests)) _ _
+
+  -- a decision that keeps the records and the tables leaves all as it was
+  pub kept-after : (a : Answer) → decidedOn s t copySeen requestSeen x ≡ answered (kept copySeen requestSeen) t a → (stepped s before x ≡ before) × (answerOf s before x ≡ a)
+  unfolding stepped sweptAll foldFrom
+  kept-after a e =
+      let d : decision s before x ≡ answered (kept copySeen requestSeen) t a = sym decides ∙ e in
+      (rw (d, seen-copy, seen-request, set-getD (before .copies), set-getD (before .requests)), ap (λ (f : Decision). f .outcome .answer) d)
 
   -- what the code has after a step stands for what the definition says
   module _ (d : Decision) (e : d ≡ decidedOn s t copySeen requestSeen x) where

@@ -20,6 +20,7 @@ use Rattle.protocol.specs.declared.tables.Tables.{Tables}
 use Rattle.protocol.specs.Setup.{inRange}
 use Rattle.protocol.specs.Tables.{noCopy, noRequest, freshRequest, freshTables}
 use Rattle.protocol.specs.Answers.{answerValue}
+use Rattle.protocol.specs.Decide.{kept, answered}
 use Rattle.protocol.specs.World.{World, freshWorld, target, stepped, answerOf, ran, answers}
 use Rattle.protocol.specs.Soundness.Steps.{ranges}
 use Rattle.protocol.specs.Soundness.Question.{fresh-sound}
@@ -29,7 +30,7 @@ use Rattle.layout.specs.Number.{Stored}
 use Rattle.listing.specs.Listing.{line, lineOf, linesFrom, line-short, answer-small}
 use Rattle.listing.specs.Written.{Written, sets-then}
 use Rattle.run.specs.declared.steps.Left.{Left}
-use Rattle.run.specs.Owned.{copyCount, worldOf, Owned, placeIn, decidedOn, copiesLeft, requestsLeft, copySeen, requestSeen, world-after, answer-after, owned-after}
+use Rattle.run.specs.Owned.{copyCount, worldOf, Owned, placeIn, decidedOn, copiesLeft, requestsLeft, copySeen, requestSeen, kept-after, world-after, answer-after, owned-after}
 
 -- the lines of a run's answers stand in the output, and the tables and records are what the run leaves
 pub record RanSteps (s : Setup) (file : List ℕ) (first count : ℕ) (before after : List ℕ) (at : ℕ) (r : Left) : Type 0 where
@@ -156,6 +157,20 @@ module _ (s : Setup) (file : List ℕ) (first count : ℕ) where
 
         left-is : stepsLeft file first count k ≡ x ∷ stepsLeft file first count (k + 1)
         left-is = rw step-is (steps-more k h)
+
+        -- a step that changes nothing but the output
+        pub run-on : (a : Answer)
+            → decidedOn s t (copySeen s t cs rs i (g .owned) x) (requestSeen s t cs rs i (g .owned) x) x ≡ answered (kept (copySeen s t cs rs i (g .owned) x) (requestSeen s t cs rs i (g .owned) x)) t a
+            → (out′ : List ℕ) (at′ : ℕ) → Written out out′ at (lineOf (k + 1) a) at′ → Running out′ t cs rs at′ (k + 1)
+        unfolding linesFrom answers ran
+        run-on a f out′ at′ w =
+            let v = kept-after s t cs rs i (g .owned) x a f in
+            record {
+              owned = g .owned;
+              room = omega (arith, g .room, w .next, line-short (k + 1) _ (answerValue a) (omega arith) (answer-small a));
+              lines = written-rest out out′ _ at at′ _ (lineOf (k + 1) a) _ (rw (v .0, v .1) at (rw left-is at (g .lines))) w;
+              leaves = ap (λ (u : World). ran s u (stepsLeft file first count (k + 1))) (sym (v .0)) ∙ (rw left-is at (g .leaves));
+            }
 
         module _ (d : Decision) (f : d ≡ decidedOn s t (copySeen s t cs rs i (g .owned) x) (requestSeen s t cs rs i (g .owned) x) x) where
           abbrev next-copies : List Copy

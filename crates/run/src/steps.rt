@@ -3,11 +3,12 @@ ghost use mathlib.Core.Bool.{true};
 ghost use mathlib.Core.Path.{_≡_};
 ghost use Rattle.protocol.specs.Setup.{inRange};
 ghost use Rattle.run.specs.Ran.{Roomy, RanSteps};
-use crate::advance;
 use crate::places;
+use crate::reading;
 use protocol::records::Copy;
 use protocol::records::Request;
 use protocol::setup::Setup;
+use protocol::step::Answer;
 use protocol::tables::Tables;
 
 // What the steps leave: the place after their lines, the tables and the records.
@@ -54,7 +55,19 @@ pub fn run_steps(
         let j = places::place_in(a.client, clients, 16);
         let c = copies[i];
         let r = requests[j];
-        let d = advance::advance(s, tables, c, r, x);
+        let no = gate::steps::refusal_of_step(s, tables, r, x);
+        if no != 0 {
+            next = listing::write_line(out, next, (k + 1) as u64, Answer::Refused(no));
+            k += 1;
+            continue;
+        }
+        if x.kind == 2 {
+            let shown = reading::read(s, tables.clock, &tables.views.expiry, c, x.client, x.object);
+            next = listing::write_line(out, next, (k + 1) as u64, shown);
+            k += 1;
+            continue;
+        }
+        let d = decide::perform::perform(s, tables, c, r, x);
         let g = d.change;
         let copy = g.copy;
         copies[i] = copy;
@@ -67,8 +80,8 @@ pub fn run_steps(
         }
         copies[512] = none;
         requests[16] = blank;
+        tables = d.outcome.tables;
         let o = d.outcome;
-        tables = o.tables;
         let answer = o.answer;
         next = listing::write_line(out, next, (k + 1) as u64, answer);
         k += 1;

@@ -1,24 +1,24 @@
 use borrow.Author.Needs.{needs}
-use Prim.Native.Nat.{_+_, _-_, _*_, _≤_}
-use native.Mathlib.Nat.{mul-le-mul}
+use Prim.Native.Nat.{_+_, _-_, _≤_}
 use native.Mathlib.Omega.{arith}
 use mathlib.Core.Logic.{⊎-elim}
 use mathlib.Core.Path.{_≡_, refl, _∙_}
-use lib.ListN.{length, length-set}
-use Rattle.protocol.specs.Soundness.Steps.{ranges}
+use lib.ListN.{length}
 use Rattle.run.specs.Ran.{Running, run-starts, run-ends, line-fits}
-use Rattle.run.proofs.Laws.{tables-fresh, copies-fresh, requests-fresh, tables-sound, copy-place, request-place, sweep-inside, not-swept, turn, all-fit}
+use Rattle.run.proofs.Laws.{eight-volumes, tables-fresh, copies-fresh, requests-fresh, tables-sound, all-fit, copy-place, request-place, sweep-inside, not-swept, turn, turn-kept, refused-keeps, none-refused, performs, read-keeps, read-fits}
 use Rattle.run.proofs.steps.run_steps.Statement.{statement}
 use Rattle.run.proofs.steps.run_steps.Tie as tie
 use Rattle.run.proofs.steps.run_steps.Reads as reads
 use Rattle.run.proofs.steps.run_steps.Lts as lts
 use Rattle.client.proofs.copy.none.Reads as none-reads
+use Rattle.decide.proofs.perform.perform.Reads as perform-reads
 use Rattle.decide.proofs.records.target.Reads as target-reads
+use Rattle.gate.proofs.steps.refusal_of_step.Reads as refusal-of-step-reads
 use Rattle.listing.proofs.write_line.Reads as write-line-reads
-use Rattle.run.proofs.advance.advance.Reads as advance-reads
 use Rattle.run.proofs.places.place_in.Reads as place-in-reads
 use Rattle.run.proofs.places.reach.Reads as reach-reads
 use Rattle.run.proofs.places.sweep.Reads as sweep-reads
+use Rattle.run.proofs.reading.read.Reads as read-reads
 use Rattle.runfile.proofs.step_at.Reads as step-at-reads
 use Rattle.setup.proofs.fresh.fresh.Reads as fresh-reads
 use Rattle.setup.proofs.fresh.fresh_request.Reads as fresh-request-reads
@@ -79,26 +79,76 @@ mul-r c = omega (arith, request-place _ _ _ (c .before .before .before .before .
 array-copy-out-r : tie.Need-array-copy-out-r Inv-loop μ-loop
 array-copy-out-r c = omega (arith, request-place _ _ _ (c .before .before .before .before .before .before .before .before .before .before .before .before .before .before .before .pre .0) (c .before .place-in2 .ensures), c .before .before .before .before .before .before .loop .inv .1 .1 .owned .requests)
 
-advance-requires : tie.Need-advance-requires Inv-loop μ-loop
-advance-requires c κs = (c .before .before .before .before .before .before .before .before .before .before .before .before .before .before .before .before .pre .0, tables-sound _ _ _ _ (c .before .before .before .before .before .before .before .before .before .before .before .before .before .before .before .before .pre .0) (c .before .before .before .before .before .before .before .loop .inv .1 .1 .owned))
+refusal-of-step-requires : tie.Need-refusal-of-step-requires Inv-loop μ-loop
+refusal-of-step-requires c κs = eight-volumes _ (c .before .before .before .before .before .before .before .before .before .before .before .before .before .before .before .before .pre .0)
+
+add-write-line : tie.Need-add-write-line Inv-loop μ-loop
+add-write-line c = omega (arith, c .before .before .before .before .before .before .before .before .before .loop-test .taken, (c .before .before .before .before .before .before .before .before .before .before .before .before .before .before .before .before .before .before .before .pre .1 .few))
+
+write-line-requires : tie.Need-write-line-requires Inv-loop μ-loop
+write-line-requires c κs = line-fits _ _ _ _ _ _ (c .before .before .before .before .before .before .before .before .before .before .before .before .before .before .before .before .before .before .before .pre .0) (c .before .before .before .before .before .before .before .before .before .before .before .before .before .before .before .before .before .before .before .pre .1 .records) (c .before .before .before .before .before .before .before .before .before .before .before .before .before .before .before .before .before .before .before .pre .1 .few) _ _ _ _ _ _ (c .before .before .before .before .before .before .before .before .before .loop-test .taken) (c .before .before .before .before .before .before .before .before .before .before .loop .inv .1 .1) (c .before .before .before .before .before .before .before .before .before .before .before .before .before .before .before .before .before .before .before .pre .1 .lines) (c .before .before .before .before .before .before .before .before .before .before .loop .inv .1 .0)
+
+add-k : tie.Need-add-k Inv-loop μ-loop
+add-k c = omega (arith, c .before .before .before .before .before .before .before .before .before .before .before .before .loop-test .taken, (c .before .before .before .before .before .before .before .before .before .before .before .before .before .before .before .before .before .before .before .before .before .before .pre .1 .few))
+
+loop-less : tie.Need-loop-less Inv-loop μ-loop
+loop-less c = omega (arith, c .before .before .before .before .before .before .before .before .before .before .before .before .loop-test .taken)
+
+loop-again : tie.Need-loop-again Inv-loop μ-loop
+loop-again c = (
+  omega (arith, c .before .before .before .before .before .before .before .before .before .before .before .before .loop-test .taken),
+  (
+    c .before .before .write-line .ensures .bytes .long ∙ c .before .before .before .before .before .before .before .before .before .before .before .before .before .loop .inv .1 .0,
+    turn-kept _ _ _ _ _ _ (c .before .before .before .before .before .before .before .before .before .before .before .before .before .before .before .before .before .before .before .before .before .before .pre .0) (c .before .before .before .before .before .before .before .before .before .before .before .before .before .before .before .before .before .before .before .before .before .before .pre .1 .records) (c .before .before .before .before .before .before .before .before .before .before .before .before .before .before .before .before .before .before .before .before .before .before .pre .1 .few) _ _ _ _ _ _ (c .before .before .before .before .before .before .before .before .before .before .before .before .loop-test .taken) (c .before .before .before .before .before .before .before .before .before .before .before .before .before .loop .inv .1 .1) _ (c .before .before .before .before .before .before .before .before .before .before .before .step-at .ensures) _ (c .before .before .before .before .before .before .before .before .before .before .target .ensures) _ (c .before .before .before .before .before .before .before .before .before .place-in .ensures) _ (c .before .before .before .before .before .before .before .before .place-in2 .ensures)
+        _ (refused-keeps _ _ _ _ _ _ (c .before .before .before .before .before .refusal-of-step .ensures) (c .before .before .before .before .if1 .taken)) _ _ (c .before .before .write-line .ensures),
+  ),
+)
+
+read-requires : tie.Need-read-requires Inv-loop μ-loop
+read-requires c κs = read-fits _ _ _ _ _ (c .before .before .before .before .before .refusal-of-step .ensures) (c .before .before .before .before .if1 .left) (c .before .before .before .before .before .before .before .before .before .before .before .before .before .before .before .before .before .before .before .before .before .before .pre .0) (c .before .before .if2 .taken)
+
+add-write-line-2 : tie.Need-add-write-line-2 Inv-loop μ-loop
+add-write-line-2 c = omega (arith, c .before .before .before .before .before .before .before .before .before .before .before .before .before .before .loop-test .taken, (c .before .before .before .before .before .before .before .before .before .before .before .before .before .before .before .before .before .before .before .before .before .before .before .before .pre .1 .few))
+
+write-line-requires-2 : tie.Need-write-line-requires-2 Inv-loop μ-loop
+write-line-requires-2 c κs = line-fits _ _ _ _ _ _ (c .before .before .before .before .before .before .before .before .before .before .before .before .before .before .before .before .before .before .before .before .before .before .before .before .pre .0) (c .before .before .before .before .before .before .before .before .before .before .before .before .before .before .before .before .before .before .before .before .before .before .before .before .pre .1 .records) (c .before .before .before .before .before .before .before .before .before .before .before .before .before .before .before .before .before .before .before .before .before .before .before .before .pre .1 .few) _ _ _ _ _ _ (c .before .before .before .before .before .before .before .before .before .before .before .before .before .before .loop-test .taken) (c .before .before .before .before .before .before .before .before .before .before .before .before .before .before .before .loop .inv .1 .1) (c .before .before .before .before .before .before .before .before .before .before .before .before .before .before .before .before .before .before .before .before .before .before .before .before .pre .1 .lines) (c .before .before .before .before .before .before .before .before .before .before .before .before .before .before .before .loop .inv .1 .0)
+
+add-k-2 : tie.Need-add-k-2 Inv-loop μ-loop
+add-k-2 c = omega (arith, c .before .before .before .before .before .before .before .before .before .before .before .before .before .before .before .before .before .loop-test .taken, (c .before .before .before .before .before .before .before .before .before .before .before .before .before .before .before .before .before .before .before .before .before .before .before .before .before .before .before .pre .1 .few))
+
+loop-less-2 : tie.Need-loop-less-2 Inv-loop μ-loop
+loop-less-2 c = omega (arith, c .before .before .before .before .before .before .before .before .before .before .before .before .before .before .before .before .before .loop-test .taken)
+
+loop-again-2 : tie.Need-loop-again-2 Inv-loop μ-loop
+loop-again-2 c = (
+  omega (arith, c .before .before .before .before .before .before .before .before .before .before .before .before .before .before .before .before .before .loop-test .taken),
+  (
+    c .before .before .write-line2 .ensures .bytes .long ∙ c .before .before .before .before .before .before .before .before .before .before .before .before .before .before .before .before .before .before .loop .inv .1 .0,
+    turn-kept _ _ _ _ _ _ (c .before .before .before .before .before .before .before .before .before .before .before .before .before .before .before .before .before .before .before .before .before .before .before .before .before .before .before .pre .0) (c .before .before .before .before .before .before .before .before .before .before .before .before .before .before .before .before .before .before .before .before .before .before .before .before .before .before .before .pre .1 .records) (c .before .before .before .before .before .before .before .before .before .before .before .before .before .before .before .before .before .before .before .before .before .before .before .before .before .before .before .pre .1 .few) _ _ _ _ _ _ (c .before .before .before .before .before .before .before .before .before .before .before .before .before .before .before .before .before .loop-test .taken) (c .before .before .before .before .before .before .before .before .before .before .before .before .before .before .before .before .before .before .loop .inv .1 .1) _ (c .before .before .before .before .before .before .before .before .before .before .before .before .before .before .before .before .step-at .ensures) _ (c .before .before .before .before .before .before .before .before .before .before .before .before .before .before .before .target .ensures) _ (c .before .before .before .before .before .before .before .before .before .before .before .before .before .before .place-in .ensures) _ (c .before .before .before .before .before .before .before .before .before .before .before .before .before .place-in2 .ensures)
+        _ (read-keeps _ _ _ _ _ _ (c .before .before .before .before .before .before .before .before .before .before .refusal-of-step .ensures) (c .before .before .before .before .before .before .before .before .before .if1 .left) _ (c .before .before .before .before .before .before .before .if2 .taken) (c .before .before .before .before .read .ensures)) _ _ (c .before .before .write-line2 .ensures),
+  ),
+)
+
+perform-requires : tie.Need-perform-requires Inv-loop μ-loop
+perform-requires c κs = (c .before .before .before .before .before .before .before .before .before .before .before .before .before .before .before .before .before .before .before .before .pre .0, (tables-sound _ _ _ _ (c .before .before .before .before .before .before .before .before .before .before .before .before .before .before .before .before .before .before .before .before .pre .0) (c .before .before .before .before .before .before .before .before .before .before .before .loop .inv .1 .1 .owned), none-refused _ _ _ _ _ (c .before .before .before .refusal-of-step .ensures) (c .before .before .if1 .left)))
 
 mul-copies : tie.Need-mul-copies Inv-loop μ-loop
-mul-copies c = omega (arith, copy-place _ _ _ (c .before .before .before .before .before .before .before .before .before .before .before .before .before .before .before .before .before .before .before .pre .0) (c .before .before .before .before .before .before .place-in .ensures))
+mul-copies c = omega (arith, copy-place _ _ _ (c .before .before .before .before .before .before .before .before .before .before .before .before .before .before .before .before .before .before .before .before .before .before .before .pre .0) (c .before .before .before .before .before .before .before .before .before .before .place-in .ensures))
 
 array-set-from-copies : tie.Need-array-set-from-copies Inv-loop μ-loop
-array-set-from-copies c = omega (arith, copy-place _ _ _ (c .before .before .before .before .before .before .before .before .before .before .before .before .before .before .before .before .before .before .before .pre .0) (c .before .before .before .before .before .before .place-in .ensures), c .before .before .before .before .before .before .before .before .before .before .loop .inv .1 .1 .owned .copies)
+array-set-from-copies c = omega (arith, copy-place _ _ _ (c .before .before .before .before .before .before .before .before .before .before .before .before .before .before .before .before .before .before .before .before .before .before .before .pre .0) (c .before .before .before .before .before .before .before .before .before .before .place-in .ensures), c .before .before .before .before .before .before .before .before .before .before .before .before .before .before .loop .inv .1 .1 .owned .copies)
 
 mul-requests : tie.Need-mul-requests Inv-loop μ-loop
-mul-requests c = omega (arith, request-place _ _ _ (c .before .before .before .before .before .before .before .before .before .before .before .before .before .before .before .before .before .before .before .before .pre .0) (c .before .before .before .before .before .before .place-in2 .ensures))
+mul-requests c = omega (arith, request-place _ _ _ (c .before .before .before .before .before .before .before .before .before .before .before .before .before .before .before .before .before .before .before .before .before .before .before .before .pre .0) (c .before .before .before .before .before .before .before .before .before .before .place-in2 .ensures))
 
 array-set-from-requests-2 : tie.Need-array-set-from-requests-2 Inv-loop μ-loop
-array-set-from-requests-2 c = omega (arith, request-place _ _ _ (c .before .before .before .before .before .before .before .before .before .before .before .before .before .before .before .before .before .before .before .before .pre .0) (c .before .before .before .before .before .before .place-in2 .ensures), c .before .before .before .before .before .before .before .before .before .before .before .loop .inv .1 .1 .owned .requests)
+array-set-from-requests-2 c = omega (arith, request-place _ _ _ (c .before .before .before .before .before .before .before .before .before .before .before .before .before .before .before .before .before .before .before .before .before .before .before .before .pre .0) (c .before .before .before .before .before .before .before .before .before .before .place-in2 .ensures), c .before .before .before .before .before .before .before .before .before .before .before .before .before .before .before .loop .inv .1 .1 .owned .requests)
 
 reach-requires : tie.Need-reach-requires Inv-loop μ-loop
 reach-requires c κs = search needs
 
 sweep-requires : tie.Need-sweep-requires Inv-loop μ-loop
-sweep-requires c κs = sweep-inside _ _ _ _ (c .before .before .before .before .before .advance .result .change .sweep) _ (c .before .before .before .before .before .before .before .before .before .before .before .before .before .before .before .before .before .before .before .before .before .before .pre .0) (c .before .before .before .before .before .before .before .before .before .before .target .ensures) (c .before .reach .ensures) (c .if1 .taken)
+sweep-requires c κs = sweep-inside _ _ _ _ (c .before .before .before .before .before .perform .result .change .sweep) _ (c .before .before .before .before .before .before .before .before .before .before .before .before .before .before .before .before .before .before .before .before .before .before .before .before .before .before .pre .0) (c .before .before .before .before .before .before .before .before .before .before .before .before .before .before .target .ensures) (c .before .reach .ensures) (c .if3 .taken)
 
 array-set-from-copies-2 : tie.Need-array-set-from-copies-2 Inv-loop μ-loop
 array-set-from-copies-2 c = search needs
@@ -106,25 +156,25 @@ array-set-from-copies-2 c = search needs
 array-set-from-requests-3 : tie.Need-array-set-from-requests-3 Inv-loop μ-loop
 array-set-from-requests-3 c = search needs
 
-add-write-line : tie.Need-add-write-line Inv-loop μ-loop
-add-write-line c = omega (arith, c .before .before .before .before .before .before .before .before .before .before .before .before .before .before .before .loop-test .taken, (c .before .before .before .before .before .before .before .before .before .before .before .before .before .before .before .before .before .before .before .before .before .before .before .before .before .pre .1 .few))
+add-write-line-3 : tie.Need-add-write-line-3 Inv-loop μ-loop
+add-write-line-3 c = omega (arith, c .before .before .before .before .before .before .before .before .before .before .before .before .before .before .before .before .before .before .before .loop-test .taken, (c .before .before .before .before .before .before .before .before .before .before .before .before .before .before .before .before .before .before .before .before .before .before .before .before .before .before .before .before .before .pre .1 .few))
 
-write-line-requires : tie.Need-write-line-requires Inv-loop μ-loop
-write-line-requires c κs = line-fits _ _ _ _ _ _ (c .before .before .before .before .before .before .before .before .before .before .before .before .before .before .before .before .before .before .before .before .before .before .before .before .before .pre .0) (c .before .before .before .before .before .before .before .before .before .before .before .before .before .before .before .before .before .before .before .before .before .before .before .before .before .pre .1 .records) (c .before .before .before .before .before .before .before .before .before .before .before .before .before .before .before .before .before .before .before .before .before .before .before .before .before .pre .1 .few) _ _ _ _ _ _ (c .before .before .before .before .before .before .before .before .before .before .before .before .before .before .before .loop-test .taken) (c .before .before .before .before .before .before .before .before .before .before .before .before .before .before .before .before .loop .inv .1 .1) (c .before .before .before .before .before .before .before .before .before .before .before .before .before .before .before .before .before .before .before .before .before .before .before .before .before .pre .1 .lines) (c .before .before .before .before .before .before .before .before .before .before .before .before .before .before .before .before .loop .inv .1 .0)
+write-line-requires-3 : tie.Need-write-line-requires-3 Inv-loop μ-loop
+write-line-requires-3 c κs = line-fits _ _ _ _ _ _ (c .before .before .before .before .before .before .before .before .before .before .before .before .before .before .before .before .before .before .before .before .before .before .before .before .before .before .before .before .before .pre .0) (c .before .before .before .before .before .before .before .before .before .before .before .before .before .before .before .before .before .before .before .before .before .before .before .before .before .before .before .before .before .pre .1 .records) (c .before .before .before .before .before .before .before .before .before .before .before .before .before .before .before .before .before .before .before .before .before .before .before .before .before .before .before .before .before .pre .1 .few) _ _ _ _ _ _ (c .before .before .before .before .before .before .before .before .before .before .before .before .before .before .before .before .before .before .before .loop-test .taken) (c .before .before .before .before .before .before .before .before .before .before .before .before .before .before .before .before .before .before .before .before .loop .inv .1 .1) (c .before .before .before .before .before .before .before .before .before .before .before .before .before .before .before .before .before .before .before .before .before .before .before .before .before .before .before .before .before .pre .1 .lines) (c .before .before .before .before .before .before .before .before .before .before .before .before .before .before .before .before .before .before .before .before .loop .inv .1 .0)
 
-add-k : tie.Need-add-k Inv-loop μ-loop
-add-k c = omega (arith, c .before .before .before .before .before .before .before .before .before .before .before .before .before .before .before .before .before .before .loop-test .taken, (c .before .before .before .before .before .before .before .before .before .before .before .before .before .before .before .before .before .before .before .before .before .before .before .before .before .before .before .before .pre .1 .few))
+add-k-3 : tie.Need-add-k-3 Inv-loop μ-loop
+add-k-3 c = omega (arith, c .before .before .before .before .before .before .before .before .before .before .before .before .before .before .before .before .before .before .before .before .before .before .loop-test .taken, (c .before .before .before .before .before .before .before .before .before .before .before .before .before .before .before .before .before .before .before .before .before .before .before .before .before .before .before .before .before .before .before .before .pre .1 .few))
 
-loop-less : tie.Need-loop-less Inv-loop μ-loop
-loop-less c = omega (arith, c .before .before .before .before .before .before .before .before .before .before .before .before .before .before .before .before .before .before .loop-test .taken)
+loop-less-3 : tie.Need-loop-less-3 Inv-loop μ-loop
+loop-less-3 c = omega (arith, c .before .before .before .before .before .before .before .before .before .before .before .before .before .before .before .before .before .before .before .before .before .before .loop-test .taken)
 
-loop-again : tie.Need-loop-again Inv-loop μ-loop
-loop-again c = (
-  omega (arith, c .before .before .before .before .before .before .before .before .before .before .before .before .before .before .before .before .before .before .loop-test .taken),
+loop-again-3 : tie.Need-loop-again-3 Inv-loop μ-loop
+loop-again-3 c = (
+  omega (arith, c .before .before .before .before .before .before .before .before .before .before .before .before .before .before .before .before .before .before .before .before .before .before .loop-test .taken),
   (
-    c .before .before .write-line .ensures .bytes .long ∙ c .before .before .before .before .before .before .before .before .before .before .before .before .before .before .before .before .before .before .before .loop .inv .1 .0,
-    turn _ _ _ _ _ _ (c .before .before .before .before .before .before .before .before .before .before .before .before .before .before .before .before .before .before .before .before .before .before .before .before .before .before .before .before .pre .0) (c .before .before .before .before .before .before .before .before .before .before .before .before .before .before .before .before .before .before .before .before .before .before .before .before .before .before .before .before .pre .1 .records) (c .before .before .before .before .before .before .before .before .before .before .before .before .before .before .before .before .before .before .before .before .before .before .before .before .before .before .before .before .pre .1 .few) _ _ _ _ _ _ (c .before .before .before .before .before .before .before .before .before .before .before .before .before .before .before .before .before .before .loop-test .taken) (c .before .before .before .before .before .before .before .before .before .before .before .before .before .before .before .before .before .before .before .loop .inv .1 .1) _ (c .before .before .before .before .before .before .before .before .before .before .before .before .before .before .before .before .before .step-at .ensures) _ (c .before .before .before .before .before .before .before .before .before .before .before .before .before .before .before .before .target .ensures) _ (c .before .before .before .before .before .before .before .before .before .before .before .before .before .before .before .place-in .ensures) _ (c .before .before .before .before .before .before .before .before .before .before .before .before .before .before .place-in2 .ensures)
-        _ (c .before .before .before .before .before .before .before .before .before .before .before .advance .ensures) _ (c .before .before .before .before .before .before .before .reach .ensures) _ (⊎-elim (λ w. w .2 ∙ w .1 .ensures) (λ w. w .1 ∙ not-swept _ _ _ _ _ (w .0 .left)) (c .before .before .before .before .before .before .if1 .came)) _ (c .before .before .before .before .before .before .before .before .before .before .before .before .before .before .before .before .before .before .before .before .before .before .before .none .ensures) _ _ (c .before .before .write-line .ensures),
+    c .before .before .write-line3 .ensures .bytes .long ∙ c .before .before .before .before .before .before .before .before .before .before .before .before .before .before .before .before .before .before .before .before .before .before .before .loop .inv .1 .0,
+    turn _ _ _ _ _ _ (c .before .before .before .before .before .before .before .before .before .before .before .before .before .before .before .before .before .before .before .before .before .before .before .before .before .before .before .before .before .before .before .before .pre .0) (c .before .before .before .before .before .before .before .before .before .before .before .before .before .before .before .before .before .before .before .before .before .before .before .before .before .before .before .before .before .before .before .before .pre .1 .records) (c .before .before .before .before .before .before .before .before .before .before .before .before .before .before .before .before .before .before .before .before .before .before .before .before .before .before .before .before .before .before .before .before .pre .1 .few) _ _ _ _ _ _ (c .before .before .before .before .before .before .before .before .before .before .before .before .before .before .before .before .before .before .before .before .before .before .loop-test .taken) (c .before .before .before .before .before .before .before .before .before .before .before .before .before .before .before .before .before .before .before .before .before .before .before .loop .inv .1 .1) _ (c .before .before .before .before .before .before .before .before .before .before .before .before .before .before .before .before .before .before .before .before .before .step-at .ensures) _ (c .before .before .before .before .before .before .before .before .before .before .before .before .before .before .before .before .before .before .before .before .target .ensures) _ (c .before .before .before .before .before .before .before .before .before .before .before .before .before .before .before .before .before .before .before .place-in .ensures) _ (c .before .before .before .before .before .before .before .before .before .before .before .before .before .before .before .before .before .before .place-in2 .ensures)
+        _ (performs _ _ _ _ _ _ (c .before .before .before .before .before .before .before .before .before .before .before .before .before .before .before .refusal-of-step .ensures) (c .before .before .before .before .before .before .before .before .before .before .before .before .before .before .if1 .left) _ (c .before .before .before .before .before .before .before .before .before .before .before .perform .ensures)) _ (c .before .before .before .before .before .before .before .reach .ensures) _ (⊎-elim (λ w. w .2 ∙ w .1 .ensures) (λ w. w .1 ∙ not-swept _ _ _ _ _ (w .0 .left)) (c .before .before .before .before .before .before .if3 .came)) _ (c .before .before .before .before .before .before .before .before .before .before .before .before .before .before .before .before .before .before .before .before .before .before .before .before .before .before .before .none .ensures) _ _ (c .before .before .write-line3 .ensures),
   ),
 )
 
@@ -156,7 +206,19 @@ run-steps-spec =
     array-copy-out-c
     mul-r
     array-copy-out-r
-    advance-requires
+    refusal-of-step-requires
+    add-write-line
+    write-line-requires
+    add-k
+    loop-less
+    loop-again
+    read-requires
+    add-write-line-2
+    write-line-requires-2
+    add-k-2
+    loop-less-2
+    loop-again-2
+    perform-requires
     mul-copies
     array-set-from-copies
     mul-requests
@@ -165,10 +227,10 @@ run-steps-spec =
     sweep-requires
     array-set-from-copies-2
     array-set-from-requests-3
-    add-write-line
-    write-line-requires
-    add-k
-    loop-less
-    loop-again
+    add-write-line-3
+    write-line-requires-3
+    add-k-3
+    loop-less-3
+    loop-again-3
     same-length
     returns)

@@ -1,0 +1,49 @@
+use Rattle.run.proofs.Laws.{read-by}
+use borrow.Author.Needs.{needs}
+use Rattle.run.proofs.reading.read.Statement.{statement}
+use Rattle.run.proofs.reading.read.Tie as tie
+use Rattle.run.proofs.reading.read.Reads as reads
+use Rattle.run.proofs.reading.read.Lts as lts
+use Rattle.client.proofs.copy.showable.Reads as showable-reads
+use Rattle.run.proofs.reading.shown.Reads as shown-reads
+
+element-copy-out-v : tie.Need-element-copy-out-v
+element-copy-out-v c = search needs
+
+cast-v : tie.Need-cast-v
+cast-v c = search needs
+
+mul-i : tie.Need-mul-i
+mul-i c = search needs
+
+add-i : tie.Need-add-i
+add-i c = search needs
+
+mul-showable : tie.Need-mul-showable
+mul-showable c = search needs
+
+element-copy-out-showable : tie.Need-element-copy-out-showable
+element-copy-out-showable c = search needs
+
+showable-requires : tie.Need-showable-requires
+showable-requires c κs = search needs
+
+shown-requires : tie.Need-shown-requires
+shown-requires c κs = search needs
+
+returns : tie.Need-returns
+returns c = search (read-by, needs)
+
+pub read-spec : {M : Type 1} → statement M
+read-spec =
+    tie.close
+    (tie.spec
+    element-copy-out-v
+    cast-v
+    mul-i
+    add-i
+    mul-showable
+    element-copy-out-showable
+    showable-requires
+    shown-requires
+    returns)
