@@ -49,7 +49,7 @@ pub fn run_steps(
     let mut k = 0;
     while k < count {
         let x = runfile::step_at(file, first, k);
-        let a = decide::target::target(s, tables, x);
+        let a = decide::records::target(s, tables, x);
         let i = places::place_in(a.copy, all, 512);
         let j = places::place_in(a.client, clients, 16);
         let c = copies[i];

@@ -13,7 +13,7 @@ use Rattle.run.proofs.steps.run_steps.Tie as tie
 use Rattle.run.proofs.steps.run_steps.Reads as reads
 use Rattle.run.proofs.steps.run_steps.Lts as lts
 use Rattle.client.proofs.copy.none.Reads as none-reads
-use Rattle.decide.proofs.target.target.Reads as target-reads
+use Rattle.decide.proofs.records.target.Reads as target-reads
 use Rattle.listing.proofs.write_line.Reads as write-line-reads
 use Rattle.run.proofs.advance.advance.Reads as advance-reads
 use Rattle.run.proofs.places.place_in.Reads as place-in-reads
