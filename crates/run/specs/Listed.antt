@@ -1,19 +1,21 @@
 -- What a run of a file's bytes prints, and how it fits a lent output.
 use Prim.Native.Nat.{ℕ, suc, _≤_}
 use native.Mathlib.Omega.{arith}
-use mathlib.Core.Bool.{Bool, true, cond}
+use mathlib.Core.Bool.{Bool, true, false, cond}
 use mathlib.Core.List.{List, [], _∷_, _++_}
-use mathlib.Core.Path.{_≡_, refl, ap}
+use mathlib.Core.Logic.{⊎-elim}
+use mathlib.Core.Path.{_≡_, refl, sym, ap, _∙_}
 use lib.Dec.{leb}
 use lib.ListN.{length, length-append}
-use lib.Seq.{sets}
+use lib.Seq.{sets, length-sets}
+use borrow.Author.Tests.{leb-true}
 use Rattle.protocol.specs.declared.setup.Setup.{Setup}
 use Rattle.protocol.specs.declared.step.Answer.{Answer}
 use Rattle.protocol.specs.declared.step.Step.{Step}
 use Rattle.protocol.specs.World.{World, freshWorld, stepped, ran, answers}
 use Rattle.runfile.specs.File.{setupPlace, setupIn, wellFormed}
 use Rattle.runfile.specs.Steps.{stepsOf, length-steps, Parts, formed-parts}
-use Rattle.laws.specs.Choice.{cond-keeps}
+use Rattle.laws.specs.Choice.{cond-keeps, true-or-false}
 use Rattle.listing.specs.Listing.{header, line, listingOf, refusedListing, length-header, line-short, listing-short}
 use Rattle.run.specs.declared.Listed.{Listed}
 use Rattle.run.specs.declared.Listed.the-variants.{Written, Refused}
@@ -68,3 +70,21 @@ printed-short l = cond-keeps (λ (b : List ℕ). length b ≤ 112640) (wellForme
 
     short : length refusedListing ≤ 112640
     short = omega (arith, length-append header (line 0 4 9), length-header, line-short 0 4 9 (omega arith) (omega arith))
+
+-- what a caller goes by: the bytes that were written are in the output
+pub listed-fits : (b before after : List ℕ) (r : Listed) (n : ℕ) → r ≡ listed b (length before) → after ≡ output b before → r ≡ Written n → n ≤ length after
+unfolding listed output
+listed-fits b before after r n e f g = ⊎-elim yes no (true-or-false (leb (length b) (length before)))
+  where
+    yes : leb (length b) (length before) ≡ true → n ≤ length after
+    yes h =
+        let k : Written n ≡ Written (length b) = sym g ∙ (rw h at e) in
+        let l : n ≡ length b = cc in
+        let m : length after ≡ length before = ap length (rw h at f) ∙ length-sets before 0 b in
+        omega (arith, leb-true (length b) (length before) h)
+
+    no : leb (length b) (length before) ≡ false → n ≤ length after
+    no h =
+        let k : Written n ≡ Refused 8 = sym g ∙ (rw h at e) in
+        let z : _≡_ {A = ℕ} 0 1 = cc in
+        absurd (omega arith)
