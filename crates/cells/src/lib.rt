@@ -1,8 +1,8 @@
 // One element of a lent table, read or stored. A field of a field is lent to a call (`put_512(&mut t.holders.lease, i, x)`): nothing is copied, where
 // indexing it in place has no rule and taking the inner struct out copies it whole.
 ghost use mathlib.Core.Path.{_≡_};
-ghost use mathlib.Core.Bool.{Bool, true, false, cond};
-ghost use Prim.Native.Nat.{ℕ, _<_};
+ghost use mathlib.Core.Bool.{false, cond};
+ghost use Prim.Native.Nat.{_<_};
 ghost use lib.ListN.{getD, set};
 
 pub fn at_8(a: &[u32; 8], i: usize) -> u32

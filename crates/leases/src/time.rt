@@ -1,7 +1,7 @@
 // The tests of time.
 ghost use mathlib.Core.Path.{_≡_};
-ghost use mathlib.Core.Bool.{Bool, not};
-ghost use Prim.Native.Nat.{ℕ, _+_, _<_, min, max};
+ghost use mathlib.Core.Bool.{not};
+ghost use Prim.Native.Nat.{_+_, _<_, min, max};
 ghost use Rattle.protocol.specs.Leases.{serverAlive, endOver};
 ghost use Rattle.leases.specs.Parts.{waitsBy, latestBy};
 

@@ -1,6 +1,6 @@
 // Whom the standing write of an object waits for, and the leases on it, client by client.
 ghost use mathlib.Core.Path.{_≡_};
-ghost use mathlib.Core.Bool.{Bool, false};
+ghost use mathlib.Core.Bool.{false};
 ghost use Prim.Native.Nat.{ℕ, _≤_, _<_};
 ghost use lib.ListN.{getD};
 ghost use Rattle.laws.specs.Loop.{anyFrom};

@@ -1,6 +1,6 @@
 // The message list (01, "Tables"): send, remove, double, look.
 ghost use mathlib.Core.Path.{_≡_};
-ghost use Prim.Native.Nat.{ℕ, _+_, _<_, _≤_};
+ghost use Prim.Native.Nat.{_+_, _<_, _≤_};
 ghost use Rattle.protocol.specs.Messages.{blank, messageAt, pushed, removed, doubled};
 use protocol::message::Kind;
 use protocol::message::Message;

@@ -1,8 +1,8 @@
 // "Dash waited for in this volume", and "its lowest such object".
 ghost use mathlib.Core.Path.{_≡_};
-ghost use mathlib.Core.Bool.{Bool, true};
+ghost use mathlib.Core.Bool.{true};
 ghost use mathlib.Core.List.{[]};
-ghost use Prim.Native.Nat.{ℕ, _<_};
+ghost use Prim.Native.Nat.{_<_};
 ghost use Rattle.protocol.specs.Setup.{inRange};
 ghost use Rattle.protocol.specs.Server.{waitedIn, lowestWaited};
 ghost use Rattle.leases.specs.Parts.{scene};

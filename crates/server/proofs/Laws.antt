@@ -1,7 +1,7 @@
 -- What each way through ACK and DROPPED comes to.
-use Prim.Native.Nat.{ℕ, _+_, _<_, _≤_}
-use mathlib.Core.Bool.{Bool, true, false, cond, not, _&&_}
-use mathlib.Core.Path.{_≡_, refl, sym, _∙_}
+use Prim.Native.Nat.{ℕ}
+use mathlib.Core.Bool.{Bool, true, false}
+use mathlib.Core.Path.{_≡_, sym, _∙_}
 use Rattle.laws.specs.Choice.{and-true}
 use Rattle.laws.specs.Loop.{foldFrom}
 use Rattle.protocol.specs.declared.setup.Setup.{Setup}

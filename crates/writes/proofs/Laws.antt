@@ -1,10 +1,8 @@
 -- What each way through a function, and each turn of a loop, comes to.
-use Prim.Native.Nat.{ℕ, zero, suc, _+_, _-_, _<_, _≤_}
-use native.Mathlib.Omega.{arith}
-use mathlib.Core.Bool.{Bool, true, false, cond, not, _&&_, _||_}
+use Prim.Native.Nat.{ℕ, _+_, _-_, _<_, _≤_}
+use mathlib.Core.Bool.{Bool, true, false, not, _&&_, _||_}
 use mathlib.Core.List.{List, []}
-use mathlib.Core.Path.{_≡_, refl, sym, ap, _∙_}
-use lib.Dec.{eqb}
+use mathlib.Core.Path.{_≡_, refl, sym, _∙_}
 use lib.ListN.{getD}
 use borrow.Author.Tests.{eq-eqb, ne-eqb}
 use Rattle.laws.specs.Choice.{and-true, not-both}
@@ -18,12 +16,12 @@ use Rattle.protocol.specs.Setup.{volumeOf}
 use Rattle.protocol.specs.Tables.{standingAt, guardAt, versionAt, epochAt, withQueue}
 use Rattle.protocol.specs.Leases.{serverAlive, guardPassed, endOver}
 use Rattle.protocol.specs.Writes.{ready, due, waited, completed, completeIf, settled, opened, begun, notified, written, writeStaged}
-use Rattle.protocol.specs.Server.{ofVolume, readyIn}
+use Rattle.protocol.specs.Server.{ofVolume}
 use Rattle.protocol.specs.SoundLaws.{Growing, completed-keeps}
 use Rattle.leases.specs.Parts.{Placed, waitingFor, notifiedBy, scene}
 use Rattle.writes.specs.declared.settle.Trigger.{Trigger}
 use Rattle.writes.specs.declared.settle.Trigger.the-variants.{Clock, Volume}
-use Rattle.writes.specs.Triggers.{sceneOf, triggered, triggerStaged, oneStaged}
+use Rattle.writes.specs.Triggers.{sceneOf, triggered, oneStaged}
 
 -- ---- when a write is ready, and when it is due
 

@@ -2,7 +2,6 @@
 use Prim.Native.Nat.{ℕ}
 use mathlib.Core.Bool.{Bool}
 use Rattle.protocol.specs.declared.setup.Setup.{Setup}
-use Rattle.protocol.specs.declared.step.Counted.{Counted}
 use Rattle.protocol.specs.declared.tables.Tables.{Tables}
 use Rattle.leases.specs.Parts.{scene}
 use Rattle.protocol.specs.Writes.{Staged, due, ready}

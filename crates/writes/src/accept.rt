@@ -1,11 +1,11 @@
 // Step 4: accepting a write.
 ghost use mathlib.Core.Path.{_≡_};
-ghost use mathlib.Core.Bool.{Bool, true};
-ghost use Prim.Native.Nat.{ℕ, _<_};
+ghost use mathlib.Core.Bool.{true};
+ghost use Prim.Native.Nat.{_<_};
 ghost use Rattle.protocol.specs.Setup.{inRange};
 ghost use Rattle.protocol.specs.Sound.{tablesSound};
 ghost use Rattle.protocol.specs.Tables.{versionAt};
-ghost use Rattle.protocol.specs.Writes.{begun, written, writeStaged, settled};
+ghost use Rattle.protocol.specs.Writes.{begun, writeStaged, settled};
 use crate::complete;
 use leases::place;
 use leases::time;

@@ -1,8 +1,8 @@
 ghost use mathlib.Core.Path.{_≡_};
-ghost use mathlib.Core.Bool.{Bool, true};
-ghost use Prim.Native.Nat.{ℕ, _<_};
+ghost use mathlib.Core.Bool.{true};
+ghost use Prim.Native.Nat.{_<_};
 ghost use Rattle.protocol.specs.Setup.{inRange};
-ghost use Rattle.protocol.specs.Tables.{standingAt, versionAt};
+ghost use Rattle.protocol.specs.Tables.{versionAt};
 ghost use Rattle.protocol.specs.Writes.{completed, settled};
 ghost use Rattle.writes.specs.Triggers.{oneStaged};
 use crate::test;

@@ -1,8 +1,8 @@
 // When a standing write completes. The tables that the tests read are lent; `scene` is tables that hold them.
 ghost use mathlib.Core.Path.{_≡_};
-ghost use mathlib.Core.Bool.{Bool, true};
+ghost use mathlib.Core.Bool.{true};
 ghost use mathlib.Core.List.{[]};
-ghost use Prim.Native.Nat.{ℕ, _<_};
+ghost use Prim.Native.Nat.{_<_};
 ghost use Rattle.protocol.specs.Setup.{inRange};
 ghost use Rattle.protocol.specs.Writes.{ready, due};
 ghost use Rattle.leases.specs.Parts.{scene};

@@ -9,10 +9,10 @@ volume-of-requires : tie.Need-volume-of-requires
 volume-of-requires c κs = search needs
 
 add-x : tie.Need-add-x
-add-x c = omega (arith, ranged _ (c .before .before .before .pre .0) .tv)
+add-x c = omega (arith, ranged _ (c .before .before .before .pre .0))
 
 add-y : tie.Need-add-y
-add-y c = omega (arith, ranged _ (c .before .before .before .before .before .pre .0) .t)
+add-y c = omega (arith, ranged _ (c .before .before .before .before .before .pre .0))
 
 mul-payload : tie.Need-mul-payload
 mul-payload c = search needs

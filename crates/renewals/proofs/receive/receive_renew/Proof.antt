@@ -9,7 +9,7 @@ at-16-requires : tie.Need-at-16-requires
 at-16-requires c κs = omega (arith, c .before .before .pre .1 .1 .0, ranged _ (c .before .before .pre .0) .clients)
 
 returns : tie.Need-returns
-returns c = renew-old _ _ _ _ _ _ _ _ (c .before .at-16 .ensures) (c .if1 .taken)
+returns c = renew-old _ _ _ _ _ _ _ _ (c .before .at-16 .ensures) (omega (arith, c .if1 .taken))
 
 put-16-requires : tie.Need-put-16-requires
 put-16-requires c κs = omega (arith, c .before .before .before .before .before .pre .1 .1 .0, ranged _ (c .before .before .before .before .before .pre .0) .clients)
@@ -23,7 +23,7 @@ returns-2 : tie.Need-returns-2
 unfolding noted
 returns-2 c =
     let a = c .before .before .before .before .before .before .before .args in
-    renew-new (a .s) (a .t2) (a .d) (a .o) (a .n) (a .e) (a .held) _ (c .before .before .before .before .at-16 .ensures) _ _ (c .before .before .before .if1 .left) (rw (c .before .put-16 .ensures)) (c .renew-by .ensures)
+    renew-new (a .s) (a .t2) (a .d) (a .o) (a .n) (a .e) (a .held) _ (c .before .before .before .before .at-16 .ensures) _ _ (omega (arith, c .before .before .before .if1 .left)) (rw (c .before .put-16 .ensures)) (c .renew-by .ensures)
 
 pub receive-renew-spec : {M : Type 1} → statement M
 receive-renew-spec =
