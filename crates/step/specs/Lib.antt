@@ -2,3 +2,4 @@ pub mod Lent
 pub mod Moved
 pub mod Owned
 pub mod Refused
+pub mod Calls

@@ -1,0 +1,47 @@
+-- What a caller from another language gets: 01's number, 0 for none, and what stands in what it lent.
+use Prim.Native.Nat.{ℕ}
+use mathlib.Core.Bool.{Bool, cond, _&&_}
+use mathlib.Core.List.{List, [], _∷_}
+use mathlib.Core.Path.{_≡_}
+use lib.Dec.{leb}
+use lib.ListN.{length}
+use lib.Seq.{sets}
+use Rattle.frame.specs.declared.fields.Fields.{Fields}
+use Rattle.frame.specs.declared.Decoded.{Decoded}
+use Rattle.frame.specs.declared.Decoded.the-variants.{Accepted, Refused}
+use Rattle.frame.specs.Frame.{fieldsOf, messageIn, sound, isFrame, messageOf, fits, framed, refusal}
+use Rattle.run.specs.declared.Listed.{Listed}
+use Rattle.run.specs.declared.Listed.the-variants as listing
+use Rattle.run.specs.Listed.{printed, listed, output, listedNumber}
+
+-- the length that was written, or what was there
+abbrev pub writtenOr : ℕ → Listed → ℕ
+writtenOr n (listing.Written m) = m
+writtenOr n (listing.Refused k) = n
+
+pub record Lists (file before after : List ℕ) (n m r : ℕ) : Type 0 where
+  pub number : r ≡ listedNumber (listed (printed file) (length before))
+  pub written : m ≡ writtenOr n (listed (printed file) (length before))
+  pub bytes : after ≡ output (printed file) before
+
+-- the fields of a frame, encoded where they are right
+pub record EncodesFields (f : Fields) (before after : List ℕ) (r : ℕ) : Type 0 where
+  pub number : r ≡ refusal (sound f && fits before)
+  pub bytes : after ≡ cond (sound f) (framed (messageIn f) before) before
+
+-- the ten fields as numbers, in the frame's order
+abbrev pub numbersOf : Fields → List ℕ
+numbersOf f =
+    f .kind ∷ f .client ∷ f .object ∷ f .present ∷ f .number ∷ f .lease ∷ f .epoch ∷ f .version ∷ f .expiry ∷ f .value ∷ []
+
+abbrev pub fieldsStored : List ℕ → Decoded → List ℕ
+fieldsStored l (Accepted m) = sets l 0 (numbersOf (fieldsOf m))
+fieldsStored l Refused = l
+
+-- "a lent output long enough?": ten numbers
+abbrev pub hasTen : List ℕ → Bool
+hasTen l = leb 10 (length l)
+
+pub record DecodesFields (frame before after : List ℕ) (r : ℕ) : Type 0 where
+  pub number : r ≡ refusal (hasTen before && isFrame frame)
+  pub fields : after ≡ cond (hasTen before) (fieldsStored before (messageOf frame)) before
