@@ -1,0 +1,79 @@
+//! The run files that are timed, the same in every run of the program.
+
+use model::gen::builder::Builder;
+use model::gen::random_steps;
+use model::gen::rng::Rng;
+use model::gen::setups::sized;
+use model::limits::STEPS;
+use model::setup::Setup;
+use model::step_record::Step;
+use model::write_runfile::write;
+
+pub struct Timed {
+    pub name: &'static str,
+    pub file: Vec<u8>,
+    /// Messages under way, on the average over the steps.
+    pub queue: f64,
+}
+
+/// The largest setup and the smallest, each with the most steps.
+pub fn runs() -> Vec<Timed> {
+    vec![
+        timed("16 clients, 8 volumes, 32 objects", spread(sized(16, 8, 32))),
+        timed("1 client, 1 volume, 1 object", sized(1, 1, 1)),
+    ]
+}
+
+/// Objects evenly over the volumes.
+fn spread(mut setup: Setup) -> Setup {
+    for object in 0..setup.objects {
+        setup.volume_of[usize::from(object)] = object % setup.volumes;
+    }
+    setup
+}
+
+/// Steps by chance: reads, asks and writes, with the list of messages mostly
+/// full, some lost and some doubled, and restarts.
+fn timed(name: &'static str, setup: Setup) -> Timed {
+    let mut builder = Builder::new(Rng::new(1), setup);
+    let mut messages = 0;
+    while builder.steps.len() < STEPS {
+        random_steps::take(&mut builder, 1);
+        messages += builder.queue_len();
+    }
+    let queue = messages as f64 / STEPS as f64;
+    Timed { name, file: write(&[], &setup, &builder.steps), queue }
+}
+
+/// Runs of one kind of step in the largest setup; a message is asked for
+/// before each that is lost or delivered, and before the first that is doubled.
+pub fn kinds() -> Vec<(&'static str, Vec<u8>)> {
+    let setup = spread(sized(16, 8, 32));
+    let run = |name, start: &[Step], turn: &[Step]| {
+        let steps: Vec<Step> = start.iter().chain(turn.iter().cycle()).copied().take(STEPS).collect();
+        (name, write(&[], &setup, &steps))
+    };
+    let ask = Step::ask(0, 0);
+    vec![
+        run("unknown kind", &[], &[Step::default()]),
+        run("clock", &[], &[Step::clock(0)]),
+        run("read", &[], &[Step::read(0, 0)]),
+        run("ask, list full", &[], &[ask]),
+        run("write", &[], &[Step::write(0, 7)]),
+        run("ask, deliver", &[], &[ask, Step::deliver(0)]),
+        run("ask, lose", &[], &[ask, Step::lose(0)]),
+        run("double, list full", &[ask], &[Step::double(0)]),
+        run("restart server", &[], &[Step::restart_server()]),
+        run("restart client", &[], &[Step::restart_client(0)]),
+    ]
+}
+
+/// The same file but for its last step, where a field that the kind does not
+/// use is not 0: read to its end, and refused.
+pub fn refused_at_its_end(file: &[u8]) -> Vec<u8> {
+    let mut file = file.to_vec();
+    let last_step = file.len() - 8 - 16;
+    file[last_step] = 2;
+    file[last_step + 8] = 1;
+    file
+}

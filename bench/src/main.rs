@@ -1,0 +1,99 @@
+//! The proved library beside the model, on the same files in one process:
+//! time per step, time to read a file, and peak memory.
+
+mod files;
+mod memory;
+mod timing;
+
+use std::{env, io};
+
+use files::{kinds, refused_at_its_end, runs};
+use gevtsomi::LISTING_BYTES;
+use model::limits::STEPS;
+use model::listing::{listing, listing_trusting};
+use timing::medians;
+
+fn proved(file: &[u8]) -> usize {
+    let mut output = [0; LISTING_BYTES];
+    gevtsomi::list(file, &mut output).expect("room for any listing")
+}
+
+fn asking(file: &[u8]) -> usize {
+    listing(file).len()
+}
+
+fn trusting(file: &[u8]) -> usize {
+    listing_trusting(file).len()
+}
+
+fn main() -> io::Result<()> {
+    match env::args().nth(1).as_deref() {
+        None => report(),
+        Some(subject) => {
+            let run = &runs()[0];
+            match subject {
+                "proved" => drop(proved(&run.file)),
+                "asking" => drop(asking(&run.file)),
+                _ => (),
+            }
+            println!("{}", memory::peak()?);
+            Ok(())
+        }
+    }
+}
+
+fn report() -> io::Result<()> {
+    for run in runs() {
+        same(&run.file);
+        println!("{}; {STEPS} steps, {:.0} messages under way on the average", run.name, run.queue);
+        let times = medians(&run.file, &[&proved, &asking, &trusting]);
+        let [proved, asking, trusting] = times[..] else { unreachable!() };
+        let per_step = |time: f64| time / STEPS as f64;
+        println!("  proved library                 {:6.0} ns a step", per_step(proved));
+        println!(
+            "  model, question 1 each step    {:6.0} ns a step, ratio {:.2}",
+            per_step(asking),
+            proved / asking
+        );
+        println!(
+            "  model, question 1 not asked    {:6.0} ns a step, ratio {:.2}",
+            per_step(trusting),
+            proved / trusting
+        );
+    }
+    by_kind();
+    reading();
+    println!("peak memory of a process that lists the first file once");
+    for subject in ["nothing", "proved", "asking"] {
+        println!("  {subject:10} {:6} KiB", memory::of(&[subject])?);
+    }
+    Ok(())
+}
+
+fn by_kind() {
+    println!("by kind, 16 clients, 8 volumes, 32 objects: ns a step of library, asking model, other model");
+    for (name, file) in kinds() {
+        same(&file);
+        let times = medians(&file, &[&proved, &asking, &trusting]);
+        let [proved, asking, trusting] = times[..] else { unreachable!() };
+        let per_step = |time: f64| time / STEPS as f64;
+        println!("  {name:18} {:6.0} {:6.0} {:6.0}", per_step(proved), per_step(asking), per_step(trusting));
+    }
+}
+
+fn reading() {
+    let file = refused_at_its_end(&runs()[0].file);
+    same(&file);
+    let times = medians(&file, &[&proved, &asking]);
+    println!("a file of {} bytes and {STEPS} steps read to its end, then refused", file.len());
+    println!("  proved library {:6.1} us", times[0] / 1000.0);
+    println!("  model          {:6.1} us, ratio {:.2}", times[1] / 1000.0, times[0] / times[1]);
+}
+
+/// What is timed is the same work.
+fn same(file: &[u8]) {
+    let mut output = [0; LISTING_BYTES];
+    let len = gevtsomi::list(file, &mut output).expect("room for any listing");
+    assert_eq!(output[..len], listing(file)[..]);
+    assert_eq!(output[..len], listing_trusting(file)[..]);
+}

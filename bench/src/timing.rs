@@ -1,0 +1,44 @@
+//! Medians of interleaved rounds.
+
+use std::hint::black_box;
+use std::time::{Duration, Instant};
+
+/// A round of each subject after the other, so that whatever else the
+/// machine does meets them alike.
+const ROUNDS: usize = 41;
+
+/// How long a round of one subject should take at least.
+const ROUND: Duration = Duration::from_millis(20);
+
+pub type Subject<'a> = &'a dyn Fn(&[u8]) -> usize;
+
+/// Nanoseconds that each subject takes for the file, median over the rounds.
+pub fn medians(file: &[u8], subjects: &[Subject]) -> Vec<f64> {
+    let repeats: Vec<usize> = subjects.iter().map(|subject| repeats(file, *subject)).collect();
+    let mut times = vec![Vec::new(); subjects.len()];
+    for _ in 0..ROUNDS {
+        for ((subject, repeats), times) in subjects.iter().zip(&repeats).zip(&mut times) {
+            times.push(round(file, *subject, *repeats).as_nanos() as f64 / *repeats as f64);
+        }
+    }
+    times.into_iter().map(median).collect()
+}
+
+fn repeats(file: &[u8], subject: Subject) -> usize {
+    round(file, subject, 1);
+    let once = round(file, subject, 1);
+    1 + (ROUND.as_nanos() / once.as_nanos().max(1)) as usize
+}
+
+fn round(file: &[u8], subject: Subject, repeats: usize) -> Duration {
+    let start = Instant::now();
+    for _ in 0..repeats {
+        black_box(subject(black_box(file)));
+    }
+    start.elapsed()
+}
+
+fn median(mut times: Vec<f64>) -> f64 {
+    times.sort_by(f64::total_cmp);
+    times[times.len() / 2]
+}

@@ -1,0 +1,99 @@
+//! The proved functions as the archive has them. A slice is two arguments,
+//! its address and its length. Each function gives 0 or a refusal's number,
+//! and reads and writes only what it is lent, during the call.
+
+use crate::message::Fields;
+use crate::Refused;
+
+/// How many numbers a frame's fields are.
+const FIELDS: usize = 10;
+
+mod ffi {
+    extern "C" {
+        pub fn gevtsomi_list(
+            file: *const u8,
+            file_len: usize,
+            output: *mut u8,
+            output_len: usize,
+            written: *mut usize,
+        ) -> u8;
+
+        pub fn gevtsomi_encode(
+            kind: u8,
+            client: u8,
+            item: u8,
+            present: u8,
+            number: u32,
+            volume_expiry: u32,
+            epoch: u32,
+            version: u32,
+            object_expiry: u32,
+            value: u64,
+            output: *mut u8,
+            output_len: usize,
+        ) -> u8;
+
+        pub fn gevtsomi_decode(frame: *const u8, frame_len: usize, fields: *mut u64, fields_len: usize)
+            -> u8;
+    }
+}
+
+fn accepted(number: u8) -> Result<(), Refused> {
+    match number {
+        0 => Ok(()),
+        number => Err(Refused { number }),
+    }
+}
+
+pub fn list(file: &[u8], output: &mut [u8]) -> Result<usize, Refused> {
+    let mut written = 0;
+    // SAFETY: both slices are valid for the lengths given with them, and for
+    // as long as the call lasts; `written` is a local.
+    let number = unsafe {
+        ffi::gevtsomi_list(file.as_ptr(), file.len(), output.as_mut_ptr(), output.len(), &mut written)
+    };
+    accepted(number).map(|()| written)
+}
+
+pub fn encode(fields: &Fields, output: &mut [u8]) -> Result<(), Refused> {
+    // SAFETY: the slice is valid for its length while the call lasts.
+    accepted(unsafe {
+        ffi::gevtsomi_encode(
+            fields.kind,
+            fields.client,
+            fields.item,
+            fields.present,
+            fields.number,
+            fields.volume_expiry,
+            fields.epoch,
+            fields.version,
+            fields.object_expiry,
+            fields.value,
+            output.as_mut_ptr(),
+            output.len(),
+        )
+    })
+}
+
+pub fn decode(frame: &[u8]) -> Result<Fields, Refused> {
+    let mut fields = [0; FIELDS];
+    // SAFETY: both slices are valid for the lengths given with them, and for
+    // as long as the call lasts.
+    accepted(unsafe {
+        ffi::gevtsomi_decode(frame.as_ptr(), frame.len(), fields.as_mut_ptr(), fields.len())
+    })?;
+    let [kind, client, item, present, number, volume_expiry, epoch, version, object_expiry, value] = fields;
+    // Each number came out of a field of that width.
+    Ok(Fields {
+        kind: kind as u8,
+        client: client as u8,
+        item: item as u8,
+        present: present as u8,
+        number: number as u32,
+        volume_expiry: volume_expiry as u32,
+        epoch: epoch as u32,
+        version: version as u32,
+        object_expiry: object_expiry as u32,
+        value,
+    })
+}

@@ -1,0 +1,106 @@
+//! Messages between server and clients, and a frame's ten fields.
+
+/// A message names its client, whichever way it goes, and carries one kind
+/// with that kind's fields.
+#[derive(Clone, Copy, Debug, PartialEq, Eq)]
+pub struct Message {
+    /// The client that sends or receives it.
+    pub client: u8,
+    /// What it says.
+    pub kind: Kind,
+}
+
+/// The six kinds, in the order of their numbers in a frame. The fields are
+/// those that document 01 names.
+#[allow(missing_docs)]
+#[derive(Clone, Copy, Debug, PartialEq, Eq)]
+pub enum Kind {
+    /// A client asks for an object; it knows this epoch and holds this version.
+    Renew { object: u8, number: u32, epoch: u32, version: u32 },
+    /// The server grants both leases, with the value unless the client holds it.
+    Grant {
+        object: u8,
+        number: u32,
+        volume_expiry: u32,
+        epoch: u32,
+        version: u32,
+        object_expiry: u32,
+        value: Option<u64>,
+    },
+    /// The server is about to change an object; this is its version to come.
+    Invalidate { object: u8, epoch: u32, version: u32 },
+    /// A client erased its copy.
+    Ack { object: u8, epoch: u32, version: u32 },
+    /// The server asks a client to drop its leases of a volume.
+    Offer { volume: u8, number: u32, epoch: u32 },
+    /// The client did so.
+    Dropped { volume: u8, number: u32, epoch: u32 },
+}
+
+/// A frame's fields in its order; 0 where the kind lacks one.
+#[derive(Clone, Copy, Debug, Default)]
+pub(crate) struct Fields {
+    pub kind: u8,
+    pub client: u8,
+    pub item: u8,
+    pub present: u8,
+    pub number: u32,
+    pub volume_expiry: u32,
+    pub epoch: u32,
+    pub version: u32,
+    pub object_expiry: u32,
+    pub value: u64,
+}
+
+impl Fields {
+    pub fn of(message: &Message) -> Fields {
+        let none = Fields { client: message.client, ..Fields::default() };
+        match message.kind {
+            Kind::Renew { object, number, epoch, version } => {
+                Fields { kind: 1, item: object, number, epoch, version, ..none }
+            }
+            Kind::Grant { object, number, volume_expiry, epoch, version, object_expiry, value } => Fields {
+                kind: 2,
+                item: object,
+                present: value.is_some().into(),
+                number,
+                volume_expiry,
+                epoch,
+                version,
+                object_expiry,
+                value: value.unwrap_or(0),
+                ..none
+            },
+            Kind::Invalidate { object, epoch, version } => {
+                Fields { kind: 3, item: object, epoch, version, ..none }
+            }
+            Kind::Ack { object, epoch, version } => Fields { kind: 4, item: object, epoch, version, ..none },
+            Kind::Offer { volume, number, epoch } => Fields { kind: 5, item: volume, number, epoch, ..none },
+            Kind::Dropped { volume, number, epoch } => {
+                Fields { kind: 6, item: volume, number, epoch, ..none }
+            }
+        }
+    }
+
+    /// The message; the kind is one of the six.
+    pub fn message(&self) -> Message {
+        let Fields { item, number, epoch, version, .. } = *self;
+        let kind = match self.kind {
+            1 => Kind::Renew { object: item, number, epoch, version },
+            2 => Kind::Grant {
+                object: item,
+                number,
+                volume_expiry: self.volume_expiry,
+                epoch,
+                version,
+                object_expiry: self.object_expiry,
+                value: (self.present != 0).then_some(self.value),
+            },
+            3 => Kind::Invalidate { object: item, epoch, version },
+            4 => Kind::Ack { object: item, epoch, version },
+            5 => Kind::Offer { volume: item, number, epoch },
+            _ => Kind::Dropped { volume: item, number, epoch },
+        };
+        Message { client: self.client, kind }
+    }
+}

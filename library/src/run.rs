@@ -1,0 +1,20 @@
+//! Whole runs.
+
+use crate::{exports, Refused};
+
+/// The most bytes that a run file has.
+pub const FILE_BYTES: usize = 65_536;
+
+/// Room for the listing of any run file.
+pub const LISTING_BYTES: usize = 112_640;
+
+/// Writes the listing of a run file to the start of `output` and gives its
+/// length. A file that is not a run file has a listing too, which says so.
+/// The bytes of `output` past the listing keep what they held.
+///
+/// # Errors
+///
+/// 8 if `output` is shorter than the listing; nothing is written then.
+pub fn list(file: &[u8], output: &mut [u8]) -> Result<usize, Refused> {
+    exports::list(file, output)
+}
