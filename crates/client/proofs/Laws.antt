@@ -1,31 +1,36 @@
 -- What each way through a function's tests found, put together.
-use Prim.Native.Nat.{ℕ, _+_, _<_, _≤_}
-use mathlib.Core.Bool.{Bool, true, false, cond, not, _&&_}
+use Prim.Native.Nat.{ℕ, _≤_}
+use mathlib.Core.Bool.{Bool, true, false, cond, _&&_}
 use mathlib.Core.List.{List}
-use mathlib.Core.Path.{_≡_, refl, sym, ap, _∙_}
+use mathlib.Core.Path.{_≡_, sym, _∙_}
 use lib.Dec.{eqb}
-use lib.ListN.{getD, set}
+use lib.ListN.{length, getD, set, List·getD-eq-default}
 use borrow.Author.Tests.{eq-eqb, ne-eqb}
 use Rattle.protocol.specs.declared.message.Payload.{Payload}
-use Rattle.protocol.specs.declared.message.Payload.the-variants.{Same, Value}
+use Rattle.protocol.specs.declared.message.Payload.the-variants.{Same}
+use Rattle.protocol.specs.declared.message.Kind.the-variants.{Ack, Dropped}
+use Rattle.protocol.specs.declared.message.Reply.the-variants.{Nothing}
 use Rattle.protocol.specs.declared.records.Copy.{Copy}
 use Rattle.protocol.specs.declared.records.Request.{Request}
 use Rattle.protocol.specs.declared.setup.Setup.{Setup}
+use Rattle.protocol.specs.declared.step.Answer.{Answer}
+use Rattle.protocol.specs.declared.step.Answer.the-variants.{Shown, AskFirst}
 use Rattle.protocol.specs.declared.step.Sweep.{Sweep}
 use Rattle.protocol.specs.declared.step.Sweep.the-variants.{Keep, Expire, Erase}
-use Rattle.protocol.specs.declared.message.Queue.{Queue}
-use Rattle.protocol.specs.declared.message.Kind.the-variants.{Renew, Ack, Dropped}
-use Rattle.protocol.specs.declared.step.Answer.{Answer}
-use Rattle.protocol.specs.declared.step.Answer.the-variants.{Done, Shown, AskFirst}
 use Rattle.protocol.specs.declared.tables.Tables.{Tables}
 use Rattle.laws.specs.Store.{storeEach, always}
 use Rattle.protocol.specs.Setup.{volumeOf}
-use Rattle.protocol.specs.Messages.{message, pushed}
-use Rattle.protocol.specs.Tables.{byVolume, viewEpochAt, viewExpiryAt, withViews, withQueue, noCopy}
-use Rattle.protocol.specs.Leases.{clientClock}
-use Rattle.protocol.specs.Client.{numbered, storable, ended, stands, grantTaken, filled, forgotten, swept, clientRestarted}
-use Rattle.protocol.specs.Decide.{kept, byClient, answered, grantReceived, invalidateReceived, offerReceived, readDecided, askDecided, restartDecided}
-use Rattle.client.specs.Shown.{shownAt, shown-by}
+use Rattle.protocol.specs.Messages.{message}
+use Rattle.protocol.specs.Tables.{byVolume, withViews, noCopy}
+use Rattle.protocol.specs.Server.{sent, replied}
+use Rattle.protocol.specs.Client.{storable, ended, stands, grantTaken, filled, forgotten, swept, clientRestarted}
+use Rattle.protocol.specs.Decide.{kept, byClient, grantReceived, invalidateReceived, offerReceived}
+use Rattle.client.specs.declared.receive.Heard.{Heard}
+use Rattle.client.specs.Shown.{shownAt}
+
+-- an element past the end
+pub past-end : (l : List ℕ) (i n : ℕ) → length l ≡ n → n ≤ i → 0 ≡ getD l i 0
+past-end l i n e h = sym (List·getD-eq-default l 0 {n = i} (rw e h))
 
 pub storable-same : (c : Copy) (w : ℕ) (p : Payload) → p ≡ Same → eqb (c .version) w ≡ storable c w p
 storable-same c w p e = rw e
@@ -46,13 +51,13 @@ module _ (s : Setup) (g : Sweep) (c r : Copy) (o : ℕ) where
   unfolding swept
   sweep-keep a = rw a
 
-  pub sweep-expire : (v : ℕ) → g ≡ Expire v → volumeOf s o ≡ v → record { version = c .version; value = c .value; expiry = 0 } ≡ swept s g c o
+  pub sweep-expire : (v w : ℕ) → g ≡ Expire v → w ≡ volumeOf s o → w ≡ v → record { version = c .version; value = c .value; expiry = 0 } ≡ swept s g c o
   unfolding swept
-  sweep-expire v a e = rw (a, eq-eqb _ _ e)
+  sweep-expire v w a h e = rw (a, eq-eqb _ _ (sym h ∙ e))
 
-  pub sweep-other : (v : ℕ) → g ≡ Expire v → (volumeOf s o ≡ v → ⊥) → c ≡ swept s g c o
+  pub sweep-other : (v w : ℕ) → g ≡ Expire v → w ≡ volumeOf s o → (w ≡ v → ⊥) → c ≡ swept s g c o
   unfolding swept
-  sweep-other v a e = rw (a, ne-eqb _ _ e)
+  sweep-other v w a h n = rw (a, ne-eqb _ _ (λ e. n (h ∙ e)))
 
   pub sweep-erase : g ≡ Erase → r ≡ noCopy → r ≡ swept s g c o
   unfolding swept
@@ -60,51 +65,44 @@ module _ (s : Setup) (g : Sweep) (c r : Copy) (o : ℕ) where
 
 pub ruleset sweeping = (sweep-keep, sweep-expire, sweep-other, sweep-erase)
 
-module _ (s : Setup) (t : Tables) (c : Copy) (r : Request) (d o n x e w y : ℕ) (p : Payload) (b : Bool) (h : b ≡ grantTaken c r n w p) where
-  pub grant-yes : (f : Copy) (q : Request) (a z : List ℕ) → b ≡ true → f ≡ filled c w y p → q ≡ ended r → a ≡ set (t .views .epoch) (byVolume d (volumeOf s o)) e
-      → z ≡ set (t .views .expiry) (byVolume d (volumeOf s o)) x
-      → byClient (record { copy = f; request = q; sweep = Keep }) (withViews t (record { epoch = a; expiry = z })) ≡ grantReceived s t c r d o n x e w y p
-  unfolding grantReceived
-  grant-yes f q a z g i j k l = rw (← h, g, i, j, k, l)
+-- ---- a message received: the tables around the lent lists are any, and what is sent goes to their message list
 
-  pub grant-no : b ≡ false → byClient (kept c r) t ≡ grantReceived s t c r d o n x e w y p
+module _ (s : Setup) (c : Copy) (r : Request) (d o n x e w y : ℕ) (p : Payload) (b : Bool) (h : b ≡ grantTaken c r n w p) (k l : List ℕ) where
+  pub grant-yes : (f : Copy) (q : Request) (a z : List ℕ) → b ≡ true → f ≡ filled c w y p → q ≡ ended r → a ≡ set k (byVolume d (volumeOf s o)) e
+      → z ≡ set l (byVolume d (volumeOf s o)) x → (t : Tables)
+      → byClient (record { copy = f; request = q; sweep = Keep }) (withViews t (record { epoch = a; expiry = z })) ≡ grantReceived s (withViews t (record { epoch = k; expiry = l })) c r d o n x e w y p
   unfolding grantReceived
-  grant-no g = rw (← h, g)
+  grant-yes f q a z g i j u v t = rw (← h, g, i, j, u, v)
 
-pub invalidated : (t : Tables) (r : Request) (d o e w : ℕ) (u : Queue) (f : Copy) (q : Request) → u ≡ pushed (t .queue) (message d (Ack o e w)) → f ≡ noCopy → q ≡ forgotten r o
-    → byClient (record { copy = f; request = q; sweep = Keep }) (withQueue t u) ≡ invalidateReceived t r d o e w
+  pub grant-no : (g : Heard) → b ≡ false → g ≡ record { change = kept c r; reply = Nothing } → (t : Tables)
+      → byClient (g .change) (replied (withViews t (record { epoch = k; expiry = l })) (g .reply)) ≡ grantReceived s (withViews t (record { epoch = k; expiry = l })) c r d o n x e w y p
+  unfolding grantReceived
+  grant-no g f i t = rw (← h, f, i)
+
+pub invalidated : (r : Request) (d o e w : ℕ) (f : Copy) (q : Request) → f ≡ noCopy → q ≡ forgotten r o → (t : Tables)
+    → byClient (record { copy = f; request = q; sweep = Keep }) (sent t (message d (Ack o e w))) ≡ invalidateReceived t r d o e w
 unfolding invalidateReceived
-invalidated t r d o e w u f q h i j = rw (h, i, j)
+invalidated r d o e w f q i j t = rw (i, j)
 
-module _ (t : Tables) (c : Copy) (r : Request) (d v n e : ℕ) (b : Bool) (h : b ≡ stands r n) where
-  pub offer-yes : (q : Request) (u : Queue) (a z : List ℕ) → b ≡ true → q ≡ ended r → u ≡ pushed (t .queue) (message d (Dropped v n e))
-      → a ≡ set (t .views .epoch) (byVolume d v) e → z ≡ set (t .views .expiry) (byVolume d v) 0
-      → byClient (record { copy = c; request = q; sweep = Expire v }) (withQueue (withViews t (record { epoch = a; expiry = z })) u) ≡ offerReceived t c r d v n e
+module _ (c : Copy) (r : Request) (d v n e : ℕ) (b : Bool) (h : b ≡ stands r n) (k l : List ℕ) where
+  pub offer-yes : (q : Request) (a z : List ℕ) → b ≡ true → q ≡ ended r → a ≡ set k (byVolume d v) e → z ≡ set l (byVolume d v) 0 → (t : Tables)
+      → byClient (record { copy = c; request = q; sweep = Expire v }) (sent (withViews t (record { epoch = a; expiry = z })) (message d (Dropped v n e))) ≡ offerReceived (withViews t (record { epoch = k; expiry = l })) c r d v n e
   unfolding offerReceived
-  offer-yes q u a z g i j k l = rw (← h, g, i, j, k, l)
+  offer-yes q a z g i u w t = rw (← h, g, i, u, w)
 
-  pub offer-no : b ≡ false → byClient (kept c r) t ≡ offerReceived t c r d v n e
+  pub offer-no : (g : Heard) → b ≡ false → g ≡ record { change = kept c r; reply = Nothing } → (t : Tables)
+      → byClient (g .change) (replied (withViews t (record { epoch = k; expiry = l })) (g .reply)) ≡ offerReceived (withViews t (record { epoch = k; expiry = l })) c r d v n e
   unfolding offerReceived
-  offer-no g = rw (← h, g)
+  offer-no g f i t = rw (← h, f, i)
 
-shown-either : (b : Bool) (c : Copy) (r : Request) (t : Tables) → answered (kept c r) t (cond b (Shown (c .value)) AskFirst)
-    ≡ cond b (answered (kept c r) t (Shown (c .value))) (answered (kept c r) t AskFirst)
-shown-either true c r t = refl
-shown-either false c r t = refl
+-- ---- the steps
 
-module _ (s : Setup) (t : Tables) (c : Copy) (r : Request) (d : ℕ) where
-  pub read-law : (o : ℕ) (b : Bool) (a : Answer) → b ≡ shownAt (t .clock) (viewExpiryAt t d (volumeOf s o)) c → a ≡ cond b (Shown (c .value)) AskFirst
-      → answered (kept c r) t a ≡ readDecided s t c r d o
-  unfolding readDecided clientClock
-  read-law o b a h i = rw (i, shown-by s t c d o, ← h) (shown-either b c r t)
+pub read-by : (clock lease : ℕ) (c : Copy) (b : Bool) (a : Answer) → b ≡ shownAt clock lease c → a ≡ cond b (Shown (c .value)) AskFirst
+    → a ≡ cond (shownAt clock lease c) (Shown (c .value)) AskFirst
+read-by clock lease c b a h i = rw (← h) i
 
-  pub ask-law : (o : ℕ) (q : Request) (u : Queue) → q ≡ numbered r o → u ≡ pushed (t .queue) (message d (Renew o (r .next) (viewEpochAt t d (volumeOf s o)) (c .version)))
-      → answered (kept c q) (withQueue t u) Done ≡ askDecided s t c r d o
-  unfolding askDecided
-  ask-law o q u h i = rw (h, i)
-
-  pub restart-law : (q : Request) (a z : List ℕ) → q ≡ ended r → a ≡ storeEach always (byVolume d) (λ (v : ℕ). 0) (t .views .epoch) (s .volumes)
-      → z ≡ storeEach always (byVolume d) (λ (v : ℕ). 0) (t .views .expiry) (s .volumes)
-      → answered (record { copy = c; request = q; sweep = Erase }) (withViews t (record { epoch = a; expiry = z })) Done ≡ restartDecided s t c r d
-  unfolding restartDecided clientRestarted
-  restart-law q a z h i j = rw (h, i, j)
+pub restart-law : (s : Setup) (d : ℕ) (k l a z : List ℕ) → a ≡ storeEach always (byVolume d) (λ (v : ℕ). 0) k (s .volumes)
+    → z ≡ storeEach always (byVolume d) (λ (v : ℕ). 0) l (s .volumes)
+    → record { epoch = a; expiry = z } ≡ clientRestarted s (record { epoch = k; expiry = l }) d
+unfolding clientRestarted
+restart-law s d k l a z i j = rw (i, j)

@@ -1,19 +1,30 @@
 -- Step 2 by what it reads: the client's clock, its volume lease's expiry and the copy.
 use Prim.Native.Nat.{ℕ}
-use mathlib.Core.Bool.{Bool, not, _&&_}
+use mathlib.Core.Bool.{Bool, true, false, cond, not, _&&_}
 use mathlib.Core.Path.{_≡_, refl}
 use lib.Dec.{eqb}
 use Rattle.protocol.specs.declared.records.Copy.{Copy}
+use Rattle.protocol.specs.declared.records.Request.{Request}
 use Rattle.protocol.specs.declared.setup.Setup.{Setup}
+use Rattle.protocol.specs.declared.step.Answer.{Answer}
+use Rattle.protocol.specs.declared.step.Answer.the-variants.{Shown, AskFirst}
 use Rattle.protocol.specs.declared.tables.Tables.{Tables}
 use Rattle.protocol.specs.Setup.{volumeOf}
 use Rattle.protocol.specs.Tables.{viewExpiryAt}
 use Rattle.protocol.specs.Leases.{clientAlive, clientClock}
 use Rattle.protocol.specs.Client.{showable}
+use Rattle.protocol.specs.Decide.{kept, answered, readDecided}
 
 unfoldable pub shownAt : ℕ → ℕ → Copy → Bool
 shownAt clock expiry c = not (eqb (c .version) 0) && (clientAlive clock expiry && clientAlive clock (c .expiry))
 
-pub shown-by : (s : Setup) (t : Tables) (c : Copy) (d o : ℕ) → showable s t c d o ≡ shownAt (clientClock t d) (viewExpiryAt t d (volumeOf s o)) c
-unfolding showable shownAt
-shown-by s t c d o = refl
+either : (b : Bool) (t : Tables) (c : Copy) (r : Request) → answered (kept c r) t (cond b (Shown (c .value)) AskFirst)
+    ≡ cond b (answered (kept c r) t (Shown (c .value))) (answered (kept c r) t AskFirst)
+either true t c r = refl
+either false t c r = refl
+
+-- what `steps::read` answers is all that a read decides
+pub read-answered : (s : Setup) (t : Tables) (c : Copy) (r : Request) (d o : ℕ) (a : Answer)
+    → a ≡ cond (shownAt (t .clock) (viewExpiryAt t d (volumeOf s o)) c) (Shown (c .value)) AskFirst → answered (kept c r) t a ≡ readDecided s t c r d o
+unfolding readDecided showable shownAt clientClock
+read-answered s t c r d o a e = rw e (either (showable s t c d o) t c r)

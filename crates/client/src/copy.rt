@@ -1,6 +1,6 @@
 ghost use mathlib.Core.Path.{_≡_};
-ghost use Prim.Native.Nat.{_<_};
 ghost use Rattle.protocol.specs.Leases.{clientAlive};
+ghost use Rattle.protocol.specs.Setup.{volumeOf};
 ghost use Rattle.protocol.specs.Tables.{noCopy};
 ghost use Rattle.protocol.specs.Client.{storable, grantTaken, payloadOr, filled, swept};
 ghost use Rattle.client.specs.Shown.{shownAt};
@@ -77,15 +77,24 @@ pub fn none() -> Copy
     }
 }
 
-// What becomes of a client's copy of an object when all its copies are swept.
+// An object's volume, and 0 where there is no slot.
+fn volume_of(s: Setup, o: usize) -> u8
+    ensures { λ r. ⌜ r ≡ volumeOf s o ⌝ }
+{
+    if o < 32 {
+        return s.volume[o];
+    }
+    0
+}
+
+// What becomes of a client's copy of an object when all its copies are swept. An OFFER leaves version and value.
 pub fn sweep(s: Setup, g: Sweep, c: Copy, object: usize) -> Copy
-    requires { ⌜ object < 32 ⌝ }
     ensures { λ r. ⌜ r ≡ swept s g c object ⌝ }
 {
     match g {
         Sweep::Keep => c,
         Sweep::Expire(v) => {
-            if s.volume[object] == v {
+            if volume_of(s, object) == v {
                 return Copy {
                     version: c.version,
                     value: c.value,

@@ -1,26 +1,46 @@
 ghost use mathlib.Core.Path.{_≡_};
 ghost use Prim.Native.Nat.{_<_};
+ghost use Rattle.protocol.specs.declared.tables.Tables.{Tables};
 ghost use Rattle.protocol.specs.Setup.{volumeOf};
-ghost use Rattle.protocol.specs.Decide.{grantReceived, invalidateReceived, offerReceived};
+ghost use Rattle.protocol.specs.Tables.{withViews};
+ghost use Rattle.protocol.specs.Server.{replied};
+ghost use Rattle.protocol.specs.Decide.{kept, byClient, grantReceived, invalidateReceived, offerReceived};
 use crate::copy;
 use crate::request;
 use crate::view;
 use protocol::message::Kind;
 use protocol::message::Message;
 use protocol::message::Payload;
+use protocol::message::Reply;
 use protocol::records::Copy;
 use protocol::records::Request;
 use protocol::setup::Setup;
 use protocol::step::Change;
-use protocol::step::Counted;
-use protocol::step::Received;
 use protocol::step::Sweep;
-use protocol::tables::Tables;
+
+// What becomes of the client's records, and what it sends. What it knows of its volumes changes in the lent lists.
+pub struct Heard {
+    pub change: Change,
+    pub reply: Reply,
+}
+
+// A message that is not taken.
+fn ignored(c: Copy, r: Request) -> Heard
+    ensures { λ g. ⌜ g ≡ record { change = kept c r; reply = Reply.Nothing } ⌝ }
+{
+    Heard {
+        change: Change {
+            copy: c,
+            request: r,
+            sweep: Sweep::Keep,
+        },
+        reply: Reply::Nothing,
+    }
+}
 
 // GRANT: "store its fields, epoch too, and end the request".
 pub fn grant(
     s: Setup,
-    t: Tables,
     c: Copy,
     r: Request,
     client: u8,
@@ -31,51 +51,31 @@ pub fn grant(
     version: u32,
     expiry: u32,
     payload: Payload,
-) -> Received
+    epochs: &mut [u32; 128],
+    expiries: &mut [u32; 128],
+) -> Heard
     requires { ⌜ (client < 16) × (object < 32) × (volumeOf s object < 8) ⌝ }
-    ensures { λ g. ⌜ g ≡ grantReceived s t c r client object number lease epoch version expiry payload ⌝ }
+    ensures { λ g. ⌜ ((t : Tables) → byClient (g .change) (replied (withViews t (record { epoch = now (epochs .exit); expiry = now (expiries .exit) })) (g .reply)) ≡ grantReceived s (withViews t (record { epoch = now (epochs .entry); expiry = now (expiries .entry) })) c r client object number lease epoch version expiry payload) ⌝ }
 {
     if copy::grant_taken(c, r, number, version, payload) {
         let v = s.volume[object as usize] as usize;
-        let mut u = t;
-        view::put(&mut u.views.epoch, client as usize, v, epoch);
-        view::put(&mut u.views.expiry, client as usize, v, lease);
-        let change = Change {
-            copy: copy::fill(c, version, expiry, payload),
-            request: request::end(r),
-            sweep: Sweep::Keep,
-        };
-        return Received {
-            change: change,
-            counted: Counted {
-                count: 0,
-                tables: u,
+        view::put(&mut *epochs, client as usize, v, epoch);
+        view::put(&mut *expiries, client as usize, v, lease);
+        return Heard {
+            change: Change {
+                copy: copy::fill(c, version, expiry, payload),
+                request: request::end(r),
+                sweep: Sweep::Keep,
             },
+            reply: Reply::Nothing,
         };
     }
-    Received {
-        change: Change {
-            copy: c,
-            request: r,
-            sweep: Sweep::Keep,
-        },
-        counted: Counted {
-            count: 0,
-            tables: t,
-        },
-    }
+    ignored(c, r)
 }
 
 // INVALIDATE: "erase the copy, forget a standing request for that object, send ACK with the same epoch and new version".
-pub fn invalidate(
-    t: Tables,
-    r: Request,
-    client: u8,
-    object: u8,
-    epoch: u32,
-    version: u32,
-) -> Received
-    ensures { λ g. ⌜ g ≡ invalidateReceived t r client object epoch version ⌝ }
+pub fn invalidate(r: Request, client: u8, object: u8, epoch: u32, version: u32) -> Heard
+    ensures { λ g. ⌜ ((t : Tables) → byClient (g .change) (replied t (g .reply)) ≡ invalidateReceived t r client object epoch version) ⌝ }
 {
     let m = Message {
         client: client,
@@ -85,35 +85,29 @@ pub fn invalidate(
             version: version,
         },
     };
-    let q = t.queue;
-    let p = queue::push(q, m);
-    let mut u = t;
-    u.queue = p;
-    Received {
+    Heard {
         change: Change {
             copy: copy::none(),
             request: request::forget(r, object),
             sweep: Sweep::Keep,
         },
-        counted: Counted {
-            count: 0,
-            tables: u,
-        },
+        reply: Reply::Send(m),
     }
 }
 
 // OFFER: "Take its epoch, set that volume's expiry and all its object expiries to 0, end the request, send DROPPED with that number and epoch."
 pub fn offer(
-    t: Tables,
     c: Copy,
     r: Request,
     client: u8,
     volume: u8,
     number: u32,
     epoch: u32,
-) -> Received
+    epochs: &mut [u32; 128],
+    expiries: &mut [u32; 128],
+) -> Heard
     requires { ⌜ (client < 16) × (volume < 8) ⌝ }
-    ensures { λ g. ⌜ g ≡ offerReceived t c r client volume number epoch ⌝ }
+    ensures { λ g. ⌜ ((t : Tables) → byClient (g .change) (replied (withViews t (record { epoch = now (epochs .exit); expiry = now (expiries .exit) })) (g .reply)) ≡ offerReceived (withViews t (record { epoch = now (epochs .entry); expiry = now (expiries .entry) })) c r client volume number epoch) ⌝ }
 {
     if request::stands(r, number) {
         let m = Message {
@@ -124,33 +118,16 @@ pub fn offer(
                 epoch: epoch,
             },
         };
-        let q = t.queue;
-        let p = queue::push(q, m);
-        let mut u = t;
-        view::put(&mut u.views.epoch, client as usize, volume as usize, epoch);
-        view::put(&mut u.views.expiry, client as usize, volume as usize, 0);
-        u.queue = p;
-        return Received {
+        view::put(&mut *epochs, client as usize, volume as usize, epoch);
+        view::put(&mut *expiries, client as usize, volume as usize, 0);
+        return Heard {
             change: Change {
                 copy: c,
                 request: request::end(r),
                 sweep: Sweep::Expire(volume),
             },
-            counted: Counted {
-                count: 0,
-                tables: u,
-            },
+            reply: Reply::Send(m),
         };
     }
-    Received {
-        change: Change {
-            copy: c,
-            request: r,
-            sweep: Sweep::Keep,
-        },
-        counted: Counted {
-            count: 0,
-            tables: t,
-        },
-    }
+    ignored(c, r)
 }

@@ -1,10 +1,13 @@
 ghost use mathlib.Core.Bool.{cond};
 ghost use mathlib.Core.Path.{_≡_};
 ghost use Prim.Native.Nat.{_<_, _≤_};
+ghost use lib.ListN.{getD};
+ghost use Rattle.protocol.specs.declared.tables.Tables.{Tables};
 ghost use Rattle.protocol.specs.Setup.{volumeOf};
-ghost use Rattle.protocol.specs.Decide.{readDecided, askDecided, restartDecided};
+ghost use Rattle.protocol.specs.Tables.{byVolume, withViews};
+ghost use Rattle.protocol.specs.Client.{renewal, clientRestarted};
+ghost use Rattle.client.specs.Shown.{shownAt};
 use crate::copy;
-use crate::request;
 use crate::view;
 use protocol::message::Kind;
 use protocol::message::Message;
@@ -12,11 +15,6 @@ use protocol::records::Copy;
 use protocol::records::Request;
 use protocol::setup::Setup;
 use protocol::step::Answer;
-use protocol::step::Change;
-use protocol::step::Decision;
-use protocol::step::Outcome;
-use protocol::step::Sweep;
-use protocol::tables::Tables;
 
 // "shown with its value; else "ask first"".
 fn shown(ok: bool, value: u64) -> Answer
@@ -28,81 +26,41 @@ fn shown(ok: bool, value: u64) -> Answer
     Answer::AskFirst
 }
 
-// Step 2: no table and no record changes.
-pub fn read(s: Setup, t: Tables, c: Copy, r: Request, client: u8, object: u8) -> Decision
+// Step 2, by the clock, the clients' volume leases and the copy: no table and no record changes.
+pub fn read(s: Setup, clock: u32, leases: &[u32; 128], c: Copy, client: u8, object: u8) -> Answer
     requires { ⌜ (client < 16) × (object < 32) × (volumeOf s object < 8) ⌝ }
-    ensures { λ d. ⌜ d ≡ readDecided s t c r client object ⌝ }
+    ensures { λ a. ⌜ a ≡ cond (shownAt clock (getD (now (leases .entry)) (byVolume client (volumeOf s object)) 0) c) (Answer.Shown (c .value)) Answer.AskFirst ⌝ }
 {
     let v = s.volume[object as usize] as usize;
     let i = client as usize * 8 + v;
-    let w = t.views;
-    let lease = w.expiry[i];
-    let ok = copy::showable(t.clock, lease, c);
-    Decision {
-        change: Change {
-            copy: c,
-            request: r,
-            sweep: Sweep::Keep,
-        },
-        outcome: Outcome {
-            answer: shown(ok, c.value),
-            tables: t,
-        },
-    }
+    let ok = copy::showable(clock, leases[i], c);
+    shown(ok, c.value)
 }
 
-// Step 3: "send RENEW with number, known epoch and held version".
-pub fn ask(s: Setup, t: Tables, c: Copy, r: Request, client: u8, object: u8) -> Decision
-    requires { ⌜ (client < 16) × (object < 32) × (volumeOf s object < 8) × (r .next < 4294967295) ⌝ }
-    ensures { λ d. ⌜ d ≡ askDecided s t c r client object ⌝ }
+// Step 3: "send RENEW with number, known epoch and held version". The number is taken by `request::number`.
+pub fn ask(s: Setup, epochs: &[u32; 128], c: Copy, r: Request, client: u8, object: u8) -> Message
+    requires { ⌜ (client < 16) × (object < 32) × (volumeOf s object < 8) ⌝ }
+    ensures { λ m. ⌜ ((t : Tables) → m ≡ renewal s (withViews t (record { epoch = now (epochs .entry); expiry = t .views .expiry })) c r client object) ⌝ }
 {
     let v = s.volume[object as usize] as usize;
     let i = client as usize * 8 + v;
-    let w = t.views;
-    let m = Message {
+    Message {
         client: client,
         kind: Kind::Renew {
             object: object,
             number: r.next,
-            epoch: w.epoch[i],
+            epoch: epochs[i],
             version: c.version,
-        },
-    };
-    let q = t.queue;
-    let p = queue::push(q, m);
-    let mut u = t;
-    u.queue = p;
-    Decision {
-        change: Change {
-            copy: c,
-            request: request::number(r, object),
-            sweep: Sweep::Keep,
-        },
-        outcome: Outcome {
-            answer: Answer::Done,
-            tables: u,
         },
     }
 }
 
-// Step 9: "only its next request number remains".
-pub fn restart(s: Setup, t: Tables, c: Copy, r: Request, client: u8) -> Decision
+// Step 9: "only its next request number remains": what the client knows of each volume goes.
+pub fn restart(epochs: &mut [u32; 128], expiries: &mut [u32; 128], s: Setup, client: u8)
     requires { ⌜ (client < 16) × (s .volumes ≤ 8) ⌝ }
-    ensures { λ d. ⌜ d ≡ restartDecided s t c r client ⌝ }
+    ensures { λ _. ⌜ record { epoch = now (epochs .exit); expiry = now (expiries .exit) } ≡ clientRestarted s (record { epoch = now (epochs .entry); expiry = now (expiries .entry) }) client ⌝ }
 {
     let n = s.volumes as usize;
-    let mut u = t;
-    view::clear(&mut u.views.epoch, client as usize, n);
-    view::clear(&mut u.views.expiry, client as usize, n);
-    Decision {
-        change: Change {
-            copy: c,
-            request: request::end(r),
-            sweep: Sweep::Erase,
-        },
-        outcome: Outcome {
-            answer: Answer::Done,
-            tables: u,
-        },
-    }
+    view::clear(&mut *epochs, client as usize, n);
+    view::clear(&mut *expiries, client as usize, n);
 }

@@ -5,14 +5,17 @@ use native.Mathlib.Omega.{arith}
 use mathlib.Core.Bool.{Bool, true, false, cond, not, _&&_, _||_}
 use mathlib.Core.Path.{_≡_, refl, sym, ap, _∙_}
 use lib.Dec.{ltb, leb, eqb}
-use borrow.Author.Tests.{eq-eqb, ne-eqb, ltb-true, leb-true}
+use borrow.Author.Tests.{eq-eqb, ne-eqb, eqb-true, ltb-true, leb-true}
 use Rattle.protocol.specs.declared.message.Kind.{Kind}
 use Rattle.protocol.specs.declared.message.Kind.the-variants.{Renew, Grant, Invalidate, Ack, Offer, Dropped}
 use Rattle.protocol.specs.declared.message.Message.{Message}
 use Rattle.protocol.specs.declared.message.Payload.{Payload}
+use Rattle.protocol.specs.declared.message.Queue.{Queue}
 use Rattle.protocol.specs.declared.setup.Setup.{Setup}
 use Rattle.protocol.specs.declared.step.Step.{Step}
+use Rattle.protocol.specs.declared.step.Sweep.the-variants.{Erase}
 use Rattle.protocol.specs.declared.step.Target.{Target}
+use Rattle.protocol.specs.declared.tables.Views.{Views}
 use Rattle.protocol.specs.declared.tables.Tables.{Tables}
 use Rattle.protocol.specs.declared.records.Copy.{Copy}
 use Rattle.protocol.specs.declared.records.Request.{Request}
@@ -22,20 +25,20 @@ use Rattle.protocol.specs.declared.step.Counted.{Counted}
 use Rattle.protocol.specs.declared.step.Decision.{Decision}
 use Rattle.protocol.specs.declared.step.Received.{Received}
 use Rattle.protocol.specs.Setup.{volumeOf, inRange}
-use Rattle.protocol.specs.Messages.{messageAt, objectOf, doubled}
-use Rattle.protocol.specs.Tables.{epochAt, versionAt, standingAt, withQueue}
+use Rattle.protocol.specs.Client.{renewal, numbered, ended, clientRestarted}
+use Rattle.protocol.specs.Messages.{messageAt, objectOf, pushed, doubled}
+use Rattle.protocol.specs.Tables.{epochAt, versionAt, standingAt, withViews, withQueue}
 use Rattle.protocol.specs.Writes.{settled, writeStaged, clockStaged}
 use Rattle.protocol.specs.Server.{renewed, ackStaged, dropStaged, serverRestarted}
 use Rattle.protocol.specs.Sound.{kindSound, timeFits, canGrow, tablesSound}
 use Rattle.protocol.specs.SoundLaws.{ranged, volume-in}
-use Rattle.protocol.specs.Gate.{usesClient, usesObject, usesPlace, isWrite, isAsk, isRestartServer, known, refusalOfStep, refusal}
+use Rattle.protocol.specs.Gate.{usesClient, usesObject, usesPlace, isClock, isWrite, isAsk, isRestartServer, known, refusalOfStep, refusal}
 use Rattle.protocol.specs.Answers.{completedAnswer}
 use Rattle.protocol.specs.Decide.{kept, uncounted, byServer, grantReceived, invalidateReceived, offerReceived, received, answered, counting, readDecided, askDecided, delivered, taken, deliverDecided, restartDecided, performed, refusedWith, decided}
 use Rattle.protocol.specs.World.{targetAt, target}
-use Rattle.decide.specs.Taken.{taken-sound}
-use Rattle.decide.specs.Accepted.{accepted, client-in, object-in, place-in, none-stands, version-grows, epochs-grow, number-grows, refusal-none, sound-length, sound-message}
-use Rattle.laws.specs.Choice.{and-true}
-use Rattle.laws.specs.Loop.{allFrom}
+use Rattle.decide.specs.Accepted.{accepted, client-in, object-in, place-in, none-stands, version-grows, epochs-grow, number-grows, refusal-none, sound-length}
+use Rattle.laws.specs.Choice.{and-true, not-both}
+use Rattle.laws.specs.Loop.{allFrom, all-each}
 
 -- a byte times a number of 32 bits
 pub byte-times : (a b : ℕ) → a < 256 → b < 4294967296 → a * b ≤ 1099511627776
@@ -45,9 +48,10 @@ pub object-granted : (k : Kind) (o n x e w y : ℕ) (p : Payload) → k ≡ Gran
 object-granted k o n x e w y p h = rw h
 
 module _ (s : Setup) (t : Tables) (x : Step) (g : Target) where
-  pub target-delivered : (m : Message) (o : ℕ) → x .kind ≡ 5 → m ≡ messageAt (t .queue) (x .place) → o ≡ objectOf (m .kind) → g ≡ targetAt s (m .client) o → g ≡ target s t x
+  pub target-delivered : (l : Queue) (m : Message) (o : ℕ) → t .queue ≡ l → x .kind ≡ 5 → m ≡ messageAt l (x .place) → o ≡ objectOf (m .kind) → g ≡ targetAt s (m .client) o
+      → g ≡ target s t x
   unfolding target
-  target-delivered m o h p q e = rw (eq-eqb _ _ h, ← p, ← q) e
+  target-delivered l m o f h p q e = rw (eq-eqb _ _ h, f, ← p, ← q) e
 
   pub target-named : (x .kind ≡ 5 → ⊥) → g ≡ targetAt s (x .client) (x .object) → g ≡ target s t x
   unfolding target
@@ -92,49 +96,36 @@ module _ (s : Setup) (k : Kind) (h : kindSound s k ≡ true) where
 pub ruleset named = (client-16, object-32, volume-8, volume-of-8, volumes-8, renew-in, grant-in, ack-in, offer-in, dropped-in)
 
 -- a message received, by its kind
-module _ (s : Setup) (t : Tables) (c : Copy) (r : Request) (d : ℕ) (k : Kind) (g : Received) where
-  pub receive-renew : (o n e w : ℕ) (u : Tables) (m : Counted) → k ≡ Renew o n e w → u ≡ renewed s t d o n e w → m ≡ uncounted u → g ≡ byServer c r m → g ≡ received s t c r d k
+module _ (s : Setup) (t : Tables) (c : Copy) (r : Request) (d : ℕ) (k : Kind) where
+  pub receive-renew : (o n e w : ℕ) (u : Tables) → k ≡ Renew o n e w → u ≡ renewed s t d o n e w → byServer c r (uncounted u) ≡ received s t c r d k
   unfolding received
-  receive-renew o n e w u m q h i j = rw (q, ← h, ← i) j
+  receive-renew o n e w u q h = rw (q, h)
 
-  pub receive-grant : (o n x e w y : ℕ) (p : Payload) → k ≡ Grant o n x e w y p → g ≡ grantReceived s t c r d o n x e w y p → g ≡ received s t c r d k
+  pub receive-grant : (o n x e w y : ℕ) (p : Payload) (g : Received) → k ≡ Grant o n x e w y p → g ≡ grantReceived s t c r d o n x e w y p → g ≡ received s t c r d k
   unfolding received
-  receive-grant o n x e w y p q h = rw q h
+  receive-grant o n x e w y p g q h = rw q h
 
-  pub receive-invalidate : (o e w : ℕ) → k ≡ Invalidate o e w → g ≡ invalidateReceived t r d o e w → g ≡ received s t c r d k
+  pub receive-invalidate : (o e w : ℕ) (g : Received) → k ≡ Invalidate o e w → g ≡ invalidateReceived t r d o e w → g ≡ received s t c r d k
   unfolding received
-  receive-invalidate o e w q h = rw q h
+  receive-invalidate o e w g q h = rw q h
 
-  pub receive-ack : (o e w : ℕ) (m : Counted) → k ≡ Ack o e w → m ≡ settled s (ackStaged s t d o e w) → g ≡ byServer c r m → g ≡ received s t c r d k
+  pub receive-ack : (o e w : ℕ) (m : Counted) → k ≡ Ack o e w → m ≡ settled s (ackStaged s t d o e w) → byServer c r m ≡ received s t c r d k
   unfolding received
-  receive-ack o e w m q h i = rw (q, ← h) i
+  receive-ack o e w m q h = rw (q, h)
 
-  pub receive-offer : (v n e : ℕ) → k ≡ Offer v n e → g ≡ offerReceived t c r d v n e → g ≡ received s t c r d k
+  pub receive-offer : (v n e : ℕ) (g : Received) → k ≡ Offer v n e → g ≡ offerReceived t c r d v n e → g ≡ received s t c r d k
   unfolding received
-  receive-offer v n e q h = rw q h
+  receive-offer v n e g q h = rw q h
 
-  pub receive-dropped : (v n e : ℕ) (m : Counted) → k ≡ Dropped v n e → m ≡ settled s (dropStaged s t d v n e) → g ≡ byServer c r m → g ≡ received s t c r d k
+  pub receive-dropped : (v n e : ℕ) (m : Counted) → k ≡ Dropped v n e → m ≡ settled s (dropStaged s t d v n e) → byServer c r m ≡ received s t c r d k
   unfolding received
-  receive-dropped v n e m q h i = rw (q, ← h) i
+  receive-dropped v n e m q h = rw (q, h)
 
--- a message taken off the list of sound tables
-module _ (s : Setup) (t : Tables) (i : ℕ) (e : tablesSound s t ≡ true) (h : i < t .queue .len) where
-  pub left-sound : (u : Tables) → u ≡ taken t i → tablesSound s u ≡ true
-  left-sound u p = rw p (taken-sound s t i h e)
-
-  module _ (m : Message) (p : m ≡ messageAt (t .queue) i) where
-    pub taken-client : m .client < s .clients
-    taken-client = rw p (sound-message s t e i h .0)
-
-    pub taken-kind : kindSound s (m .kind) ≡ true
-    taken-kind = rw p (sound-message s t e i h .1)
-
-pub ruleset takes = (sound-length, left-sound, taken-client, taken-kind)
-
-pub deliver-law : (s : Setup) (t u : Tables) (c : Copy) (r : Request) (i : ℕ) (m : Message) (g : Received) → m ≡ messageAt (t .queue) i → u ≡ taken t i
-    → g ≡ received s u c r (m .client) (m .kind) → answered (g .change) (g .counted .tables) (Delivered m (g .counted .count)) ≡ deliverDecided s t c r i
+-- a message taken off the list, which leaves v, and received, which leaves u
+pub deliver-law : (s : Setup) (t v u : Tables) (c : Copy) (r : Request) (i : ℕ) (m : Message) (g : Received) → m ≡ messageAt (t .queue) i → v ≡ taken t i
+    → g ≡ received s v c r (m .client) (m .kind) → u ≡ g .counted .tables → answered (g .change) u (Delivered m (g .counted .count)) ≡ deliverDecided s t c r i
 unfolding deliverDecided
-deliver-law s t u c r i m g p q h = rw (← p, ← q, ← h)
+deliver-law s t v u c r i m g p q h e = rw (e, ← p, ← q, ← h)
 
 -- the answer of a clock step and of a write
 pub none-completed : (n : ℕ) → n ≡ 0 → Done ≡ completedAnswer n
@@ -207,8 +198,26 @@ module _ (s : Setup) (t : Tables) (r : Request) (x : Step) (a : refusalOfStep s 
   pub number-can-grow : eqb k 3 ≡ true → r .next < 4294967295
   number-can-grow e = number-grows (accepted s t r x a) (rw h e)
 
-  pub epochs-can-grow : eqb k 8 ≡ true → allFrom (λ (v : ℕ). canGrow (epochAt t v)) 0 (s .volumes) ≡ true
-  epochs-can-grow e = epochs-grow (accepted s t r x a) (rw h e)
+  pub epoch-can-grow : eqb k 8 ≡ true → (v : ℕ) → v < s .volumes → epochAt t v < 4294967295
+  epoch-can-grow e v i = ltb-true _ _ (all-each (λ (v : ℕ). canGrow (epochAt t v)) _ (epochs-grow (accepted s t r x a) (rw h e)) v i)
+
+-- which kinds are the server's
+pub at-eight : (x : Step) → (isClock x || isWrite x || isRestartServer x) ≡ true → (x .kind ≡ 1 → ⊥) → (x .kind ≡ 4 → ⊥) → x .kind ≡ 8
+at-eight x e h i = eqb-true _ _ (rw (ne-eqb _ _ h, ne-eqb _ _ i) at e)
+
+pub elsewhere : (x : Step) → (isClock x || isWrite x || isRestartServer x) ≡ false → (x .kind ≡ 1 → ⊥) × ((x .kind ≡ 4 → ⊥) × (x .kind ≡ 8 → ⊥))
+elsewhere x e = (λ h. not-both refl (rw h at e), (λ h. not-both refl (rw h at e), λ h. not-both refl (rw h at e)))
+
+-- an ask, and a client's restart
+pub asks : (s : Setup) (t : Tables) (c : Copy) (r q : Request) (d o : ℕ) (m : Message) (l : Queue) → m ≡ renewal s t c r d o → l ≡ pushed (t .queue) m → q ≡ numbered r o
+    → answered (kept c q) (withQueue t l) Done ≡ askDecided s t c r d o
+unfolding askDecided
+asks s t c r q d o m l e f g = rw (f, e, g)
+
+pub restarts : (s : Setup) (t : Tables) (c : Copy) (r q : Request) (d : ℕ) (v : Views) → v ≡ clientRestarted s (t .views) d → q ≡ ended r
+    → answered (record { copy = c; request = q; sweep = Erase }) (withViews t v) Done ≡ restartDecided s t c r d
+unfolding restartDecided
+restarts s t c r q d v e f = rw (e, f)
 
 -- what is left of the kinds: 9
 module _ (s : Setup) (t : Tables) (r : Request) (x : Step) (e : refusalOfStep s t r x ≡ 0) (n1 : x .kind ≡ 1 → ⊥) (n2 : x .kind ≡ 2 → ⊥) (n3 : x .kind ≡ 3 → ⊥)
@@ -225,7 +234,7 @@ module _ (s : Setup) (t : Tables) (r : Request) (x : Step) (e : refusalOfStep s 
   pub by-last : (c : Copy) (d : Decision) → d ≡ restartDecided s t c r (x .client) → d ≡ performed s t c r x
   by-last c d h = by-restart-client s t c r x d last h
 
-pub ruleset lets = (client-16, object-32, volume-8, volume-of-8, volumes-8, client-named, last-client, object-named, place-named, version-can-grow, none-standing, number-can-grow, epochs-can-grow, sound-length)
+pub ruleset lets = (client-16, object-32, volume-8, volume-of-8, volumes-8, client-named, last-client, object-named, place-named, version-can-grow, none-standing, number-can-grow, sound-length)
 
 module _ (s : Setup) (t : Tables) (records : Bool) (c : Copy) (r : Request) (x : Step) (k : ℕ) (p : k ≡ refusal s t records r x) where
   pub setup-asked : k ≡ 0 → inRange s ≡ true

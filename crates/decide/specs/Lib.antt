@@ -1,3 +1,2 @@
 pub mod Accepted
 pub mod Refused
-pub mod Taken

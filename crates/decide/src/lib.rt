@@ -1,5 +1,4 @@
 // One step decided (01, "Steps"): the questions, then the step by its kind, on the tables and the one copy and request that it can touch.
-ghost use mathlib.Core.Bool.{Bool, true};
 ghost use mathlib.Core.Path.{_≡_};
 ghost use Rattle.protocol.specs.Decide.{decided};
 use protocol::records::Copy;
@@ -13,9 +12,12 @@ use protocol::step::Step;
 use protocol::step::Sweep;
 use protocol::tables::Tables;
 
+pub mod client_steps;
 pub mod deliver;
 pub mod perform;
 pub mod records;
+pub mod server_steps;
+mod whole;
 
 // One step, for any input; `sound` says whether all lent records are.
 pub fn decide(s: Setup, t: Tables, sound: bool, c: Copy, r: Request, x: Step) -> Decision
@@ -23,7 +25,7 @@ pub fn decide(s: Setup, t: Tables, sound: bool, c: Copy, r: Request, x: Step) ->
 {
     let k = gate::refusal(s, t, sound, r, x);
     if k == 0 {
-        return perform::perform(s, t, c, r, x);
+        return whole::perform_on(s, t, c, r, x);
     }
     Decision {
         change: Change {

@@ -1,106 +1,94 @@
-// An accepted step, by its kind.
-ghost use mathlib.Core.Bool.{Bool, true};
+// An accepted step, in place: by its kind, on the arrays that it is lent and the small tables that it is handed.
+ghost use mathlib.Core.Bool.{true};
 ghost use mathlib.Core.Path.{_≡_};
 ghost use Rattle.protocol.specs.Setup.{inRange};
 ghost use Rattle.protocol.specs.Sound.{tablesSound};
 ghost use Rattle.protocol.specs.Gate.{refusalOfStep};
-ghost use Rattle.protocol.specs.Messages.{doubled};
-ghost use Rattle.protocol.specs.Tables.{withQueue};
-ghost use Rattle.protocol.specs.Answers.{completedAnswer};
-ghost use Rattle.protocol.specs.Decide.{kept, answered, counting, performed};
+ghost use Rattle.protocol.specs.Decide.{answered, performed};
+ghost use Rattle.leases.specs.Parts.{sessionsOf, tablesOf};
+use crate::client_steps;
 use crate::deliver;
+use crate::server_steps;
+use protocol::message::Queue;
 use protocol::records::Copy;
 use protocol::records::Request;
 use protocol::setup::Setup;
 use protocol::step::Answer;
 use protocol::step::Change;
-use protocol::step::Counted;
-use protocol::step::Decision;
-use protocol::step::Outcome;
 use protocol::step::Step;
-use protocol::step::Sweep;
-use protocol::tables::Tables;
+use protocol::tables::Objects;
+use protocol::tables::Volumes;
 
-// The answer of a clock step and of a write.
-fn completed_answer(n: u32) -> Answer
-    ensures { λ a. ⌜ a ≡ completedAnswer n ⌝ }
-{
-    if n == 0 {
-        return Answer::Done;
-    }
-    Answer::Completed(n)
+// What a step leaves of the tables that it was handed, what becomes of the client's records, and the answer.
+pub struct Performed {
+    pub clock: u32,
+    pub volumes: Volumes,
+    pub objects: Objects,
+    pub queue: Queue,
+    pub change: Change,
+    pub answer: Answer,
 }
 
-// The client's records stay.
-fn answer(c: Copy, r: Request, t: Tables, a: Answer) -> Decision
-    ensures { λ d. ⌜ d ≡ answered (kept c r) t a ⌝ }
-{
-    Decision {
-        change: Change {
-            copy: c,
-            request: r,
-            sweep: Sweep::Keep,
-        },
-        outcome: Outcome {
-            answer: a,
-            tables: t,
-        },
-    }
-}
-
-// Steps 1 and 4: the writes that completed are reported.
-fn count(c: Copy, r: Request, n: Counted) -> Decision
-    ensures { λ d. ⌜ d ≡ counting c r n ⌝ }
-{
-    let t = n.tables;
-    let a = completed_answer(n.count);
-    answer(c, r, t, a)
-}
-
-// Step 7: "send a copy, to the end".
-fn double(t: Tables, i: usize) -> Tables
-    ensures { λ u. ⌜ u ≡ withQueue t (doubled (t .queue) i) ⌝ }
-{
-    let q = t.queue;
-    let p = queue::double(q, i);
-    let mut u = t;
-    u.queue = p;
-    u
-}
-
-pub fn perform(s: Setup, t: Tables, c: Copy, r: Request, x: Step) -> Decision
+pub fn perform(
+    s: Setup,
+    clock: u32,
+    w: Volumes,
+    b: Objects,
+    q: Queue,
+    c: Copy,
+    r: Request,
+    x: Step,
+    seen: &mut [u32; 16],
+    expiry: &mut [u32; 128],
+    marks: &mut [bool; 128],
+    offer: &mut [u32; 128],
+    lease: &mut [u32; 512],
+    waiting: &mut [bool; 512],
+    epochs: &mut [u32; 128],
+    expiries: &mut [u32; 128],
+) -> Performed
     requires { ⌜ inRange s ≡ true ⌝ }
-    requires { ⌜ tablesSound s t ≡ true ⌝ }
-    requires { ⌜ refusalOfStep s t r x ≡ 0 ⌝ }
-    ensures { λ d. ⌜ d ≡ performed s t c r x ⌝ }
+    requires { ⌜ tablesSound s (tablesOf clock w (sessionsOf (now seen) (now expiry) (now marks) (now offer)) b (now lease) (now waiting) (record { epoch = now epochs; expiry = now expiries }) q) ≡ true ⌝ }
+    requires { ⌜ refusalOfStep s (tablesOf clock w (sessionsOf (now seen) (now expiry) (now marks) (now offer)) b (now lease) (now waiting) (record { epoch = now epochs; expiry = now expiries }) q) r x ≡ 0 ⌝ }
+    ensures { λ p. ⌜ answered (p .change) (tablesOf (p .clock) (p .volumes) (sessionsOf (now (seen .exit)) (now (expiry .exit)) (now (marks .exit)) (now (offer .exit))) (p .objects) (now (lease .exit)) (now (waiting .exit)) (record { epoch = now (epochs .exit); expiry = now (expiries .exit) }) (p .queue)) (p .answer) ≡ performed s (tablesOf clock w (sessionsOf (now (seen .entry)) (now (expiry .entry)) (now (marks .entry)) (now (offer .entry))) b (now (lease .entry)) (now (waiting .entry)) (record { epoch = now (epochs .entry); expiry = now (expiries .entry) }) q) c r x ⌝ }
 {
-    if x.kind == 1 {
-        return count(c, r, writes::settle::tick(s, t, x.clock));
-    }
-    if x.kind == 2 {
-        return client::steps::read(s, t, c, r, x.client, x.object);
-    }
-    if x.kind == 3 {
-        return client::steps::ask(s, t, c, r, x.client, x.object);
-    }
-    if x.kind == 4 {
-        return count(
+    if x.kind == 5 {
+        return deliver::deliver(
+            s,
+            clock,
+            w,
+            b,
+            q,
             c,
             r,
-            writes::accept::accept_write(s, t, x.object as usize, x.value),
+            x.place,
+            &mut *seen,
+            &mut *expiry,
+            &mut *marks,
+            &mut *offer,
+            &mut *lease,
+            &mut *waiting,
+            &mut *epochs,
+            &mut *expiries,
         );
     }
-    if x.kind == 5 {
-        return deliver::deliver(s, t, c, r, x.place);
+    if server_steps::at_server(x) {
+        return server_steps::perform(
+            s,
+            clock,
+            w,
+            b,
+            q,
+            c,
+            r,
+            x,
+            &mut *seen,
+            &mut *expiry,
+            &mut *marks,
+            &mut *offer,
+            &mut *lease,
+            &mut *waiting,
+        );
     }
-    if x.kind == 6 {
-        return answer(c, r, deliver::remove(t, x.place as usize), Answer::Done);
-    }
-    if x.kind == 7 {
-        return answer(c, r, double(t, x.place as usize), Answer::Done);
-    }
-    if x.kind == 8 {
-        return answer(c, r, server::restart::restart(s, t), Answer::Done);
-    }
-    client::steps::restart(s, t, c, r, x.client)
+    client_steps::perform(s, clock, w, b, q, c, r, x, &mut *epochs, &mut *expiries)
 }

@@ -1,8 +1,10 @@
 // Whose records a step can touch.
 ghost use mathlib.Core.Path.{_≡_};
+ghost use Rattle.protocol.specs.declared.tables.Tables.{Tables};
 ghost use Rattle.protocol.specs.Messages.{objectOf};
 ghost use Rattle.protocol.specs.World.{targetAt, target};
 use protocol::message::Kind;
+use protocol::message::Queue;
 use protocol::setup::Setup;
 use protocol::step::Step;
 use protocol::step::Target;
@@ -63,15 +65,22 @@ fn target_at(s: Setup, client: u8, object: u8) -> Target
     }
 }
 
-// The records that the step names, or those of the message that it delivers; for any input.
-pub fn target(s: Setup, t: Tables, x: Step) -> Target
-    ensures { λ r. ⌜ r ≡ target s t x ⌝ }
+// The records that the step names, or those of the message that it delivers, in tables with message list q; for any input.
+pub fn target_in(s: Setup, q: Queue, x: Step) -> Target
+    ensures { λ r. ⌜ ((t : Tables) → t .queue ≡ q → r ≡ target s t x) ⌝ }
 {
     if x.kind == 5 {
-        let q = t.queue;
         let m = queue::message_at(q, x.place as usize);
         let k = m.kind;
         return target_at(s, m.client, object_of(k));
     }
     target_at(s, x.client, x.object)
+}
+
+// The same in whole tables.
+pub fn target(s: Setup, t: Tables, x: Step) -> Target
+    ensures { λ r. ⌜ r ≡ target s t x ⌝ }
+{
+    let q = t.queue;
+    target_in(s, q, x)
 }

@@ -15,7 +15,9 @@ use Rattle.protocol.specs.declared.setup.Setup.{Setup}
 use Rattle.laws.specs.Loop.{allFrom}
 use Rattle.protocol.specs.declared.records.Request.{Request}
 use Rattle.protocol.specs.declared.step.Step.{Step}
+use Rattle.protocol.specs.declared.tables.Objects.{Objects}
 use Rattle.protocol.specs.declared.tables.Tables.{Tables}
+use Rattle.protocol.specs.declared.tables.Volumes.{Volumes}
 use Rattle.protocol.specs.Setup.{between, inRange}
 use Rattle.protocol.specs.Messages.{messageAt}
 use Rattle.protocol.specs.Sound.{timeFits, canGrow, clockLimit, kindSound, messageSound, queueSound, tablesSound, sound}
@@ -73,18 +75,19 @@ unfolding tablesSound
 scanned s t a b c d e p q u v w = rw (p, q, u, v, w)
 
 -- questions 2 to 6, put together
-pub questioned : (s : Setup) (t : Tables) (r : Request) (x : Step) (a b c d v e : Bool) (k : ℕ) → a ≡ known x → b ≡ existsWith s (t .queue .len) x
-    → c ≡ (not (isClock x) || between (t .clock) clockLimit (x .clock)) → d ≡ (not (isWrite x) || not (getD (t .objects .standing) (x .object) false))
-    → v ≡ (not (isWrite x) || canGrow (getD (t .objects .version) (x .object) 0)) → e ≡ allFrom (epochGrows (t .volumes .epoch)) 0 (s .volumes)
+pub questioned : (s : Setup) (clock : ℕ) (o : Objects) (w : Volumes) (len : ℕ) (r : Request) (x : Step) (a b c d v e : Bool) (k : ℕ) → a ≡ known x → b ≡ existsWith s len x
+    → c ≡ (not (isClock x) || between clock clockLimit (x .clock)) → d ≡ (not (isWrite x) || not (getD (o .standing) (x .object) false))
+    → v ≡ (not (isWrite x) || canGrow (getD (o .version) (x .object) 0)) → e ≡ allFrom (epochGrows (w .epoch)) 0 (s .volumes)
     → k ≡ orRefuse a 2 (orRefuse b 3 (orRefuse c 4 (orRefuse d 5 (orRefuse (v && (not (isRestartServer x) || e) && (not (isAsk x) || canGrow (r .next))) 6 0))))
-    → k ≡ refusalOfStep s t r x
+    → (t : Tables) → t .clock ≡ clock → t .volumes ≡ w → t .objects ≡ o → t .queue .len ≡ len → k ≡ refusalOfStep s t r x
 unfolding refusalOfStep exists timely vacant growable
-questioned s t r x a b c d v e k p q u w y z h = rw (p, q, u, w, y, z) at h
+questioned s clock o w len r x a b c d v e k p q u i y z h t f g j l = rw (f, g, j, l, ← p, ← q, ← u, ← i, ← y, ← z) h
 
 module _ (s : Setup) (t : Tables) (records : Bool) (r : Request) (x : Step) (i : Bool) (p : i ≡ inRange s) where
-  pub refusal-ranged : (a : Bool) (n k : ℕ) → i ≡ true → a ≡ tablesSound s t → n ≡ refusalOfStep s t r x → k ≡ orRefuse (records && a) 1 n → k ≡ refusal s t records r x
+  pub refusal-ranged : (a : Bool) (n k : ℕ) → i ≡ true → a ≡ tablesSound s t
+      → ((u : Tables) → u .clock ≡ t .clock → u .volumes ≡ t .volumes → u .objects ≡ t .objects → u .queue .len ≡ t .queue .len → n ≡ refusalOfStep s u r x) → k ≡ orRefuse (records && a) 1 n → k ≡ refusal s t records r x
   unfolding refusal sound
-  refusal-ranged a n k e f g h = rw (← p, e, ← f, ← g) h
+  refusal-ranged a n k e f g h = rw (← p, e, ← f, ← g t refl refl refl refl) h
 
   pub refusal-unranged : i ≡ false → 1 ≡ refusal s t records r x
   unfolding refusal sound

@@ -19,7 +19,10 @@ pub fn refusal(s: Setup, t: Tables, sound: bool, r: Request, x: Step) -> u8
 {
     if setup::in_range(s) {
         let whole = sound & tables::tables_sound(s, t);
-        let next = steps::refusal_of_step(s, t, r, x);
+        let volumes = t.volumes;
+        let objects = t.objects;
+        let q = t.queue;
+        let next = steps::refusal_of_step(s, t.clock, volumes, objects, q.len, r, x);
         return steps::or_refuse(whole, 1, next);
     }
     1

@@ -4,6 +4,7 @@ ghost use Prim.Native.Nat.{ℕ, _≤_};
 ghost use lib.Dec.{ltb, leb};
 ghost use lib.ListN.{getD};
 ghost use Rattle.laws.specs.Loop.{allFrom};
+ghost use Rattle.protocol.specs.declared.tables.Tables.{Tables};
 ghost use Rattle.protocol.specs.Sound.{canGrow, clockLimit};
 ghost use Rattle.protocol.specs.Setup.{between};
 ghost use Rattle.protocol.specs.Gate.{known, isClock, isWrite, isRestartServer, isAsk, orRefuse, refusalOfStep};
@@ -11,7 +12,8 @@ ghost use Rattle.gate.specs.Scans.{epochGrows, existsWith};
 use protocol::records::Request;
 use protocol::setup::Setup;
 use protocol::step::Step;
-use protocol::tables::Tables;
+use protocol::tables::Objects;
+use protocol::tables::Volumes;
 
 // The number where the answer is "no", else what the later questions give.
 pub fn or_refuse(ok: bool, number: u8, next: u8) -> u8
@@ -96,20 +98,27 @@ fn first_no(known: bool, exists: bool, timely: bool, vacant: bool, growable: boo
     or_refuse(known, 2, second)
 }
 
-// Questions 2 to 6, once the setup is in range.
-pub fn refusal_of_step(s: Setup, t: Tables, r: Request, x: Step) -> u8
+// Questions 2 to 6, once the setup is in range, of tables with these parts: no question reads the others.
+pub fn refusal_of_step(
+    s: Setup,
+    clock: u32,
+    w: Volumes,
+    b: Objects,
+    len: usize,
+    r: Request,
+    x: Step,
+) -> u8
     requires { ⌜ s .volumes ≤ 8 ⌝ }
-    ensures { λ k. ⌜ k ≡ refusalOfStep s t r x ⌝ }
+    ensures { λ k. ⌜ ((t : Tables) → t .clock ≡ clock → t .volumes ≡ w → t .objects ≡ b → t .queue .len ≡ len → k ≡ refusalOfStep s t r x) ⌝ }
 {
     let known = known(x);
-    let exists = exists(s, t.queue.len, x);
-    let timely = timely(t.clock, x);
-    let objects = t.objects;
-    let standing = objects.standing;
+    let exists = exists(s, len, x);
+    let timely = timely(clock, x);
+    let standing = b.standing;
     let vacant = vacant(standing, x);
-    let version = objects.version;
+    let version = b.version;
     let grows = version_grows(version, x);
-    let epochs = epochs_grow(&t.volumes.epoch, s.volumes as usize);
+    let epochs = epochs_grow(&w.epoch, s.volumes as usize);
     let growable = grows & ((x.kind != 8) | epochs) & ((x.kind != 3) | (r.next < 4294967295));
     first_no(known, exists, timely, vacant, growable)
 }

@@ -9,6 +9,10 @@ use Rattle.laws.specs.Store.{storeEach, always}
 use Rattle.protocol.specs.declared.message.Queue.{Queue}
 use Rattle.protocol.specs.declared.message.Kind.the-variants.{Invalidate}
 use Rattle.protocol.specs.declared.setup.Setup.{Setup}
+use Rattle.protocol.specs.declared.tables.Volumes.{Volumes}
+use Rattle.protocol.specs.declared.tables.Sessions.{Sessions}
+use Rattle.protocol.specs.declared.tables.Objects.{Objects}
+use Rattle.protocol.specs.declared.tables.Views.{Views}
 use Rattle.protocol.specs.declared.tables.Tables.{Tables}
 use Rattle.protocol.specs.Setup.{volumeOf}
 use Rattle.protocol.specs.Messages.{message, pushed, emptyQueue}
@@ -64,4 +68,38 @@ scene clock guard standing end waiting = record {
   holders = record { lease = []; waiting = waiting };
   views = freshViews;
   queue = emptyQueue;
+}
+
+-- ---- Rattle lends arrays, and no structs that hold them. So a function that changes tables in place is lent the arrays that it needs, and its
+-- contract says what becomes of any tables `t` that hold them.
+
+abbrev pub sessionsOf : List ℕ → List ℕ → List Bool → List ℕ → Sessions
+sessionsOf seen expiry unreachable offer = record { seen = seen; expiry = expiry; unreachable = unreachable; offer = offer }
+
+-- the sessions of t, with other marks
+abbrev pub withMarks : Tables → List Bool → Sessions
+withMarks t marks = sessionsOf (t .sessions .seen) (t .sessions .expiry) marks (t .sessions .offer)
+
+-- tables with the server's part replaced
+abbrev pub withServer : Tables → ℕ → Volumes → Sessions → Objects → List ℕ → List Bool → Tables
+withServer t clock volumes sessions objects lease waiting = record {
+  clock = clock;
+  volumes = volumes;
+  sessions = sessions;
+  objects = objects;
+  holders = record { lease = lease; waiting = waiting };
+  views = t .views;
+  queue = t .queue;
+}
+
+-- tables of all their parts
+abbrev pub tablesOf : ℕ → Volumes → Sessions → Objects → List ℕ → List Bool → Views → Queue → Tables
+tablesOf clock volumes sessions objects lease waiting views queue = record {
+  clock = clock;
+  volumes = volumes;
+  sessions = sessions;
+  objects = objects;
+  holders = record { lease = lease; waiting = waiting };
+  views = views;
+  queue = queue;
 }

@@ -1,10 +1,14 @@
 // The message list (01, "Tables"): send, remove, double, look.
 ghost use mathlib.Core.Path.{_≡_};
 ghost use Prim.Native.Nat.{_+_, _<_, _≤_};
+ghost use Rattle.protocol.specs.declared.tables.Tables.{Tables};
+ghost use Rattle.protocol.specs.Tables.{withQueue};
+ghost use Rattle.protocol.specs.Server.{replied};
 ghost use Rattle.protocol.specs.Messages.{blank, messageAt, pushed, removed, doubled};
 use protocol::message::Kind;
 use protocol::message::Message;
 use protocol::message::Queue;
+use protocol::message::Reply;
 
 // What an unused place holds.
 pub fn blank() -> Message
@@ -63,6 +67,16 @@ pub fn message_at(q: Queue, i: usize) -> Message
         return q.items[i];
     }
     blank()
+}
+
+// What the receiver of a message sends in answer.
+pub fn reply(q: Queue, y: Reply) -> Queue
+    ensures { λ r. ⌜ ((t : Tables) → withQueue t r ≡ replied (withQueue t q) y) ⌝ }
+{
+    match y {
+        Reply::Nothing => q,
+        Reply::Send(m) => push(q, m),
+    }
 }
 
 // "send a copy, to the end"

@@ -5,7 +5,7 @@ use mathlib.Core.Bool.{Bool, true, false, _&&_}
 use mathlib.Core.List.{List}
 use mathlib.Core.Logic.{⊎-elim}
 use mathlib.Core.Path.{_≡_, refl, sym, ap, _∙_}
-use lib.ListN.{length, getD, set, length-set, List·getD-eq-default}
+use lib.ListN.{length, getD, length-set}
 use lib.Seq.{set-out}
 use lib.Dec.{T, ltb, eqb}
 use borrow.Author.Tests.{ltb-true, ltb-false, eqb-true, lt-ltb, le-ltb, eq-eqb, ne-eqb}
@@ -15,17 +15,11 @@ use Rattle.protocol.specs.declared.records.Copy.{Copy}
 use Rattle.protocol.specs.declared.records.Request.{Request}
 use Rattle.protocol.specs.declared.setup.Setup.{Setup}
 use Rattle.protocol.specs.declared.step.Sweep.{Sweep}
-use Rattle.protocol.specs.declared.step.Sweep.the-variants.{Keep, Expire, Erase}
-use Rattle.protocol.specs.Setup.{volumeOf}
 use Rattle.protocol.specs.Tables.{noCopy}
 use Rattle.protocol.specs.Client.{swept, sweepAt, sweptAll, sweeps}
 use Rattle.records.specs.Places.{stopOf, isNone}
-use Rattle.records.specs.declared.turn.Turn.the-variants.{Keep as KeepIt, Take, End}
+use Rattle.records.specs.declared.turn.Turn.the-variants.{Keep, Take, End}
 use Rattle.records.specs.Turns.{isOver, turnOf}
-
--- an element past the end
-pub past-end : (l : List ℕ) (i n : ℕ) → length l ≡ n → n ≤ i → 0 ≡ getD l i 0
-past-end l i n e h = sym (List·getD-eq-default l 0 {n = i} (rw e h))
 
 -- an answer so far, and one more test
 pub and-again : (ok p q : Bool) {r : Bool} → (ok && (p && q)) ≡ r → ((ok && p) && q) ≡ r
@@ -35,26 +29,6 @@ and-again false p q e = e
 pub and-true : (ok : Bool) {r : Bool} → (ok && true) ≡ r → ok ≡ r
 and-true true e = e
 and-true false e = e
-
-module _ (s : Setup) (c : Copy) (o : ℕ) where
-  pub expires : (v w : ℕ) → w ≡ volumeOf s o → w ≡ v → record { version = c .version; value = c .value; expiry = 0 } ≡ swept s (Expire v) c o
-  unfolding swept
-  expires v w a e = rw (eq-eqb _ _ (sym a ∙ e))
-
-  pub expires-not : (v w : ℕ) → w ≡ volumeOf s o → (w ≡ v → ⊥) → c ≡ swept s (Expire v) c o
-  unfolding swept
-  expires-not v w a n = rw (ne-eqb _ _ (λ e. n (a ∙ e)))
-
-  pub swept-keep : (g : Sweep) → g ≡ Keep → c ≡ swept s g c o
-  unfolding swept
-  swept-keep g e = rw e
-
-  pub swept-expire : (g : Sweep) (v : ℕ) (r : Copy) → g ≡ Expire v → r ≡ swept s (Expire v) c o → r ≡ swept s g c o
-  swept-expire g v r e f = rw e f
-
-  pub swept-erase : (g : Sweep) → g ≡ Erase → noCopy ≡ swept s g c o
-  unfolding swept
-  swept-erase g e = rw e
 
 -- where a pass stops
 module _ (first n len : ℕ) where
@@ -112,7 +86,7 @@ module _ (before after : Request) where
   unfolding turnOf
   turn-end b e a f = rw (eq-eqb _ _ e, sym a ∙ f)
 
-  pub turn-keep : (b : Bool) → after .next ≡ before .next → b ≡ isOver after → b ≡ false → KeepIt ≡ turnOf before after
+  pub turn-keep : (b : Bool) → after .next ≡ before .next → b ≡ isOver after → b ≡ false → Keep ≡ turnOf before after
   unfolding turnOf
   turn-keep b e a f = rw (eq-eqb _ _ e, sym a ∙ f)
 

@@ -2,7 +2,7 @@
 use Prim.Native.Nat.{ℕ, zero, suc, _+_, _-_, _*_, _<_, _≤_}
 use native.Mathlib.Nat.{mul-le-mul}
 use native.Mathlib.Omega.{arith}
-use mathlib.Core.Bool.{Bool, true, false, cond, _&&_}
+use mathlib.Core.Bool.{true, false, cond, _&&_}
 use mathlib.Core.List.{List, [], _∷_, _++_}
 use mathlib.Core.Path.{_≡_, refl, sym, ap, _∙_}
 use lib.Dec.{ltb, eqb}
@@ -16,16 +16,14 @@ use Rattle.protocol.specs.declared.records.Copy.{Copy}
 use Rattle.protocol.specs.declared.records.Request.{Request}
 use Rattle.protocol.specs.declared.setup.Setup.{Setup}
 use Rattle.protocol.specs.declared.step.Answer.{Answer}
-use Rattle.protocol.specs.declared.step.Answer.the-variants.{Shown, AskFirst, Refused}
-use Rattle.client.specs.Shown.{shownAt}
+use Rattle.protocol.specs.declared.step.Answer.the-variants.{Refused}
 use Rattle.protocol.specs.declared.step.Decision.{Decision}
 use Rattle.protocol.specs.declared.step.Step.{Step}
 use Rattle.protocol.specs.declared.step.Sweep.{Sweep}
 use Rattle.protocol.specs.declared.step.Target.{Target}
 use Rattle.protocol.specs.declared.tables.Tables.{Tables}
-use Rattle.protocol.specs.Setup.{volumeOf, inRange}
-use Rattle.protocol.specs.Leases.{clientClock}
-use Rattle.protocol.specs.Tables.{byVolume, noCopy, noRequest, freshRequest, freshTables}
+use Rattle.protocol.specs.Setup.{inRange}
+use Rattle.protocol.specs.Tables.{noCopy, noRequest, freshRequest, freshTables}
 use Rattle.protocol.specs.Sound.{tablesSound, sound}
 use Rattle.protocol.specs.World.{target}
 use Rattle.protocol.specs.Soundness.Question.{sounds}
@@ -37,11 +35,10 @@ use Rattle.runfile.specs.Steps.{stepsOf, Parts, whole, formed-parts}
 use Rattle.runfile.specs.Reading.{formed, contents-read, setup-read}
 use Rattle.listing.specs.Listing.{header, length-header, line, lineOf}
 use Rattle.listing.specs.Written.{Written, written-then}
-use Rattle.protocol.specs.Client.{showable, swept, sweeps, sweepAt}
-use Rattle.protocol.specs.Gate.{isRead, refusalOfStep}
-use Rattle.protocol.specs.Decide.{kept, answered, readDecided, performed}
-use Rattle.decide.specs.Accepted.{Accepted, accepted, client-in, object-in}
-use Rattle.protocol.specs.Soundness.Steps.{ranges, recordsOf, read-performed}
+use Rattle.protocol.specs.Client.{swept, sweeps, sweepAt}
+use Rattle.protocol.specs.Gate.{refusalOfStep}
+use Rattle.protocol.specs.Decide.{kept, answered, performed}
+use Rattle.protocol.specs.Soundness.Steps.{ranges, recordsOf}
 use Rattle.run.specs.Owned.{copyCount, worldOf, Owned, placeIn, reach, decidedOn, sweep-fits}
 use Rattle.run.specs.declared.steps.Left.{Left}
 use Rattle.run.specs.Ran.{RanSteps, Roomy, Running, run-on, run-again}
@@ -77,14 +74,6 @@ module _ (s : Setup) (g : Sweep) (first : ℕ) where
 -- ---- a step decided
 pub eight-volumes : (s : Setup) → inRange s ≡ true → s .volumes ≤ 8
 eight-volumes s i = ranges s i .volumes .1
-
--- ---- what a read answers
-pub shown-yes : (b : Bool) (v : ℕ) → b ≡ true → Shown v ≡ cond b (Shown v) AskFirst
-shown-yes b v e = rw e
-
-pub read-by : (a : Answer) (b : Bool) (clock lease : ℕ) (c : Copy) → b ≡ shownAt clock lease c → a ≡ cond b (Shown (c .value)) AskFirst
-    → a ≡ cond (shownAt clock lease c) (Shown (c .value)) AskFirst
-read-by a b clock lease c e f = rw (← e) f
 
 -- ---- one turn of the loop over the steps
 pub tables-fresh : (s : Setup) (f : FreshTables) → f ≡ freshFor s → f .tables ≡ freshTables
@@ -152,21 +141,6 @@ module _ (s : Setup) (t : Tables) (r : Request) (x : Step) (no : ℕ) (e : no �
   pub none-refused : refusalOfStep s t r x ≡ 0
   none-refused = sym e ∙ h
 
-  pub read-fits : inRange s ≡ true → x .kind ≡ 2 → (x .client < 16) × (x .object < 32) × (volumeOf s (x .object) < 8)
-  read-fits i f = go (accepted s t r x none-refused)
-    where
-      reads : isRead x ≡ true
-      reads = eq-eqb _ _ f
-
-      go : Accepted s t r x → (x .client < 16) × (x .object < 32) × (volumeOf s (x .object) < 8)
-      go a =
-          let d : x .client < s .clients = client-in a (rw reads) in
-          let o : x .object < s .objects = object-in a (rw reads) in (
-            omega (arith, ranges s i .clients .1),
-            omega (arith, ranges s i .objects .1),
-            omega (arith, ranges s i .volumes .1, ranges s i .within (x .object) o),
-          )
-
 module _ (s : Setup) (t : Tables) (c : Copy) (r : Request) (x : Step) (no : ℕ) (e : no ≡ refusalOfStep s t r x) where
   pub refused-keeps : (no ≡ 0 → ⊥) → decidedOn s t c r x ≡ answered (kept c r) t (Refused no)
   refused-keeps h = rw (← e, ne-eqb no 0 h)
@@ -174,15 +148,6 @@ module _ (s : Setup) (t : Tables) (c : Copy) (r : Request) (x : Step) (no : ℕ)
   module _ (h : no ≡ 0) where
     pub performs : (d : Decision) → d ≡ performed s t c r x → d ≡ decidedOn s t c r x
     performs d f = rw (← e, h) f
-
-    pub read-keeps : (b : Answer) → x .kind ≡ 2
-        → b ≡ cond (shownAt (t .clock) (getD (t .views .expiry) (byVolume (x .client) (volumeOf s (x .object))) 0) c) (Shown (c .value)) AskFirst
-        → decidedOn s t c r x ≡ answered (kept c r) t b
-    unfolding readDecided showable shownAt clientClock
-    read-keeps b f g =
-        rw (← e, h, g) (read-performed s t c r x f
-        ∙ cond-keeps (λ (d : Decision). d ≡ answered (kept c r) t (cond (showable s t c (x .client) (x .object)) (Shown (c .value)) AskFirst)) (showable s t c (x .client) (x .object))
-        (λ k. rw k) (λ k. rw k))
 
 -- ---- a file printed
 module _ (l : List ℕ) (r : Contents) (e : r ≡ contentsOf l) (out₀ out : List ℕ) (at : ℕ) (w : Written out₀ out 0 header at) where

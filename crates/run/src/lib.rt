@@ -1,6 +1,5 @@
 // A run, from the bytes of its file to the bytes of its listing.
 mod places;
-mod reading;
 pub mod steps;
 
 ghost use Prim.Native.Nat.{ℕ, _≤_};

@@ -1,15 +1,17 @@
-// The steps of a run, one after the other, on tables and records that the run owns.
+// The steps of a run, one after the other, on tables and records that the run owns: arrays that are variables, so that a step is lent them.
 ghost use mathlib.Core.Bool.{true};
 ghost use mathlib.Core.Path.{_≡_};
 ghost use Rattle.protocol.specs.Setup.{inRange};
 ghost use Rattle.run.specs.Ran.{Roomy, RanSteps};
 use crate::places;
-use crate::reading;
 use protocol::records::Copy;
 use protocol::records::Request;
 use protocol::setup::Setup;
 use protocol::step::Answer;
+use protocol::tables::Holders;
+use protocol::tables::Sessions;
 use protocol::tables::Tables;
+use protocol::tables::Views;
 
 // What the steps leave: the place after their lines, the tables and the records.
 pub struct Left {
@@ -44,31 +46,61 @@ pub fn run_steps(
     };
     let mut requests = [setup::fresh::fresh_request(); 17];
     requests[16] = blank;
-    let f = setup::fresh::fresh(s);
-    let mut tables = f.tables;
+    let fresh = setup::fresh::fresh(s);
+    let t = fresh.tables;
+    let mut clock = t.clock;
+    let mut volumes = t.volumes;
+    let sessions = t.sessions;
+    let mut seen = sessions.seen;
+    let mut expiry = sessions.expiry;
+    let mut marks = sessions.unreachable;
+    let mut offer = sessions.offer;
+    let mut objects = t.objects;
+    let holders = t.holders;
+    let mut lease = holders.lease;
+    let mut waiting = holders.waiting;
+    let views = t.views;
+    let mut epochs = views.epoch;
+    let mut expiries = views.expiry;
+    let mut queue = t.queue;
     let mut next = at;
     let mut k = 0;
     while k < count {
         let x = runfile::step_at(file, first, k);
-        let a = decide::records::target(s, tables, x);
+        let a = decide::records::target_in(s, queue, x);
         let i = places::place_in(a.copy, all, 512);
         let j = places::place_in(a.client, clients, 16);
         let c = copies[i];
         let r = requests[j];
-        let no = gate::steps::refusal_of_step(s, tables, r, x);
+        let no = gate::steps::refusal_of_step(s, clock, volumes, objects, queue.len, r, x);
         if no != 0 {
             next = listing::write_line(out, next, (k + 1) as u64, Answer::Refused(no));
             k += 1;
             continue;
         }
-        if x.kind == 2 {
-            let shown = reading::read(s, tables.clock, &tables.views.expiry, c, x.client, x.object);
-            next = listing::write_line(out, next, (k + 1) as u64, shown);
-            k += 1;
-            continue;
-        }
-        let d = decide::perform::perform(s, tables, c, r, x);
-        let g = d.change;
+        let p = decide::perform::perform(
+            s,
+            clock,
+            volumes,
+            objects,
+            queue,
+            c,
+            r,
+            x,
+            &mut seen,
+            &mut expiry,
+            &mut marks,
+            &mut offer,
+            &mut lease,
+            &mut waiting,
+            &mut epochs,
+            &mut expiries,
+        );
+        clock = p.clock;
+        volumes = p.volumes;
+        objects = p.objects;
+        queue = p.queue;
+        let g = p.change;
         let copy = g.copy;
         copies[i] = copy;
         let request = g.request;
@@ -80,15 +112,32 @@ pub fn run_steps(
         }
         copies[512] = none;
         requests[16] = blank;
-        tables = d.outcome.tables;
-        let o = d.outcome;
-        let answer = o.answer;
+        let answer = p.answer;
         next = listing::write_line(out, next, (k + 1) as u64, answer);
         k += 1;
     }
     Left {
         next,
-        tables,
+        tables: Tables {
+            clock: clock,
+            volumes: volumes,
+            sessions: Sessions {
+                seen: seen,
+                expiry: expiry,
+                unreachable: marks,
+                offer: offer,
+            },
+            objects: objects,
+            holders: Holders {
+                lease: lease,
+                waiting: waiting,
+            },
+            views: Views {
+                epoch: epochs,
+                expiry: expiries,
+            },
+            queue: queue,
+        },
         copies,
         requests,
     }

@@ -15,14 +15,13 @@ use Rattle.writes.specs.declared.settle.Trigger.the-variants.{Volume}
 use Rattle.writes.specs.Triggers.{triggered, triggerStaged, oneStaged}
 use Rattle.server.specs.Parts.{ackTakenBy, dropTakenBy}
 
-module _ (s : Setup) (t : Tables) (d o e w v epoch version : ℕ) (standing m : Bool) (p : Placed s o v) (a : standing ≡ standingAt t o)
-    (b : epoch ≡ epochAt t v) (n : version ≡ versionAt t o) (k : m ≡ ackTakenBy standing epoch version e w) where
+module _ (s : Setup) (t : Tables) (d o e w v : ℕ) (m : Bool) (p : Placed s o v) (k : m ≡ ackTakenBy (standingAt t o) (epochAt t v) (versionAt t o) e w) where
   taken : m ≡ ackTaken s t o e w
   unfolding ackTaken
-  taken = rw (k, a, b, n, p .is)
+  taken = rw (k, p .is)
 
   pub ack-stands : m ≡ true → standingAt t o ≡ true
-  ack-stands h = sym a ∙ and-true standing _ (sym k ∙ h) .0
+  ack-stands h = and-true (standingAt t o) _ (sym k ∙ h) .0
 
   pub ack-yes : (u : Tables) (r : Counted) → m ≡ true → u ≡ acked t d o → r ≡ settled s (oneStaged s u o) → r ≡ settled s (ackStaged s t d o e w)
   unfolding ackStaged
@@ -32,11 +31,10 @@ module _ (s : Setup) (t : Tables) (d o e w v epoch version : ℕ) (standing m : 
   unfolding ackStaged settled foldFrom
   ack-no h = rw (sym taken ∙ h)
 
-module _ (s : Setup) (t : Tables) (d v n e epoch offer : ℕ) (m : Bool) (a : epoch ≡ epochAt t v) (b : offer ≡ offerAt t d v)
-    (k : m ≡ dropTakenBy epoch offer n e) where
+module _ (s : Setup) (t : Tables) (d v n e : ℕ) (m : Bool) (k : m ≡ dropTakenBy (epochAt t v) (offerAt t d v) n e) where
   answered : m ≡ dropTaken t d v n e
   unfolding dropTaken
-  answered = rw (k, a, b)
+  answered = k
 
   pub drop-yes : (u : Tables) (r : Counted) → m ≡ true → u ≡ dropped s t d v → r ≡ settled s (triggerStaged s (Volume v) u) → r ≡ settled s (dropStaged s t d v n e)
   unfolding dropStaged triggered

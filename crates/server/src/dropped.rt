@@ -1,15 +1,18 @@
 ghost use mathlib.Core.Path.{_≡_};
 ghost use mathlib.Core.Bool.{true, false};
 ghost use Prim.Native.Nat.{_<_};
+ghost use Rattle.protocol.specs.declared.tables.Tables.{Tables};
 ghost use Rattle.protocol.specs.Setup.{inRange};
-ghost use Rattle.protocol.specs.Sound.{tablesSound};
+ghost use Rattle.protocol.specs.SoundLaws.{Growing};
 ghost use Rattle.protocol.specs.Writes.{settled};
 ghost use Rattle.protocol.specs.Server.{dropped, dropStaged};
+ghost use Rattle.leases.specs.Parts.{sessionsOf, withServer};
 ghost use Rattle.server.specs.Parts.{dropTakenBy, inVolume};
 use leases::place;
 use protocol::setup::Setup;
-use protocol::step::Counted;
-use protocol::tables::Tables;
+use protocol::tables::Objects;
+use protocol::tables::Volumes;
+use writes::complete::Settled;
 use writes::settle;
 use writes::settle::Trigger;
 
@@ -51,39 +54,76 @@ fn drop_taken(epoch: u32, offer: u32, n: u32, e: u32) -> bool
 }
 
 // "Clear the dash's leases in the volume, mark, offer and waiting there"
-fn drop_client(s: Setup, t: Tables, d: usize, v: usize) -> Tables
+fn drop_client(
+    s: Setup,
+    expiry: &mut [u32; 128],
+    marks: &mut [bool; 128],
+    offer: &mut [u32; 128],
+    lease: &mut [u32; 512],
+    waiting: &mut [bool; 512],
+    d: usize,
+    v: usize,
+)
     requires { ⌜ inRange s ≡ true ⌝ }
     requires { ⌜ d < s .clients ⌝ }
     requires { ⌜ d < 16 ⌝ }
     requires { ⌜ v < 8 ⌝ }
-    ensures { λ r. ⌜ r ≡ dropped s t d v ⌝ }
+    ensures { λ _. ⌜ ((t : Tables) → withServer t (t .clock) (t .volumes) (sessionsOf (t .sessions .seen) (now (expiry .exit)) (now (marks .exit)) (now (offer .exit))) (t .objects) (now (lease .exit)) (now (waiting .exit)) ≡ dropped s (withServer t (t .clock) (t .volumes) (sessionsOf (t .sessions .seen) (now (expiry .entry)) (now (marks .entry)) (now (offer .entry))) (t .objects) (now (lease .entry)) (now (waiting .entry))) d v) ⌝ }
 {
     let i = d * 8 + v;
-    let mut u = t;
-    cells::put_128(&mut u.sessions.expiry, i, 0);
-    cells::mark_128(&mut u.sessions.unreachable, i, false);
-    cells::put_128(&mut u.sessions.offer, i, 0);
-    clear_leases(&mut u.holders.lease, s, d, v);
-    clear_waiting(&mut u.holders.waiting, s, d, v);
-    u
+    expiry[i] = 0;
+    marks[i] = false;
+    offer[i] = 0;
+    clear_leases(&mut *lease, s, d, v);
+    clear_waiting(&mut *waiting, s, d, v);
 }
 
 // DROPPED of client d for volume v, with number n and epoch e: ".. then, in object order, complete each standing write of the volume on ACK's condition."
-pub fn receive_dropped(s: Setup, t: Tables, d: usize, v: usize, n: u32, e: u32) -> Counted
+pub fn receive_dropped(
+    s: Setup,
+    clock: u32,
+    w: Volumes,
+    b: Objects,
+    expiry: &mut [u32; 128],
+    marks: &mut [bool; 128],
+    offer: &mut [u32; 128],
+    lease: &mut [u32; 512],
+    waiting: &mut [bool; 512],
+    d: usize,
+    v: usize,
+    n: u32,
+    e: u32,
+) -> Settled
     requires { ⌜ inRange s ≡ true ⌝ }
-    requires { ⌜ tablesSound s t ≡ true ⌝ }
+    requires { ⌜ Growing s b ⌝ }
     requires { ⌜ d < s .clients ⌝ }
     requires { ⌜ v < s .volumes ⌝ }
-    ensures { λ r. ⌜ r ≡ settled s (dropStaged s t d v n e) ⌝ }
+    ensures { λ r. ⌜ ((t : Tables) → record { count = r .count; tables = withServer t clock w (sessionsOf (t .sessions .seen) (now (expiry .exit)) (now (marks .exit)) (now (offer .exit))) (r .objects) (now (lease .exit)) (now (waiting .exit)) } ≡ settled s (dropStaged s (withServer t clock w (sessionsOf (t .sessions .seen) (now (expiry .entry)) (now (marks .entry)) (now (offer .entry))) b (now (lease .entry)) (now (waiting .entry))) d v n e)) ⌝ }
 {
-    let epoch = cells::at_8(&t.volumes.epoch, v);
-    let offer = cells::at_128(&t.sessions.offer, d * 8 + v);
-    if drop_taken(epoch, offer, n, e) {
-        let u = drop_client(s, t, d, v);
-        return settle::settle(s, Trigger::Volume(v), u);
+    if drop_taken(w.epoch[v], offer[d * 8 + v], n, e) {
+        drop_client(
+            s,
+            &mut *expiry,
+            &mut *marks,
+            &mut *offer,
+            &mut *lease,
+            &mut *waiting,
+            d,
+            v,
+        );
+        return settle::settle(
+            s,
+            Trigger::Volume(v),
+            clock,
+            w,
+            b,
+            &mut *marks,
+            &mut *lease,
+            &mut *waiting,
+        );
     }
-    Counted {
+    Settled {
         count: 0,
-        tables: t,
+        objects: b,
     }
 }

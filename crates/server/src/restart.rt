@@ -2,16 +2,21 @@ ghost use mathlib.Core.Path.{_≡_};
 ghost use mathlib.Core.Bool.{true};
 ghost use Prim.Native.Nat.{ℕ, _≤_, _<_};
 ghost use lib.ListN.{getD};
-ghost use Rattle.laws.specs.Loop.{allFrom};
+ghost use Rattle.protocol.specs.declared.tables.Tables.{Tables};
 ghost use Rattle.protocol.specs.Setup.{inRange};
-ghost use Rattle.protocol.specs.Sound.{canGrow};
-ghost use Rattle.protocol.specs.Tables.{epochAt, freshSessions, freshHolders};
+ghost use Rattle.protocol.specs.Tables.{freshSessions, freshHolders};
 ghost use Rattle.protocol.specs.Server.{serverRestarted};
+ghost use Rattle.leases.specs.Parts.{sessionsOf, withServer};
 ghost use Rattle.server.specs.Parts.{grownBy};
 use protocol::setup::Setup;
-use protocol::tables::Holders;
-use protocol::tables::Sessions;
-use protocol::tables::Tables;
+use protocol::tables::Objects;
+use protocol::tables::Volumes;
+
+// What a restart leaves of the volumes and the objects.
+pub struct Restarted {
+    pub volumes: Volumes,
+    pub objects: Objects,
+}
 
 // "every epoch grows by 1"
 fn grown(epoch: [u32; 8], n: usize) -> [u32; 8]
@@ -28,49 +33,63 @@ fn grown(epoch: [u32; 8], n: usize) -> [u32; 8]
     e
 }
 
-fn fresh_sessions() -> Sessions
-    ensures { λ r. ⌜ r ≡ freshSessions ⌝ }
+// "its other fields become fresh"
+fn clear(
+    seen: &mut [u32; 16],
+    expiry: &mut [u32; 128],
+    marks: &mut [bool; 128],
+    offer: &mut [u32; 128],
+    lease: &mut [u32; 512],
+    waiting: &mut [bool; 512],
+)
+    ensures { λ _. ⌜ sessionsOf (now (seen .exit)) (now (expiry .exit)) (now (marks .exit)) (now (offer .exit)) ≡ freshSessions ⌝ }
+    ensures { λ _. ⌜ record { lease = now (lease .exit); waiting = now (waiting .exit) } ≡ freshHolders ⌝ }
 {
-    Sessions {
-        seen: [0; 16],
-        expiry: [0; 128],
-        unreachable: [false; 128],
-        offer: [0; 128],
-    }
-}
-
-fn fresh_holders() -> Holders
-    ensures { λ r. ⌜ r ≡ freshHolders ⌝ }
-{
-    Holders {
-        lease: [0; 512],
-        waiting: [false; 512],
-    }
+    *seen = [0; 16];
+    *expiry = [0; 128];
+    *marks = [false; 128];
+    *offer = [0; 128];
+    *lease = [0; 512];
+    *waiting = [false; 512];
 }
 
 // Step 8: "values, versions, VE remain; every epoch grows by 1; guard becomes VE; its other fields become fresh. Messages remain."
-pub fn restart(s: Setup, t: Tables) -> Tables
+pub fn restart(
+    s: Setup,
+    volumes: Volumes,
+    objects: Objects,
+    seen: &mut [u32; 16],
+    expiry: &mut [u32; 128],
+    marks: &mut [bool; 128],
+    offer: &mut [u32; 128],
+    lease: &mut [u32; 512],
+    waiting: &mut [bool; 512],
+) -> Restarted
     requires { ⌜ inRange s ≡ true ⌝ }
-    requires { ⌜ allFrom (λ (v : ℕ). canGrow (epochAt t v)) 0 (s .volumes) ≡ true ⌝ }
-    ensures { λ r. ⌜ r ≡ serverRestarted s t ⌝ }
+    requires { ⌜ ((v : ℕ) → v < s .volumes → getD (volumes .epoch) v 0 < 4294967295) ⌝ }
+    ensures { λ r. ⌜ ((t : Tables) → withServer t (t .clock) (r .volumes) (sessionsOf (now (seen .exit)) (now (expiry .exit)) (now (marks .exit)) (now (offer .exit))) (r .objects) (now (lease .exit)) (now (waiting .exit)) ≡ serverRestarted s (withServer t (t .clock) volumes (sessionsOf (now (seen .entry)) (now (expiry .entry)) (now (marks .entry)) (now (offer .entry))) objects (now (lease .entry)) (now (waiting .entry)))) ⌝ }
 {
-    let mut w = t.volumes;
+    let mut w = volumes;
     let old = w.epoch;
-    let new = grown(old, s.volumes as usize);
     let guard = w.expiry;
+    let new = grown(old, s.volumes as usize);
     w.epoch = new;
     w.guard = guard;
-    let mut b = t.objects;
+    let mut b = objects;
     b.expiry = [0; 32];
     b.standing = [false; 32];
     b.pending = [0; 32];
     b.end = [0; 32];
-    let sessions = fresh_sessions();
-    let holders = fresh_holders();
-    let mut u = t;
-    u.volumes = w;
-    u.sessions = sessions;
-    u.objects = b;
-    u.holders = holders;
-    u
+    clear(
+        &mut *seen,
+        &mut *expiry,
+        &mut *marks,
+        &mut *offer,
+        &mut *lease,
+        &mut *waiting,
+    );
+    Restarted {
+        volumes: w,
+        objects: b,
+    }
 }

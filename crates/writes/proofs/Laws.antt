@@ -3,7 +3,7 @@ use Prim.Native.Nat.{ℕ, _+_, _-_, _<_, _≤_}
 use mathlib.Core.Bool.{Bool, true, false, not, _&&_, _||_}
 use mathlib.Core.List.{List, []}
 use mathlib.Core.Path.{_≡_, refl, sym, _∙_}
-use lib.ListN.{getD}
+use lib.ListN.{getD, set}
 use borrow.Author.Tests.{eq-eqb, ne-eqb}
 use Rattle.laws.specs.Choice.{and-true, not-both}
 use Rattle.laws.specs.Loop.{foldFrom, firstFrom, anyFrom, fold-again, fold-end}
@@ -11,14 +11,17 @@ use Rattle.laws.specs.Skip.{Found, fold-skip, first-is}
 use Rattle.protocol.specs.declared.message.Queue.{Queue}
 use Rattle.protocol.specs.declared.setup.Setup.{Setup}
 use Rattle.protocol.specs.declared.step.Counted.{Counted}
+use Rattle.protocol.specs.declared.tables.Objects.{Objects}
+use Rattle.protocol.specs.declared.tables.Sessions.{Sessions}
+use Rattle.protocol.specs.declared.tables.Volumes.{Volumes}
 use Rattle.protocol.specs.declared.tables.Tables.{Tables}
 use Rattle.protocol.specs.Setup.{volumeOf}
-use Rattle.protocol.specs.Tables.{standingAt, guardAt, versionAt, epochAt, withQueue}
+use Rattle.protocol.specs.Tables.{standingAt, guardAt, versionAt, byVolume, byObject, withObjects, withQueue, freshTables}
 use Rattle.protocol.specs.Leases.{serverAlive, guardPassed, endOver}
-use Rattle.protocol.specs.Writes.{ready, due, waited, completed, completeIf, settled, opened, begun, notified, written, writeStaged}
+use Rattle.protocol.specs.Writes.{ready, due, waited, posted, released, deserted, completed, completeIf, settled, waits, latestEnd, opened, awaited, notified, written, writeStaged}
 use Rattle.protocol.specs.Server.{ofVolume}
 use Rattle.protocol.specs.SoundLaws.{Growing, completed-keeps}
-use Rattle.leases.specs.Parts.{Placed, waitingFor, notifiedBy, scene}
+use Rattle.leases.specs.Parts.{Placed, forClients, waitsBy, latestBy, markedStill, waitingFor, notifiedBy, scene, sessionsOf, withMarks, withServer}
 use Rattle.writes.specs.declared.settle.Trigger.{Trigger}
 use Rattle.writes.specs.declared.settle.Trigger.the-variants.{Clock, Volume}
 use Rattle.writes.specs.Triggers.{sceneOf, triggered, oneStaged}
@@ -55,7 +58,14 @@ module _ (s : Setup) (clock : ℕ) (guard : List ℕ) (standing : List Bool) (en
   unfolding ready due waited guardPassed
   due-over x h q = rw q (or-out (getD standing o false) _ _ (sym e ∙ h))
 
--- ---- one object
+-- ---- a write completed in place, and one object
+
+pub completes : (s : Setup) (t : Tables) (clock : ℕ) (w : Volumes) (b c : Objects) (marks marks′ : List Bool) (lease lease′ : List ℕ) (waiting waiting′ : List Bool) (o v n : ℕ)
+    → Placed s o v → n ≡ s .clients → ((u : Tables) → c ≡ posted (withObjects u b) o) → marks′ ≡ markedStill waiting v o marks n → lease′ ≡ forClients o (λ (d : ℕ). 0) lease n
+    → waiting′ ≡ forClients o (λ (d : ℕ). false) waiting n
+    → withServer t clock w (withMarks t marks′) c lease′ waiting′ ≡ completed s (withServer t clock w (withMarks t marks) b lease waiting) o
+unfolding completed posted released deserted
+completes s t clock w b c marks marks′ lease lease′ waiting waiting′ o v n p h a m l k = rw (a t, m, l, k, h, p .is)
 
 module _ (s : Setup) (t : Tables) (o : ℕ) (r : Bool) (e : r ≡ ready s (scene (t .clock) (t .volumes .guard) (t .objects .standing) [] (t .holders .waiting)) o) where
   same-ready : r ≡ ready s t o
@@ -125,13 +135,29 @@ module _ (s : Setup) where
           fold-again (completeIf (triggered s p) s) (s .objects) o (record { count = n; tables = u }) (record { count = n + 1; tables = w }) A h
           (rw (hits h, e)) skipped
 
-  pub settle-grows : (u w : Tables) (o : ℕ) → Growing s (u .objects) → w ≡ completed s u o → Growing s (w .objects)
-  settle-grows u w o g e = rw e (completed-keeps s u o g)
+  pub settle-grows : (b c : Objects) (o : ℕ) → Growing s b → ((t : Tables) → c ≡ posted (withObjects t b) o) → Growing s c
+  unfolding completed
+  settle-grows b c o g e = rw (e freshTables) (completed-keeps s (withObjects freshTables b) o g)
 
 -- ---- a write accepted
 
-pub accepts : (s : Setup) (t u : Tables) (o x v : ℕ) (q : Queue) (r : Counted) → u ≡ begun s t o x → Placed s o v
-    → q ≡ notifiedBy (u .holders .waiting) o (epochAt t v) (versionAt t o + 1) (u .queue) (s .clients) → r ≡ settled s (oneStaged s (withQueue u q) o)
-    → r ≡ settled s (writeStaged s t o x)
-unfolding written notified opened
-accepts s t u o x v q r a b e f = rw (e, b .is, a) at f
+module _ (s : Setup) (t : Tables) (clock : ℕ) (w : Volumes) (b c : Objects) (q sent : Queue) (expiry : List ℕ) (marks : List Bool) (lease : List ℕ) (waiting awaiting : List Bool)
+    (o x v n : ℕ) where
+  abbrev sessions : Sessions
+  sessions = sessionsOf (t .sessions .seen) expiry marks (t .sessions .offer)
+
+  pub accepts : (r : Counted) → Placed s o v → n ≡ s .clients
+      → c ≡ record {
+        value = b .value;
+        version = b .version;
+        expiry = b .expiry;
+        standing = set (b .standing) o true;
+        pending = set (b .pending) o x;
+        end = set (b .end) o (latestBy clock (s .m) (getD (w .expiry) v 0) (getD (b .expiry) o 0) (getD (w .guard) v 0));
+      }
+      → awaiting ≡ forClients o (λ (d : ℕ). waitsBy clock (getD lease (byObject d o) 0) (getD marks (byVolume d v) false) (getD expiry (byVolume d v) 0)) waiting n
+      → sent ≡ notifiedBy awaiting o (getD (w .epoch) v 0) (getD (b .version) o 0 + 1) q n
+      → r ≡ settled s (oneStaged s (withQueue (withServer t clock w sessions c lease awaiting) sent) o)
+      → r ≡ settled s (writeStaged s (withQueue (withServer t clock w sessions b lease waiting) q) o x)
+  unfolding written notified opened awaited waits latestEnd
+  accepts r p h a e f g = rw (f, e, a, h, p .is) at g

@@ -2,19 +2,20 @@
 ghost use mathlib.Core.Path.{_≡_};
 ghost use mathlib.Core.Bool.{true};
 ghost use Prim.Native.Nat.{_≤_, _<_};
+ghost use Rattle.protocol.specs.declared.tables.Tables.{Tables};
 ghost use Rattle.protocol.specs.Setup.{inRange};
-ghost use Rattle.protocol.specs.Sound.{tablesSound};
 ghost use Rattle.protocol.specs.SoundLaws.{Growing};
-ghost use Rattle.protocol.specs.Writes.{settled, clockStaged};
+ghost use Rattle.protocol.specs.Writes.{settled};
 ghost use Rattle.laws.specs.Skip.{Found};
-ghost use Rattle.leases.specs.Parts.{scene};
+ghost use Rattle.leases.specs.Parts.{scene, withMarks, withServer};
 ghost use Rattle.writes.specs.Triggers.{triggered, triggerStaged};
 use crate::complete;
+use crate::complete::Settled;
 use crate::test;
 use leases::place;
 use protocol::setup::Setup;
-use protocol::step::Counted;
-use protocol::tables::Tables;
+use protocol::tables::Objects;
+use protocol::tables::Volumes;
 
 // What makes the server go through its standing writes: a clock step, which completes those that are due, or a DROPPED, which completes those of a
 // volume that are ready.
@@ -78,46 +79,38 @@ pub fn next_triggered<'a>(
 }
 
 // "In object order, complete each standing write" that is triggered, and count them.
-pub fn settle(s: Setup, p: Trigger, t: Tables) -> Counted
+pub fn settle(
+    s: Setup,
+    p: Trigger,
+    clock: u32,
+    w: Volumes,
+    objects: Objects,
+    marks: &mut [bool; 128],
+    lease: &mut [u32; 512],
+    waiting: &mut [bool; 512],
+) -> Settled
     requires { ⌜ inRange s ≡ true ⌝ }
-    requires { ⌜ Growing s (t .objects) ⌝ }
-    ensures { λ r. ⌜ r ≡ settled s (triggerStaged s p t) ⌝ }
+    requires { ⌜ Growing s objects ⌝ }
+    ensures { λ r. ⌜ ((t : Tables) → record { count = r .count; tables = withServer t clock w (withMarks t (now (marks .exit))) (r .objects) (now (lease .exit)) (now (waiting .exit)) } ≡ settled s (triggerStaged s p (withServer t clock w (withMarks t (now (marks .entry))) objects (now (lease .entry)) (now (waiting .entry))))) ⌝ }
 {
     let n = s.objects as usize;
-    let mut u = t;
+    let clients = s.clients as usize;
+    let mut b = objects;
     let mut count: u32 = 0;
     let mut from = 0;
     loop {
-        let o = next_triggered(
-            s,
-            p,
-            u.clock,
-            &u.volumes.guard,
-            &u.objects.standing,
-            &u.objects.end,
-            &u.holders.waiting,
-            from,
-        );
+        let o = next_triggered(s, p, clock, &w.guard, &b.standing, &b.end, &*waiting, from);
         if n <= o {
             break;
         }
-        u = complete::complete(s, u, o);
+        let v = place::volume_of(s, o);
+        complete::release(&mut *marks, &mut *lease, &mut *waiting, v, o, clients);
+        b = complete::post(b, o);
         count += 1;
         from = o + 1;
     }
-    Counted {
+    Settled {
         count: count,
-        tables: u,
+        objects: b,
     }
-}
-
-// Step 1: "set the clock. In object order, complete each standing write .."
-pub fn tick(s: Setup, t: Tables, x: u32) -> Counted
-    requires { ⌜ inRange s ≡ true ⌝ }
-    requires { ⌜ tablesSound s t ≡ true ⌝ }
-    ensures { λ r. ⌜ r ≡ settled s (clockStaged s t x) ⌝ }
-{
-    let mut u = t;
-    u.clock = x;
-    settle(s, Trigger::Clock, u)
 }

@@ -12,7 +12,7 @@ tables-sound-requires : tie.Need-tables-sound-requires
 tables-sound-requires c κs = let k = ranged _ (sym (c .before .in-range .ensures) ∙ c .if1 .taken) in search needs
 
 refusal-of-step-requires : tie.Need-refusal-of-step-requires
-refusal-of-step-requires c κs = let k = ranged _ (sym (c .before .before .in-range .ensures) ∙ c .before .if1 .taken) in search needs
+refusal-of-step-requires c κs = let k = ranged _ (sym (c .before .before .before .before .before .in-range .ensures) ∙ c .before .before .before .before .if1 .taken) in search needs
 
 or-refuse-requires : tie.Need-or-refuse-requires
 or-refuse-requires c κs = search needs

@@ -9,8 +9,8 @@ enum-told c = search needs
 enum-known-g : tie.Need-enum-known-g
 enum-known-g c = search needs
 
-element-copy-out-if1 : tie.Need-element-copy-out-if1
-element-copy-out-if1 c = search needs
+volume-of-requires : tie.Need-volume-of-requires
+volume-of-requires c κs = search needs
 
 returns : tie.Need-returns
 returns c = search sweeping
@@ -36,7 +36,7 @@ sweep-spec =
     (tie.spec
     enum-told
     enum-known-g
-    element-copy-out-if1
+    volume-of-requires
     returns
     enum-told-2
     none-requires

@@ -27,6 +27,9 @@ end-requires c κs = search needs
 returns : tie.Need-returns
 returns c = search grant-yes
 
+ignored-requires : tie.Need-ignored-requires
+ignored-requires c κs = search needs
+
 returns-2 : tie.Need-returns-2
 returns-2 c = search grant-no
 
@@ -42,4 +45,5 @@ grant-spec =
     fill-requires
     end-requires
     returns
+    ignored-requires
     returns-2)

@@ -3,9 +3,6 @@ use Rattle.client.proofs.Laws.{invalidated}
 use Rattle.client.proofs.receive.invalidate.Statement.{statement}
 use Rattle.client.proofs.receive.invalidate.Tie as tie
 
-push-requires : tie.Need-push-requires
-push-requires c κs = search needs
-
 none-requires : tie.Need-none-requires
 none-requires c κs = search needs
 
@@ -16,4 +13,4 @@ returns : tie.Need-returns
 returns c = search invalidated
 
 pub invalidate-spec : {M : Type 1} → statement M
-invalidate-spec = tie.close (tie.spec push-requires none-requires forget-requires returns)
+invalidate-spec = tie.close (tie.spec none-requires forget-requires returns)

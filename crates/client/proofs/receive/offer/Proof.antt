@@ -6,9 +6,6 @@ use Rattle.client.proofs.receive.offer.Tie as tie
 stands-requires : tie.Need-stands-requires
 stands-requires c κs = search needs
 
-push-requires : tie.Need-push-requires
-push-requires c κs = search needs
-
 put-requires : tie.Need-put-requires
 put-requires c κs = search needs
 
@@ -21,6 +18,9 @@ end-requires c κs = search needs
 returns : tie.Need-returns
 returns c = search offer-yes
 
+ignored-requires : tie.Need-ignored-requires
+ignored-requires c κs = search needs
+
 returns-2 : tie.Need-returns-2
 returns-2 c = search offer-no
 
@@ -29,9 +29,9 @@ offer-spec =
     tie.close
     (tie.spec
     stands-requires
-    push-requires
     put-requires
     put-requires-2
     end-requires
     returns
+    ignored-requires
     returns-2)

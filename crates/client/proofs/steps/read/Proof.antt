@@ -1,5 +1,5 @@
 use borrow.Author.Needs.{needs}
-use Rattle.client.proofs.Laws.{read-law}
+use Rattle.client.proofs.Laws.{read-by}
 use Rattle.client.proofs.steps.read.Statement.{statement}
 use Rattle.client.proofs.steps.read.Tie as tie
 
@@ -15,11 +15,11 @@ mul-i c = search needs
 add-i : tie.Need-add-i
 add-i c = search needs
 
-mul-lease : tie.Need-mul-lease
-mul-lease c = search needs
+mul-showable : tie.Need-mul-showable
+mul-showable c = search needs
 
-element-copy-out-lease : tie.Need-element-copy-out-lease
-element-copy-out-lease c = search needs
+element-copy-out-showable : tie.Need-element-copy-out-showable
+element-copy-out-showable c = search needs
 
 showable-requires : tie.Need-showable-requires
 showable-requires c κs = search needs
@@ -28,7 +28,7 @@ shown-requires : tie.Need-shown-requires
 shown-requires c κs = search needs
 
 returns : tie.Need-returns
-returns c = search read-law
+returns c = search (read-by, needs)
 
 pub read-spec : {M : Type 1} → statement M
 read-spec =
@@ -38,8 +38,8 @@ read-spec =
     cast-v
     mul-i
     add-i
-    mul-lease
-    element-copy-out-lease
+    mul-showable
+    element-copy-out-showable
     showable-requires
     shown-requires
     returns)

@@ -12,11 +12,8 @@ clear-requires c κs = search needs
 clear-requires-2 : tie.Need-clear-requires-2
 clear-requires-2 c κs = search needs
 
-end-requires : tie.Need-end-requires
-end-requires c κs = search needs
-
 returns : tie.Need-returns
 returns c = search restart-law
 
 pub restart-spec : {M : Type 1} → statement M
-restart-spec = tie.close (tie.spec cast-n clear-requires clear-requires-2 end-requires returns)
+restart-spec = tie.close (tie.spec cast-n clear-requires clear-requires-2 returns)

@@ -1,128 +1,61 @@
+use mathlib.Core.Path.{refl, sym, _∙_}
+use denote.Ref.{now}
+use Rattle.leases.specs.Parts.{sessionsOf, tablesOf}
+use Rattle.protocol.specs.Gate.{exists, timely, vacant, growable, refusalOfStep}
+use Rattle.protocol.specs.SoundLaws.{sound-clock, growing}
+use Rattle.decide.specs.Accepted.{sound-length}
+use Rattle.decide.proofs.Laws.{place-named, by-deliver, elsewhere}
 use borrow.Author.Needs.{needs}
-use mathlib.Core.Path.{refl}
-use Rattle.decide.proofs.Laws.{lets, epochs-can-grow, by-clock, by-read, by-ask, by-write, by-deliver, by-lose, by-double, by-restart-server, by-last}
 use Rattle.decide.proofs.perform.perform.Statement.{statement}
 use Rattle.decide.proofs.perform.perform.Tie as tie
 
-tick-requires : tie.Need-tick-requires
-tick-requires c κs = search lets
-
-count-requires : tie.Need-count-requires
-count-requires c κs = search needs
+deliver-requires : tie.Need-deliver-requires
+deliver-requires c κs =
+    let a = c .before .before .before .before .before .before .before .before .before .before .args in
+    let p = c .before .before .before .before .before .before .before .before .before .before .pre in
+    (p .0, (p .1 .0, place-named (a .s) (tablesOf (a .clock) (a .w) (sessionsOf (now (a .seen)) (now (a .expiry)) (now (a .marks)) (now (a .offer))) (a .b) (now (a .lease)) (now (a .waiting)) (record { epoch = now (a .epochs); expiry = now (a .expiries) }) (a .q)) (a .r) (a .x) (p .1 .1) 5 (c .before .before .before .before .before .before .before .before .if1 .taken) refl))
 
 returns : tie.Need-returns
-returns c = search by-clock
+returns c =
+    let a = c .before .before .before .before .before .before .before .before .before .before .before .args in
+    by-deliver (a .s) (tablesOf (a .clock) (a .w) (sessionsOf (now (a .seen)) (now (a .expiry)) (now (a .marks)) (now (a .offer))) (a .b) (now (a .lease)) (now (a .waiting)) (record { epoch = now (a .epochs); expiry = now (a .expiries) }) (a .q)) (a .c) (a .r) (a .x) _ (c .before .before .before .before .before .before .before .before .before .if1 .taken) (c .deliver .ensures)
 
-read-requires : tie.Need-read-requires
-read-requires c κs = search lets
+at-server-requires : tie.Need-at-server-requires
+at-server-requires c κs = search needs
+
+perform-requires : tie.Need-perform-requires
+unfolding refusalOfStep exists timely vacant growable
+perform-requires c κs =
+    let a = c .before .before .before .before .before .before .before .before .before .before .args in
+    let p = c .before .before .before .before .before .before .before .before .before .before .pre in
+    (p .0, (sound-clock (a .s) (tablesOf (a .clock) (a .w) (sessionsOf (now (a .seen)) (now (a .expiry)) (now (a .marks)) (now (a .offer))) (a .b) (now (a .lease)) (now (a .waiting)) (record { epoch = now (a .epochs); expiry = now (a .expiries) }) (a .q)) (p .1 .0), (growing (a .s) (tablesOf (a .clock) (a .w) (sessionsOf (now (a .seen)) (now (a .expiry)) (now (a .marks)) (now (a .offer))) (a .b) (now (a .lease)) (now (a .waiting)) (record { epoch = now (a .epochs); expiry = now (a .expiries) }) (a .q)) (p .1 .0), (sym (c .before .before .before .before .before .before .before .at-server .ensures) ∙ c .before .before .before .before .before .before .if2 .taken, λ v. p .1 .1))))
 
 returns-2 : tie.Need-returns-2
-returns-2 c = search by-read
+returns-2 c =
+    let a = c .before .before .before .before .before .before .before .before .before .before .before .args in
+    c .perform .ensures (record { epoch = now (a .epochs); expiry = now (a .expiries) })
 
-ask-requires : tie.Need-ask-requires
-ask-requires c κs = search lets
+perform-requires-2 : tie.Need-perform-requires-2
+unfolding refusalOfStep exists timely vacant growable
+perform-requires-2 c κs =
+    let a = c .before .before .before .before .before .before .args in
+    let p = c .before .before .before .before .before .before .pre in
+    let n = elsewhere (a .x) (sym (c .before .before .before .at-server .ensures) ∙ c .before .before .if2 .left) in
+    (p .0, (sound-length (a .s) (tablesOf (a .clock) (a .w) (sessionsOf (now (a .seen)) (now (a .expiry)) (now (a .marks)) (now (a .offer))) (a .b) (now (a .lease)) (now (a .waiting)) (record { epoch = now (a .epochs); expiry = now (a .expiries) }) (a .q)) (p .1 .0), ((n .0, (n .1 .0, (c .before .before .before .before .if1 .left, n .1 .1))), λ v l k. p .1 .1)))
 
 returns-3 : tie.Need-returns-3
-returns-3 c = search by-ask
-
-cast-accept-write : tie.Need-cast-accept-write
-cast-accept-write c = search needs
-
-accept-write-requires : tie.Need-accept-write-requires
-accept-write-requires c κs = search lets
-
-count-requires-2 : tie.Need-count-requires-2
-count-requires-2 c κs = search needs
-
-returns-4 : tie.Need-returns-4
-returns-4 c = search by-write
-
-deliver-requires : tie.Need-deliver-requires
-deliver-requires c κs = search lets
-
-returns-5 : tie.Need-returns-5
-returns-5 c = search by-deliver
-
-cast-remove : tie.Need-cast-remove
-cast-remove c = search needs
-
-remove-requires : tie.Need-remove-requires
-remove-requires c κs = search lets
-
-answer-requires : tie.Need-answer-requires
-answer-requires c κs = search needs
-
-returns-6 : tie.Need-returns-6
-returns-6 c = search by-lose
-
-cast-double : tie.Need-cast-double
-cast-double c = search needs
-
-double-requires : tie.Need-double-requires
-double-requires c κs = search needs
-
-answer-requires-2 : tie.Need-answer-requires-2
-answer-requires-2 c κs = search needs
-
-returns-7 : tie.Need-returns-7
-returns-7 c = search by-double
-
-restart-requires : tie.Need-restart-requires
-restart-requires c κs =
-    let e7 = c .before .before in
-    let e5 = e7 .before .before .before .before in
-    let e3 = e5 .before .before .before .before in
-    let e1 = e3 .before .before .before .before in
-    (search lets, epochs-can-grow _ _ _ _ (e1 .before .before .pre .1 .1) 8 (c .if8 .taken) refl)
-
-answer-requires-3 : tie.Need-answer-requires-3
-answer-requires-3 c κs = search needs
-
-returns-8 : tie.Need-returns-8
-returns-8 c = search by-restart-server
-
-restart-requires-2 : tie.Need-restart-requires-2
-restart-requires-2 c κs = search lets
-
-returns-9 : tie.Need-returns-9
-returns-9 c =
-    let e8 = c .before in
-    let e7 = e8 .before .before in
-    let e6 = e7 .before .before in
-    let e5 = e6 .before .before in
-    let e4 = e5 .before .before in
-    let e3 = e4 .before .before in
-    let e2 = e3 .before .before in
-    let e1 = e2 .before .before in
-    by-last _ _ _ _ (e1 .before .before .pre .1 .1) (e1 .if1 .left) (e2 .if2 .left) (e3 .if3 .left) (e4 .if4 .left) (e5 .if5 .left) (e6 .if6 .left) (e7 .if7 .left) (e8 .if8 .left) _ _ (c .restart2 .ensures)
+returns-3 c =
+    let a = c .before .before .before .before .before .before .before .args in
+    c .perform2 .ensures (sessionsOf (now (a .seen)) (now (a .expiry)) (now (a .marks)) (now (a .offer))) (now (a .lease)) (now (a .waiting))
 
 pub perform-spec : {M : Type 1} → statement M
 perform-spec =
     tie.close
     (tie.spec
-    tick-requires
-    count-requires
-    returns
-    read-requires
-    returns-2
-    ask-requires
-    returns-3
-    cast-accept-write
-    accept-write-requires
-    count-requires-2
-    returns-4
     deliver-requires
-    returns-5
-    cast-remove
-    remove-requires
-    answer-requires
-    returns-6
-    cast-double
-    double-requires
-    answer-requires-2
-    returns-7
-    restart-requires
-    answer-requires-3
-    returns-8
-    restart-requires-2
-    returns-9)
+    returns
+    at-server-requires
+    perform-requires
+    returns-2
+    perform-requires-2
+    returns-3)

@@ -9,14 +9,20 @@ mul-i c = search needs
 add-i : tie.Need-add-i
 add-i c = search needs
 
-put-128-requires : tie.Need-put-128-requires
-put-128-requires c κs = search needs
+mul-expiry : tie.Need-mul-expiry
+mul-expiry c = search needs
 
-mark-128-requires : tie.Need-mark-128-requires
-mark-128-requires c κs = search needs
+element-write-expiry : tie.Need-element-write-expiry
+element-write-expiry c = search needs
 
-put-128-requires-2 : tie.Need-put-128-requires-2
-put-128-requires-2 c κs = search needs
+element-write-marks : tie.Need-element-write-marks
+element-write-marks c = search needs
+
+mul-offer : tie.Need-mul-offer
+mul-offer c = search needs
+
+element-write-offer : tie.Need-element-write-offer
+element-write-offer c = search needs
 
 clear-leases-requires : tie.Need-clear-leases-requires
 clear-leases-requires c κs = search needs
@@ -26,7 +32,7 @@ clear-waiting-requires c κs = search needs
 
 returns : tie.Need-returns
 unfolding dropped disowned
-returns c = rw (c .before .before .before .before .before .before .before .before .put-128 .ensures, c .before .before .before .before .before .before .mark-128 .ensures, c .before .before .before .before .put-1282 .ensures, c .before .before .clear-leases .ensures, c .clear-waiting .ensures)
+returns c = λ t. rw (c .before .before .clear-leases .ensures, c .clear-waiting .ensures)
 
 pub drop-client-spec : {M : Type 1} → statement M
 drop-client-spec =
@@ -34,9 +40,11 @@ drop-client-spec =
     (tie.spec
     mul-i
     add-i
-    put-128-requires
-    mark-128-requires
-    put-128-requires-2
+    mul-expiry
+    element-write-expiry
+    element-write-marks
+    mul-offer
+    element-write-offer
     clear-leases-requires
     clear-waiting-requires
     returns)
