@@ -21,20 +21,18 @@ use Rattle.protocol.specs.declared.records.Copy.{Copy}
 use Rattle.protocol.specs.declared.records.Request.{Request}
 use Rattle.protocol.specs.declared.step.Answer.{Answer}
 use Rattle.protocol.specs.declared.step.Answer.the-variants.{Done, Completed, Delivered}
-use Rattle.protocol.specs.declared.step.Counted.{Counted}
 use Rattle.protocol.specs.declared.step.Decision.{Decision}
-use Rattle.protocol.specs.declared.step.Received.{Received}
 use Rattle.protocol.specs.Setup.{volumeOf, inRange}
 use Rattle.protocol.specs.Client.{renewal, numbered, ended, clientRestarted}
 use Rattle.protocol.specs.Messages.{messageAt, objectOf, pushed, doubled}
 use Rattle.protocol.specs.Tables.{epochAt, versionAt, standingAt, withViews, withQueue}
-use Rattle.protocol.specs.Writes.{settled, writeStaged, clockStaged}
+use Rattle.protocol.specs.Writes.{Counted, settled, writeStaged, clockStaged}
 use Rattle.protocol.specs.Server.{renewed, ackStaged, dropStaged, serverRestarted}
 use Rattle.protocol.specs.Sound.{kindSound, timeFits, canGrow, tablesSound}
 use Rattle.protocol.specs.SoundLaws.{ranged, volume-in}
 use Rattle.protocol.specs.Gate.{usesClient, usesObject, usesPlace, isClock, isWrite, isAsk, isRestartServer, known, refusalOfStep, refusal}
 use Rattle.protocol.specs.Answers.{completedAnswer}
-use Rattle.protocol.specs.Decide.{kept, uncounted, byServer, grantReceived, invalidateReceived, offerReceived, received, answered, counting, readDecided, askDecided, delivered, taken, deliverDecided, restartDecided, performed, refusedWith, decided}
+use Rattle.protocol.specs.Decide.{Received, kept, uncounted, byServer, grantReceived, invalidateReceived, offerReceived, received, answered, counting, readDecided, askDecided, delivered, taken, deliverDecided, restartDecided, performed, refusedWith, decided}
 use Rattle.protocol.specs.World.{targetAt, target}
 use Rattle.decide.specs.Accepted.{accepted, client-in, object-in, place-in, none-stands, version-grows, epochs-grow, number-grows, refusal-none, sound-length}
 use Rattle.laws.specs.Choice.{and-true, not-both}

@@ -62,10 +62,6 @@ module _ {s : Setup} {t : Tables} {r : Request} {x : Step} (a : Accepted s t r x
   pub place-in : usesPlace x ≡ true → x .place < t .queue .len
   place-in = named .1
 
-  pub time-in : isClock x ≡ true → x .clock ≤ clockLimit
-  unfolding timely
-  time-in h = leb-true _ _ (and-true (leb (t .clock) (x .clock)) (leb (x .clock) clockLimit) (asked (isClock x) _ (a .times) h) .1)
-
   pub none-stands : isWrite x ≡ true → standingAt t (x .object) ≡ false
   unfolding vacant
   none-stands h = not-true _ (asked (isWrite x) _ (a .finds) h)

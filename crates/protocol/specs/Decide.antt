@@ -12,16 +12,14 @@ use Rattle.protocol.specs.declared.setup.Setup.{Setup}
 use Rattle.protocol.specs.declared.step.Answer.{Answer}
 use Rattle.protocol.specs.declared.step.Answer.the-variants as answer
 use Rattle.protocol.specs.declared.step.Change.{Change}
-use Rattle.protocol.specs.declared.step.Counted.{Counted}
 use Rattle.protocol.specs.declared.step.Decision.{Decision}
-use Rattle.protocol.specs.declared.step.Received.{Received}
 use Rattle.protocol.specs.declared.step.Step.{Step}
 use Rattle.protocol.specs.declared.step.Sweep.the-variants.{Keep, Expire, Erase}
 use Rattle.protocol.specs.declared.tables.Tables.{Tables}
 use Rattle.protocol.specs.Setup.{volumeOf}
 use Rattle.protocol.specs.Messages.{message, messageAt, removed, doubled}
 use Rattle.protocol.specs.Tables.{withViews, withQueue, noCopy}
-use Rattle.protocol.specs.Writes.{settled, writeStaged, clockStaged}
+use Rattle.protocol.specs.Writes.{Counted, settled, writeStaged, clockStaged}
 use Rattle.protocol.specs.Server.{sent, renewed, ackStaged, dropStaged, serverRestarted}
 use Rattle.protocol.specs.Client.{showable, numbered, renewal, ended, stands, viewed, grantTaken, filled, forgotten, clientRestarted}
 use Rattle.protocol.specs.Answers.{completedAnswer}
@@ -33,7 +31,10 @@ kept c r = record { copy = c; request = r; sweep = Keep }
 abbrev pub uncounted : Tables → Counted
 uncounted t = record { count = 0; tables = t }
 
--- ---- a message received
+-- ---- a message received: what becomes of the client's records and of the tables
+pub record Received : Type 0 where
+  pub change : Change
+  pub counted : Counted
 
 -- the server receives: the client's records stay
 abbrev pub byServer : Copy → Request → Counted → Received

@@ -9,7 +9,6 @@ use Rattle.protocol.specs.declared.message.Message.{Message}
 use Rattle.protocol.specs.declared.message.Queue.{Queue}
 use Rattle.protocol.specs.declared.message.Kind.the-variants.{Invalidate}
 use Rattle.protocol.specs.declared.setup.Setup.{Setup}
-use Rattle.protocol.specs.declared.step.Counted.{Counted}
 use Rattle.protocol.specs.declared.tables.Objects.{Objects}
 use Rattle.protocol.specs.declared.tables.Sessions.{Sessions}
 use Rattle.protocol.specs.declared.tables.Holders.{Holders}
@@ -121,6 +120,11 @@ pub record Staged : Type 0 where
 -- a step that completes nothing
 abbrev pub unstaged : Tables → Staged
 unstaged t = record { tables = t; test = λ u o. false; from = 0; many = 0 }
+
+-- tables, and how many writes completed on the way to them
+pub record Counted : Type 0 where
+  pub count : ℕ
+  pub tables : Tables
 
 abbrev pub completeIf : (Tables → ℕ → Bool) → Setup → Counted → ℕ → Counted
 completeIf test s c o = cond (test (c .tables) o) (record { count = c .count + 1; tables = completed s (c .tables) o }) c

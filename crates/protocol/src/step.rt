@@ -57,15 +57,3 @@ pub struct Decision {
     pub change: Change,
     pub outcome: Outcome,
 }
-
-// Tables, and how many writes completed on the way to them.
-pub struct Counted {
-    pub count: u32,
-    pub tables: Tables,
-}
-
-// What receiving a message does to the client's records and to the tables.
-pub struct Received {
-    pub change: Change,
-    pub counted: Counted,
-}

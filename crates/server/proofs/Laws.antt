@@ -5,10 +5,9 @@ use mathlib.Core.Path.{_≡_, sym, _∙_}
 use Rattle.laws.specs.Choice.{and-true}
 use Rattle.laws.specs.Loop.{foldFrom}
 use Rattle.protocol.specs.declared.setup.Setup.{Setup}
-use Rattle.protocol.specs.declared.step.Counted.{Counted}
 use Rattle.protocol.specs.declared.tables.Tables.{Tables}
 use Rattle.protocol.specs.Tables.{epochAt, standingAt, versionAt, offerAt}
-use Rattle.protocol.specs.Writes.{settled}
+use Rattle.protocol.specs.Writes.{Counted, settled}
 use Rattle.protocol.specs.Server.{acked, ackTaken, ackStaged, dropped, dropTaken, dropStaged}
 use Rattle.leases.specs.Parts.{Placed}
 use Rattle.writes.specs.declared.settle.Trigger.the-variants.{Volume}

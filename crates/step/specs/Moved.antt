@@ -12,13 +12,12 @@ use Rattle.protocol.specs.declared.records.Copy.{Copy}
 use Rattle.protocol.specs.declared.records.Request.{Request}
 use Rattle.protocol.specs.declared.setup.Setup.{Setup}
 use Rattle.protocol.specs.declared.step.Decision.{Decision}
-use Rattle.protocol.specs.declared.step.Received.{Received}
 use Rattle.protocol.specs.declared.step.Step.{Step}
 use Rattle.protocol.specs.declared.tables.Tables.{Tables}
 use Rattle.protocol.specs.Messages.{messageAt}
 use Rattle.protocol.specs.Client.{showable, stands, grantTaken, ended, forgotten}
 use Rattle.protocol.specs.Gate.{isClock, isRead, isAsk, isWrite, isDeliver, isLose, isDouble, isRestartServer}
-use Rattle.protocol.specs.Decide.{grantReceived, invalidateReceived, offerReceived, received, readDecided, askDecided, taken, deliverDecided, restartDecided, performed}
+use Rattle.protocol.specs.Decide.{Received, grantReceived, invalidateReceived, offerReceived, received, readDecided, askDecided, taken, deliverDecided, restartDecided, performed}
 use Rattle.protocol.specs.World.{World, decision}
 use Rattle.protocol.specs.Ledger.{accepts}
 use Rattle.protocol.specs.Soundness.Steps.{Accepted, requestOf, recordsOf, accepted, decision-accepted, decision-refused, next-grows}

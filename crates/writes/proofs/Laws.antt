@@ -10,7 +10,6 @@ use Rattle.laws.specs.Loop.{foldFrom, firstFrom, anyFrom, fold-again, fold-end}
 use Rattle.laws.specs.Skip.{Found, fold-skip, first-is}
 use Rattle.protocol.specs.declared.message.Queue.{Queue}
 use Rattle.protocol.specs.declared.setup.Setup.{Setup}
-use Rattle.protocol.specs.declared.step.Counted.{Counted}
 use Rattle.protocol.specs.declared.tables.Objects.{Objects}
 use Rattle.protocol.specs.declared.tables.Sessions.{Sessions}
 use Rattle.protocol.specs.declared.tables.Volumes.{Volumes}
@@ -18,7 +17,7 @@ use Rattle.protocol.specs.declared.tables.Tables.{Tables}
 use Rattle.protocol.specs.Setup.{volumeOf}
 use Rattle.protocol.specs.Tables.{standingAt, guardAt, versionAt, byVolume, byObject, withObjects, withQueue, freshTables}
 use Rattle.protocol.specs.Leases.{serverAlive, guardPassed, endOver}
-use Rattle.protocol.specs.Writes.{ready, due, waited, posted, released, deserted, completed, completeIf, settled, waits, latestEnd, opened, awaited, notified, written, writeStaged}
+use Rattle.protocol.specs.Writes.{Counted, ready, due, waited, posted, released, deserted, completed, completeIf, settled, waits, latestEnd, opened, awaited, notified, written, writeStaged}
 use Rattle.protocol.specs.Server.{ofVolume}
 use Rattle.protocol.specs.SoundLaws.{Growing, completed-keeps}
 use Rattle.leases.specs.Parts.{Placed, forClients, waitsBy, latestBy, markedStill, waitingFor, notifiedBy, scene, sessionsOf, withMarks, withServer}

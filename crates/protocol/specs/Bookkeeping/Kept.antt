@@ -17,7 +17,6 @@ use Rattle.protocol.specs.declared.records.Request.{Request}
 use Rattle.protocol.specs.declared.setup.Setup.{Setup}
 use Rattle.protocol.specs.declared.step.Answer.the-variants.{Done, Shown, AskFirst, Delivered}
 use Rattle.protocol.specs.declared.step.Decision.{Decision}
-use Rattle.protocol.specs.declared.step.Received.{Received}
 use Rattle.protocol.specs.declared.step.Step.{Step}
 use Rattle.protocol.specs.declared.tables.Tables.{Tables}
 use Rattle.protocol.specs.Setup.{volumeOf}
@@ -28,7 +27,7 @@ use Rattle.protocol.specs.Server.{noted, offered, volumeRenewed, objectR
 use Rattle.protocol.specs.Client.{showable, stands, grantTaken}
 use Rattle.protocol.specs.Sound.{kindSound}
 use Rattle.protocol.specs.Answers.{reported, completedAnswer}
-use Rattle.protocol.specs.Decide.{uncounted, kept, answered, counting, received, grantReceived, invalidateReceived, offerReceived, taken, performed, readDecided, askDecided, deliverDecided, restartDecided}
+use Rattle.protocol.specs.Decide.{Received, uncounted, kept, answered, counting, received, grantReceived, invalidateReceived, offerReceived, taken, performed, readDecided, askDecided, deliverDecided, restartDecided}
 use Rattle.protocol.specs.Ledger.{Event, accepted, cutOff, shown, clocked, completing, receiptStaged, deliveryStaged, readEvents, happening, Ledger, book, bookAll}
 use Rattle.protocol.specs.Soundness.Steps.{Ranges, Accepted, by-kind, object-exists, place-exists, queue-fits, none-stands, clock-performed, read-performed, ask-performed, write-performed, deliver-performed, lose-performed, double-performed, server-performed, client-performed}
 use Rattle.protocol.specs.Soundness.Shape.{Shape, clock-shape, written-shape, taken-shape, acked-shape, dropped-shape}

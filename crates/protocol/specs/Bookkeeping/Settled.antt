@@ -14,12 +14,11 @@ use Rattle.laws.specs.Loop.{foldFrom}
 use Rattle.laws.specs.Each.{cleared}
 use Rattle.laws.specs.Count.{fold-reaches}
 use Rattle.protocol.specs.declared.setup.Setup.{Setup}
-use Rattle.protocol.specs.declared.step.Counted.{Counted}
 use Rattle.protocol.specs.declared.tables.Tables.{Tables}
 use Rattle.protocol.specs.Setup.{volumeOf}
 use Rattle.protocol.specs.Tables.{standingAt, endAt}
 use Rattle.protocol.specs.Leases.{guardPassed, endOver}
-use Rattle.protocol.specs.Writes.{waited, ready, due, posted, completed, Staged, completeIf, settled, settling, clockStaged}
+use Rattle.protocol.specs.Writes.{Counted, waited, ready, due, posted, completed, Staged, completeIf, settled, settling, clockStaged}
 use Rattle.protocol.specs.Ledger.{completed as done, isOpen, Ledger, book, bookAll}
 use Rattle.protocol.specs.Soundness.Steps.{Ranges}
 use Rattle.protocol.specs.Soundness.Shape.{Shape, completed-shape}

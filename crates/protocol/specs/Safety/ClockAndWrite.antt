@@ -5,10 +5,9 @@ use mathlib.Core.Path.{_≡_}
 use lib.Seq.{set-getD}
 use Rattle.laws.specs.Loop.{foldFrom}
 use Rattle.protocol.specs.declared.setup.Setup.{Setup}
-use Rattle.protocol.specs.declared.step.Counted.{Counted}
 use Rattle.protocol.specs.declared.step.Step.{Step}
 use Rattle.protocol.specs.Tables.{withClock}
-use Rattle.protocol.specs.Writes.{settled, clockStaged, writeStaged}
+use Rattle.protocol.specs.Writes.{Counted, settled, clockStaged, writeStaged}
 use Rattle.protocol.specs.Client.{sweptAll}
 use Rattle.protocol.specs.Decide.{counting}
 use Rattle.protocol.specs.World.{World, stepped}

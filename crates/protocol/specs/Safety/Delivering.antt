@@ -16,14 +16,13 @@ use Rattle.protocol.specs.declared.message.Kind.the-variants.{Renew, Gra
 use Rattle.protocol.specs.declared.records.Copy.{Copy}
 use Rattle.protocol.specs.declared.records.Request.{Request}
 use Rattle.protocol.specs.declared.setup.Setup.{Setup}
-use Rattle.protocol.specs.declared.step.Received.{Received}
 use Rattle.protocol.specs.declared.tables.Tables.{Tables}
 use Rattle.protocol.specs.Messages.{messageAt, objectOf, removed}
 use Rattle.protocol.specs.Tables.{noCopy, noRequest}
 use Rattle.protocol.specs.Writes.{Staged, unstaged, settled}
 use Rattle.protocol.specs.Server.{ackTaken, acked, ackStaged, dropTaken, dropped, dropStaged}
 use Rattle.protocol.specs.Client.{stands, storable, grantTaken, filled, ended, sweptAll}
-use Rattle.protocol.specs.Decide.{taken, grantReceived, invalidateReceived, offerReceived, received}
+use Rattle.protocol.specs.Decide.{Received, taken, grantReceived, invalidateReceived, offerReceived, received}
 use Rattle.protocol.specs.World.{World}
 use Rattle.protocol.specs.Soundness.Steps.{Ranges}
 use Rattle.protocol.specs.Soundness.Shape.{Shape, WorldShape, taken-shape, ack-shape, drop-shape}

@@ -7,12 +7,11 @@ use borrow.Author.Tests.{not-true}
 use Rattle.laws.specs.Choice.{cond-keeps, not-both, and-true, or-true}
 use Rattle.laws.specs.Loop.{fold-keeps-in, none-each}
 use Rattle.protocol.specs.declared.setup.Setup.{Setup}
-use Rattle.protocol.specs.declared.step.Counted.{Counted}
 use Rattle.protocol.specs.declared.tables.Tables.{Tables}
 use Rattle.protocol.specs.Setup.{volumeOf}
 use Rattle.protocol.specs.Tables.{standingAt, endAt, waitingAt}
 use Rattle.protocol.specs.Leases.{guardPassed, endOver}
-use Rattle.protocol.specs.Writes.{Staged, waited, ready, due, completeIf, settled}
+use Rattle.protocol.specs.Writes.{Counted, Staged, waited, ready, due, completeIf, settled}
 use Rattle.protocol.specs.Server.{readyIn, ofVolume}
 use Rattle.protocol.specs.World.{World}
 use Rattle.protocol.specs.Soundness.Steps.{Ranges}

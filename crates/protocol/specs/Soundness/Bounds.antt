@@ -18,7 +18,6 @@ use Rattle.protocol.specs.declared.message.Queue.{Queue}
 use Rattle.protocol.specs.declared.records.Copy.{Copy}
 use Rattle.protocol.specs.declared.records.Request.{Request}
 use Rattle.protocol.specs.declared.setup.Setup.{Setup}
-use Rattle.protocol.specs.declared.step.Counted.{Counted}
 use Rattle.protocol.specs.declared.tables.Volumes.{Volumes}
 use Rattle.protocol.specs.declared.tables.Sessions.{Sessions}
 use Rattle.protocol.specs.declared.tables.Objects.{Objects}
@@ -28,7 +27,7 @@ use Rattle.protocol.specs.declared.tables.Tables.{Tables}
 use Rattle.protocol.specs.Setup.{volumeOf}
 use Rattle.protocol.specs.Messages.{blank, messageAt, pushed, removed, hasRoom}
 use Rattle.protocol.specs.Tables.{waitingAt, versionAt, withClock, withQueue, withViews}
-use Rattle.protocol.specs.Writes.{Staged, latestEnd, opened, awaited, begun, invalidation, notify, notified, deserted, posted, released, completed, completeIf, settled, written}
+use Rattle.protocol.specs.Writes.{Counted, Staged, latestEnd, opened, awaited, begun, invalidation, notify, notified, deserted, posted, released, completed, completeIf, settled, written}
 use Rattle.protocol.specs.Server.{sent}
 use Rattle.protocol.specs.Sound.{clockLimit, messageSound}
 use Rattle.protocol.specs.Decide.{taken}

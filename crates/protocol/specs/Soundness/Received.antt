@@ -13,7 +13,6 @@ use Rattle.protocol.specs.declared.message.Payload.{Payload}
 use Rattle.protocol.specs.declared.records.Copy.{Copy}
 use Rattle.protocol.specs.declared.records.Request.{Request}
 use Rattle.protocol.specs.declared.setup.Setup.{Setup}
-use Rattle.protocol.specs.declared.step.Received.{Received}
 use Rattle.protocol.specs.declared.tables.Views.{Views}
 use Rattle.protocol.specs.declared.tables.Tables.{Tables}
 use Rattle.protocol.specs.Setup.{volumeOf}
@@ -22,7 +21,7 @@ use Rattle.protocol.specs.Writes.{Staged}
 use Rattle.protocol.specs.Server.{noted, offered, volumeRenewed, objectRenewed, granting, granted, lowestWaited, mustDrop, renewedBy, renewed, ackTaken, acked, ackStaged, dropTaken, disowned, dropped, dropStaged, serverRestarted, stale, beingWritten}
 use Rattle.protocol.specs.Client.{viewed, ended, stands, grantTaken, forgotten, clientRestarted, asksFor}
 use Rattle.protocol.specs.Sound.{timeFits, kindSound}
-use Rattle.protocol.specs.Decide.{grantReceived, invalidateReceived, offerReceived, received}
+use Rattle.protocol.specs.Decide.{Received, grantReceived, invalidateReceived, offerReceived, received}
 use Rattle.protocol.specs.Soundness.Steps.{Ranges}
 use Rattle.protocol.specs.Soundness.Bounds.{Timed, Started, Named, ViewsBounded, Bounded, CopyBounded, RequestBounded, sent-bounded, views-bounded, settled-bounded, invalidation-named}
 

@@ -18,9 +18,7 @@ use Rattle.protocol.specs.declared.message.Queue.{Queue}
 use Rattle.protocol.specs.declared.records.Copy.{Copy}
 use Rattle.protocol.specs.declared.records.Request.{Request}
 use Rattle.protocol.specs.declared.setup.Setup.{Setup}
-use Rattle.protocol.specs.declared.step.Counted.{Counted}
 use Rattle.protocol.specs.declared.step.Decision.{Decision}
-use Rattle.protocol.specs.declared.step.Received.{Received}
 use Rattle.protocol.specs.declared.step.Step.{Step}
 use Rattle.protocol.specs.declared.step.Sweep.{Sweep}
 use Rattle.protocol.specs.declared.tables.Volumes.{Volumes}
@@ -32,11 +30,11 @@ use Rattle.protocol.specs.declared.tables.Tables.{Tables}
 use Rattle.protocol.specs.Setup.{volumeOf}
 use Rattle.protocol.specs.Messages.{pushed, removed, hasRoom}
 use Rattle.protocol.specs.Tables.{seenAt, standingAt, waitingAt, withClock, withQueue, withViews, freshTables}
-use Rattle.protocol.specs.Writes.{Staged, opened, awaited, begun, notify, notified, deserted, marked, markIfWaiting, posted, released, completed, completeIf, settled, written}
+use Rattle.protocol.specs.Writes.{Counted, Staged, opened, awaited, begun, notify, notified, deserted, marked, markIfWaiting, posted, released, completed, completeIf, settled, written}
 use Rattle.protocol.specs.Server.{sent, noted, offered, volumeRenewed, objectRenewed, granted, lowestWaited, mustDrop, renewedBy, renewed, ackTaken, acked, ackStaged, dropTaken, disowned, dropped, dropStaged, serverRestarted, stale, beingWritten}
 use Rattle.protocol.specs.Client.{showable, stands, grantTaken, viewed, sweepAt, sweptAll, clientRestarted}
 use Rattle.protocol.specs.Gate.{usesPlace}
-use Rattle.protocol.specs.Decide.{performed, taken, readDecided, askDecided, deliverDecided, restartDecided, grantReceived, invalidateReceived, offerReceived, received}
+use Rattle.protocol.specs.Decide.{Received, performed, taken, readDecided, askDecided, deliverDecided, restartDecided, grantReceived, invalidateReceived, offerReceived, received}
 use Rattle.protocol.specs.World.{World, freshWorld, stepped}
 use Rattle.protocol.specs.Ledger.{accepts}
 use Rattle.protocol.specs.Soundness.Steps.{Accepted, accepted, copyOf, requestOf, tables-after, refused-keeps, by-kind, place-exists, queue-fits, clock-performed, read-performed, ask-performed, write-performed, deliver-performed, lose-performed, double-performed, server-performed, client-performed}
