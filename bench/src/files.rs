@@ -5,6 +5,7 @@ use model::gen::random_steps;
 use model::gen::rng::Rng;
 use model::gen::setups::sized;
 use model::limits::STEPS;
+use model::listing::listing;
 use model::setup::Setup;
 use model::step_record::Step;
 use model::write_runfile::write;
@@ -14,13 +15,19 @@ pub struct Timed {
     pub file: Vec<u8>,
     /// Messages under way, on the average over the steps.
     pub queue: f64,
+    /// How many reads were shown a copy.
+    pub shown: usize,
+    /// How many writes were not completed at once.
+    pub waited: usize,
 }
 
-/// The largest setup and the smallest, each with the most steps.
+/// The largest setup, with a list of messages that is mostly full and with one
+/// that is worked off, and the smallest; each with the most steps.
 pub fn runs() -> Vec<Timed> {
     vec![
-        timed("16 clients, 8 volumes, 32 objects", spread(sized(16, 8, 32))),
-        timed("1 client, 1 volume, 1 object", sized(1, 1, 1)),
+        timed("16 clients, 8 volumes, 32 objects, by chance", spread(sized(16, 8, 32)), by_chance),
+        timed("16 clients, 8 volumes, 32 objects, delivered in time", spread(sized(16, 8, 32)), in_time),
+        timed("1 client, 1 volume, 1 object, by chance", sized(1, 1, 1), by_chance),
     ]
 }
 
@@ -32,17 +39,42 @@ fn spread(mut setup: Setup) -> Setup {
     setup
 }
 
-/// Steps by chance: reads, asks and writes, with the list of messages mostly
-/// full, some lost and some doubled, and restarts.
-fn timed(name: &'static str, setup: Setup) -> Timed {
+fn timed(name: &'static str, setup: Setup, more: fn(&mut Builder)) -> Timed {
     let mut builder = Builder::new(Rng::new(1), setup);
     let mut messages = 0;
     while builder.steps.len() < STEPS {
-        random_steps::take(&mut builder, 1);
+        more(&mut builder);
         messages += builder.queue_len();
     }
-    let queue = messages as f64 / STEPS as f64;
-    Timed { name, file: write(&[], &setup, &builder.steps), queue }
+    let file = write(&[], &setup, &builder.steps);
+    let lines = String::from_utf8(listing(&file)).expect("a listing is text");
+    let answers = lines.lines().skip(1).map(|line| line.split(' ').nth(1));
+    let counted = |kind, answer| builder.steps.iter().zip(answers.clone()).filter(|(s, a)| (s.kind, *a) == (kind, Some(answer))).count();
+    let (shown, waited) = (counted(2, "1"), counted(4, "0"));
+    Timed { name, queue: messages as f64 / STEPS as f64, shown, waited, file }
+}
+
+/// Reads, asks and writes, with the list of messages mostly full, some lost
+/// and some doubled, and restarts.
+fn by_chance(builder: &mut Builder) {
+    random_steps::take(builder, 1);
+}
+
+/// Messages are delivered from the front before they are many, and a few
+/// objects are asked for, so that copies are shown and writes wait.
+fn in_time(builder: &mut Builder) {
+    let (client, object) = (builder.any_client(), builder.any_object() % 4);
+    let step = match builder.rng.below(100) {
+        0..=29 => Step::read(client, object),
+        30..=44 => Step::ask(client, object),
+        45..=47 => Step::write(object, builder.rng.draw() >> 48),
+        48 | 49 => Step::clock(builder.tables().clock + 1),
+        50 => Step::lose(0),
+        51 => Step::double(0),
+        _ if builder.queue_len() > 0 => Step::deliver(0),
+        _ => Step::read(client, object),
+    };
+    builder.push(step);
 }
 
 /// Runs of one kind of step in the largest setup; a message is asked for

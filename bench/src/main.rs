@@ -45,7 +45,10 @@ fn main() -> io::Result<()> {
 fn report() -> io::Result<()> {
     for run in runs() {
         same(&run.file);
-        println!("{}; {STEPS} steps, {:.0} messages under way on the average", run.name, run.queue);
+        println!(
+            "{}; {STEPS} steps, {:.0} messages under way on the average, {} reads shown, {} writes that waited",
+            run.name, run.queue, run.shown, run.waited
+        );
         let times = medians(&run.file, &[&proved, &asking, &trusting]);
         let [proved, asking, trusting] = times[..] else { unreachable!() };
         let per_step = |time: f64| time / STEPS as f64;
