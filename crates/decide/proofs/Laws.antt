@@ -30,11 +30,11 @@ use Rattle.protocol.specs.Writes.{Counted, settled, writeStaged, clockStaged}
 use Rattle.protocol.specs.Server.{renewed, ackStaged, dropStaged, serverRestarted}
 use Rattle.protocol.specs.Sound.{kindSound, timeFits, canGrow, tablesSound}
 use Rattle.protocol.specs.SoundLaws.{ranged, volume-in}
+use Rattle.protocol.specs.Soundness.Steps.{passed, step-passes, accepted-all, setup-in-range, tables-sound, client-exists, object-exists, place-exists}
 use Rattle.protocol.specs.Gate.{usesClient, usesObject, usesPlace, isClock, isWrite, isAsk, isRestartServer, known, refusalOfStep, refusal}
 use Rattle.protocol.specs.Answers.{completedAnswer}
 use Rattle.protocol.specs.Decide.{Received, kept, uncounted, byServer, grantReceived, invalidateReceived, offerReceived, received, answered, counting, readDecided, askDecided, delivered, taken, deliverDecided, restartDecided, performed, refusedWith, decided}
 use Rattle.protocol.specs.World.{targetAt, target}
-use Rattle.decide.specs.Accepted.{accepted, client-in, object-in, place-in, none-stands, version-grows, epochs-grow, number-grows, refusal-none, sound-length}
 use Rattle.laws.specs.Choice.{and-true, not-both}
 use Rattle.laws.specs.Loop.{allFrom, all-each}
 
@@ -179,25 +179,13 @@ nine k h i = omega arith
 -- what an accepted step names exists, and what must grow can
 module _ (s : Setup) (t : Tables) (r : Request) (x : Step) (a : refusalOfStep s t r x ≡ 0) (k : ℕ) (h : x .kind ≡ k) where
   pub client-named : (eqb k 2 || eqb k 3 || eqb k 9) ≡ true → x .client < s .clients
-  client-named e = client-in (accepted s t r x a) (rw h e)
+  client-named e = client-exists (passed s t r x a) (rw h e)
 
   pub object-named : (eqb k 2 || eqb k 3 || eqb k 4) ≡ true → x .object < s .objects
-  object-named e = object-in (accepted s t r x a) (rw h e)
+  object-named e = object-exists (passed s t r x a) (rw h e)
 
   pub place-named : (eqb k 5 || eqb k 6 || eqb k 7) ≡ true → x .place < t .queue .len
-  place-named e = place-in (accepted s t r x a) (rw h e)
-
-  pub version-can-grow : eqb k 4 ≡ true → versionAt t (x .object) < 4294967295
-  version-can-grow e = version-grows (accepted s t r x a) (rw h e)
-
-  pub none-standing : eqb k 4 ≡ true → standingAt t (x .object) ≡ false
-  none-standing e = none-stands (accepted s t r x a) (rw h e)
-
-  pub number-can-grow : eqb k 3 ≡ true → r .next < 4294967295
-  number-can-grow e = number-grows (accepted s t r x a) (rw h e)
-
-  pub epoch-can-grow : eqb k 8 ≡ true → (v : ℕ) → v < s .volumes → epochAt t v < 4294967295
-  epoch-can-grow e v i = ltb-true _ _ (all-each (λ (v : ℕ). canGrow (epochAt t v)) _ (epochs-grow (accepted s t r x a) (rw h e)) v i)
+  place-named e = place-exists (passed s t r x a) (rw h e)
 
 -- which kinds are the server's
 pub at-eight : (x : Step) → (isClock x || isWrite x || isRestartServer x) ≡ true → (x .kind ≡ 1 → ⊥) → (x .kind ≡ 4 → ⊥) → x .kind ≡ 8
@@ -223,7 +211,7 @@ module _ (s : Setup) (t : Tables) (r : Request) (x : Step) (e : refusalOfStep s 
   last : x .kind ≡ 9
   unfolding known
   last =
-      let k = and-true (leb 1 (x .kind)) (leb (x .kind) 9) (accepted s t r x e .knows) in
+      let k = and-true (leb 1 (x .kind)) (leb (x .kind) 9) (passed s t r x e .knows) in
       nine _ (past _ 8 (past _ 7 (past _ 6 (past _ 5 (past _ 4 (past _ 3 (past _ 2 (past _ 1 (leb-true 1 _ (k .0)) n1) n2) n3) n4) n5) n6) n7) n8) (leb-true _ 9 (k .1))
 
   pub last-client : x .client < s .clients
@@ -232,17 +220,15 @@ module _ (s : Setup) (t : Tables) (r : Request) (x : Step) (e : refusalOfStep s 
   pub by-last : (c : Copy) (d : Decision) → d ≡ restartDecided s t c r (x .client) → d ≡ performed s t c r x
   by-last c d h = by-restart-client s t c r x d last h
 
-pub ruleset lets = (client-16, object-32, volume-8, volume-of-8, volumes-8, client-named, last-client, object-named, place-named, version-can-grow, none-standing, number-can-grow, sound-length)
-
 module _ (s : Setup) (t : Tables) (records : Bool) (c : Copy) (r : Request) (x : Step) (k : ℕ) (p : k ≡ refusal s t records r x) where
   pub setup-asked : k ≡ 0 → inRange s ≡ true
-  setup-asked h = refusal-none s t records r x (sym p ∙ h) .0
+  setup-asked h = setup-in-range (accepted-all s t records r x (sym p ∙ h))
 
   pub tables-asked : k ≡ 0 → tablesSound s t ≡ true
-  tables-asked h = refusal-none s t records r x (sym p ∙ h) .1 .0
+  tables-asked h = tables-sound (accepted-all s t records r x (sym p ∙ h))
 
   pub step-asked : k ≡ 0 → refusalOfStep s t r x ≡ 0
-  step-asked h = refusal-none s t records r x (sym p ∙ h) .1 .1
+  step-asked h = step-passes s t records r x (sym p ∙ h)
 
   pub decided-accepted : (d : Decision) → k ≡ 0 → d ≡ performed s t c r x → d ≡ decided s t records c r x
   unfolding decided

@@ -6,7 +6,7 @@ use mathlib.Core.Logic.{_⊎_, inl, inr}
 use mathlib.Core.Path.{_≡_, refl, sym, _∙_}
 use borrow.Author.Tests.{lt-ltb, ltb-true, leb-true}
 use native.Mathlib.Omega.{arith}
-use lib.Dec.{leb}
+use lib.Dec.{ltb, leb}
 use lib.ListN.{getD, set}
 use lib.Seq.{getD-set-other}
 use Rattle.laws.specs.Choice.{and-true, not-both, same?}
@@ -17,7 +17,8 @@ use Rattle.protocol.specs.declared.tables.Tables.{Tables}
 use Rattle.protocol.specs.Setup.{between, inRange, volumeOf, volumeFits}
 use Rattle.protocol.specs.Tables.{standingAt, versionAt, endAt, objectExpiryAt}
 use Rattle.protocol.specs.Writes.{completed, posted}
-use Rattle.protocol.specs.Sound.{clockLimit, timeFits, canGrow, objectSound, volumeSound, sessionsSound, holdersSound, queueSound, tablesSound}
+use Rattle.protocol.specs.Messages.{messageAt}
+use Rattle.protocol.specs.Sound.{clockLimit, timeFits, canGrow, kindSound, messageSound, objectSound, volumeSound, sessionsSound, holdersSound, queueSound, tablesSound}
 
 -- the counts and durations of a setup in range
 pub record Ranged (s : Setup) : Type 0 where
@@ -106,3 +107,33 @@ completed-keeps s t o g = record { below = λ k h e. pick k h e (same? k o) }
     pick k h e (inr q) =
         rw (getD-set-other (t .objects .version) o k (versionAt t o + 1) 0 q)
         (g .below k h (sym (getD-set-other (t .objects .standing) o k false false q) ∙ e))
+
+-- what question 1 says of the message list
+module _ (s : Setup) (t : Tables) (e : tablesSound s t ≡ true) where
+  sound-queue : queueSound s (t .queue) ≡ true
+  unfolding tablesSound
+  sound-queue =
+      and-true
+      (leb (t .clock) clockLimit
+      && allFrom (volumeSound t) 0 (s .volumes)
+      && allFrom (objectSound t) 0 (s .objects)
+      && allFrom (sessionsSound s t) 0 (s .clients)
+      && allFrom (holdersSound s t) 0 (s .clients))
+      (queueSound s (t .queue))
+      e
+      .1
+
+  listed : (t .queue .len ≤ 64) × (allFrom (λ (i : ℕ). messageSound s (messageAt (t .queue) i)) 0 (t .queue .len) ≡ true)
+  unfolding queueSound
+  listed =
+      let l = and-true (leb (t .queue .len) 64) (allFrom (λ (i : ℕ). messageSound s (messageAt (t .queue) i)) 0 (t .queue .len)) sound-queue in
+      (leb-true _ _ (l .0), l .1)
+
+  pub sound-length : t .queue .len ≤ 64
+  sound-length = listed .0
+
+  pub sound-message : (i : ℕ) → i < t .queue .len → (messageAt (t .queue) i .client < s .clients) × (kindSound s (messageAt (t .queue) i .kind) ≡ true)
+  sound-message i h =
+      let f = all-each (λ (i : ℕ). messageSound s (messageAt (t .queue) i)) (t .queue .len) (listed .1) i h in
+      let g = and-true (ltb (messageAt (t .queue) i .client) (s .clients)) (kindSound s (messageAt (t .queue) i .kind)) f in
+      (ltb-true _ _ (g .0), g .1)

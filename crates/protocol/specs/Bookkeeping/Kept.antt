@@ -243,12 +243,12 @@ module _ (s : Setup) (rs : Ranges s) (t : Tables) (k : Shape t) (b : Bounded s t
   pub performed-recorded : (f : Bool) (x : Step) → Accepted s t f r x → Recorded s l (performed s t c r x) (bookAll l (happening s t c x))
   unfolding bookAll
   performed-recorded f x a =
-      by-kind (Recorded s l (performed s t c r x) (bookAll l (happening s t c x))) x (a .knows)
+      by-kind (Recorded s l (performed s t c r x) (bookAll l (happening s t c x))) x (a .passes .knows)
       (λ e. rw (clock-performed s t c r x e, clock-happening s t c x e) (clock-recorded (x .clock)))
       (λ e. rw (read-performed s t c r x e, read-happening s t c x e) (read-recorded (x .client) (x .object)))
       (λ e. rw (ask-performed s t c r x e, ask-happening s t c x e) (ask-recorded (x .client) (x .object)))
-      (λ e. rw (write-performed s t c r x e, write-happening s t c x e) (write-recorded (x .object) (x .value) (object-exists a (rw e)) (none-stands a e)))
-      (λ e. rw (deliver-performed s t c r x e, deliver-happening s t c x e) (deliver-recorded (x .place) (omega (arith, place-exists a (rw e), queue-fits a))))
+      (λ e. rw (write-performed s t c r x e, write-happening s t c x e) (write-recorded (x .object) (x .value) (object-exists (a .passes) (rw e)) (none-stands (a .passes) e)))
+      (λ e. rw (deliver-performed s t c r x e, deliver-happening s t c x e) (deliver-recorded (x .place) (omega (arith, place-exists (a .passes) (rw e), queue-fits a))))
       (λ e. rw (lose-performed s t c r x e, lose-happening s t c x e) (quiet _ (objects-same t _ refl) refl))
       (λ e. rw (double-performed s t c r x e, double-happening s t c x e) (quiet _ (objects-same t _ refl) refl))
       (λ e. rw (server-performed s t c r x e, server-happening s t c x e) server-recorded)

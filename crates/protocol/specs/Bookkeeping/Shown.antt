@@ -48,7 +48,7 @@ module _ (s : Setup) (t : Tables) (c : Copy) (r : Request) where
   -- only a read is answered "shown"
   shown-is-read : (f : Bool) (x : Step) → Accepted s t f r x → answerNumber (performed s t c r x .outcome .answer) ≡ 1 → x .kind ≡ 2
   shown-is-read f x a h =
-      by-kind (x .kind ≡ 2) x (a .knows)
+      by-kind (x .kind ≡ 2) x (a .passes .knows)
       (λ e. absurd (completed-number (settled s (clockStaged s t (x .clock)) .count) (number _ (clock-performed s t c r x e))))
       (λ e. e)
       (λ e. absurd (ask-number (x .client) (x .object) (number _ (ask-performed s t c r x e))))
@@ -104,8 +104,8 @@ shown-read s w x v e =
     record {
       takes = t;
       kind = k;
-      client = client-exists a (rw k);
-      object = object-exists a (rw k);
+      client = client-exists (a .passes) (rw k);
+      object = object-exists (a .passes) (rw k);
       shows = sym (ap (λ (y : Copy). showable s (w .tables) y (x .client) (x .object)) (copy-read s w x k)) ∙ q .0;
       value = sym (ap (λ (y : Copy). y .value) (copy-read s w x k)) ∙ q .1;
     }

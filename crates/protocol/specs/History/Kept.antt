@@ -88,12 +88,12 @@ module _ (s : Setup) (w : World) (x : Step) (past : List Event) (k : SoundWorld 
       let rs = ranges s (setup-in-range q) in
       let t = w .tables in
       let y = copyOf s w x in
-      by-kind (LawfulAll s (told (happening s t y x) past)) x (q .knows)
+      by-kind (LawfulAll s (told (happening s t y x) past)) x (q .passes .knows)
       (λ i. rw (clock-happening s t y x i) (clock-lawful s rs t (k .shape .tables) (k .bounds .tables) past h a (x .clock)))
-      (λ i. rw (read-happening s t y x i) (read-lawful s rs t (k .shape .tables) (k .bounds .tables) past h a y (x .client) (x .object) (object-exists q (rw i)) (current i (client-exists q (rw i)) (object-exists q (rw i)))))
+      (λ i. rw (read-happening s t y x i) (read-lawful s rs t (k .shape .tables) (k .bounds .tables) past h a y (x .client) (x .object) (object-exists (q .passes) (rw i)) (current i (client-exists (q .passes) (rw i)) (object-exists (q .passes) (rw i)))))
       (λ i. rw (ask-happening s t y x i) a)
-      (λ i. rw (write-happening s t y x i) (write-lawful s rs t (k .shape .tables) (k .bounds .tables) past h a (x .object) (x .value) (object-exists q (rw i)) (none-stands q i)))
-      (λ i. rw (deliver-happening s t y x i) (deliver-lawful s rs t (k .shape .tables) (k .bounds .tables) past h a y (requestOf s w x) (x .place) (omega (arith, place-exists q (rw i), queue-fits q))))
+      (λ i. rw (write-happening s t y x i) (write-lawful s rs t (k .shape .tables) (k .bounds .tables) past h a (x .object) (x .value) (object-exists (q .passes) (rw i)) (none-stands (q .passes) i)))
+      (λ i. rw (deliver-happening s t y x i) (deliver-lawful s rs t (k .shape .tables) (k .bounds .tables) past h a y (requestOf s w x) (x .place) (omega (arith, place-exists (q .passes) (rw i), queue-fits q))))
       (λ i. rw (lose-happening s t y x i) a)
       (λ i. rw (double-happening s t y x i) a)
       (λ i. rw (server-happening s t y x i) (cuts-lawful s (listFrom (standingAt t) 0 (s .objects)) past a))

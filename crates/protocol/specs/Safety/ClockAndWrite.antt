@@ -32,7 +32,7 @@ module _ (s : Setup) (w : World) (x : Step) (a : accepts s w x ≡ true) where
         let q = accepted s w x a in
         rw (counting-steps (settled s (clockStaged s (w .tables) (x .clock))) (clock-performed s (w .tables) (copyOf s w x) (requestOf s w x) x k))
         (settled-keeps s w (clockStaged s (w .tables) (x .clock)) (ranges s (setup-in-range q)) (due-admits s) (omega arith) timed
-        (clock-keeps s w (x .clock) (clock-grows q k .0) i))
+        (clock-keeps s w (x .clock) (clock-grows (q .passes) k .0) i))
       where
         timed : Shape (withClock (w .tables) (x .clock))
         timed = record { volumes = h .volumes; sessions = h .sessions; objects = h .objects; holders = h .holders; views = h .views; queue = h .queue }
@@ -41,7 +41,7 @@ module _ (s : Setup) (w : World) (x : Step) (a : accepts s w x ≡ true) where
     write-step-keeps k =
         let q = accepted s w x a in
         let r = ranges s (setup-in-range q) in
-        let e = object-exists q (rw k) in
+        let e = object-exists (q .passes) (rw k) in
         rw (counting-steps (settled s (writeStaged s (w .tables) (x .object) (x .value))) (write-performed s (w .tables) (copyOf s w x) (requestOf s w x) x k))
         (settled-keeps s w (writeStaged s (w .tables) (x .object) (x .value)) r (ready-admits s) (omega arith) (written-shape s (w .tables) (x .object) (x .value) h)
-        (written-keeps s w (x .object) (x .value) r h e (none-stands q k) i))
+        (written-keeps s w (x .object) (x .value) r h e (none-stands (q .passes) k) i))

@@ -80,25 +80,25 @@ module _ (s : Setup) (w : World) (x : Step) (a : accepts s w x ≡ true) (sound 
   ask-keeps e =
       stepped-leaves _ (ask-performed s (w .tables) (copyOf s w x) (requestOf s w x) x e)
       (rw (named (λ q. omega arith), set-getD (w .copies), swept-keep s)
-      (asks s range w inv (sound .shape) (x .client) (x .object) (client-exists facts (rw e)) (object-exists facts (rw e))))
+      (asks s range w inv (sound .shape) (x .client) (x .object) (client-exists (facts .passes) (rw e)) (object-exists (facts .passes) (rw e))))
 
   deliver-keeps : x .kind ≡ 5 → Inv s (stepped s w x)
   unfolding deliverDecided
   deliver-keeps e =
       stepped-leaves _ (deliver-performed s (w .tables) (copyOf s w x) (requestOf s w x) x e)
       (rw (message-target e)
-      (receipt-keeps s range w inv (sound .shape) (queue-fits facts) (x .place) (place-exists facts (rw e)) (m .client)
-      (inv .clients m (sent-at (w .tables .queue) (x .place) (place-exists facts (rw e)))) (m .kind) (sent-at (w .tables .queue) (x .place) (place-exists facts (rw e)))))
+      (receipt-keeps s range w inv (sound .shape) (queue-fits facts) (x .place) (place-exists (facts .passes) (rw e)) (m .client)
+      (inv .clients m (sent-at (w .tables .queue) (x .place) (place-exists (facts .passes) (rw e)))) (m .kind) (sent-at (w .tables .queue) (x .place) (place-exists (facts .passes) (rw e)))))
 
   lose-keeps : x .kind ≡ 6 → Inv s (stepped s w x)
   lose-keeps e =
       stepped-leaves _ (lose-performed s (w .tables) (copyOf s w x) (requestOf s w x) x e)
-      (rw (set-getD (w .copies), set-getD (w .requests), swept-keep s) (lost s w inv (x .place) (sound .shape .tables .queue .items) (queue-fits facts) (place-exists facts (rw e))))
+      (rw (set-getD (w .copies), set-getD (w .requests), swept-keep s) (lost s w inv (x .place) (sound .shape .tables .queue .items) (queue-fits facts) (place-exists (facts .passes) (rw e))))
 
   double-keeps : x .kind ≡ 7 → Inv s (stepped s w x)
   double-keeps e =
       stepped-leaves _ (double-performed s (w .tables) (copyOf s w x) (requestOf s w x) x e)
-      (rw (set-getD (w .copies), set-getD (w .requests), swept-keep s) (doubling s w inv (x .place) (sound .shape .tables .queue .items) (place-exists facts (rw e))))
+      (rw (set-getD (w .copies), set-getD (w .requests), swept-keep s) (doubling s w inv (x .place) (sound .shape .tables .queue .items) (place-exists (facts .passes) (rw e))))
 
   server-keeps : x .kind ≡ 8 → Inv s (stepped s w x)
   server-keeps e =
@@ -109,11 +109,11 @@ module _ (s : Setup) (w : World) (x : Step) (a : accepts s w x ≡ true) (sound 
   unfolding restartDecided
   client-keeps e =
       stepped-leaves _ (client-performed s (w .tables) (copyOf s w x) (requestOf s w x) x e)
-      (rw (named (λ q. omega arith), set-getD (w .copies)) (client-restart s range w inv (sound .shape) (x .client) (client-exists facts (rw e))))
+      (rw (named (λ q. omega arith), set-getD (w .copies)) (client-restart s range w inv (sound .shape) (x .client) (client-exists (facts .passes) (rw e))))
 
   accepted-keeps : Inv s (stepped s w x)
   accepted-keeps =
-      by-kind (Inv s (stepped s w x)) x (facts .knows) (clock-step-keeps s w x a (sound .shape .tables) inv) read-keeps ask-keeps (write-step-keeps s w x a (sound .shape .tables) inv)
+      by-kind (Inv s (stepped s w x)) x (facts .passes .knows) (clock-step-keeps s w x a (sound .shape .tables) inv) read-keeps ask-keeps (write-step-keeps s w x a (sound .shape .tables) inv)
       deliver-keeps lose-keeps double-keeps server-keeps client-keeps
 
 pub step-keeps : (s : Setup) (w : World) (x : Step) → SoundWorld s w → Inv s w → Inv s (stepped s w x)

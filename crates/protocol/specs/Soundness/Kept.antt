@@ -73,11 +73,11 @@ module _ (s : Setup) (rs : Ranges s) (t : Tables) (c : Copy) (r : Request) (h : 
 
   pub performed-bounded : (b : Bool) (x : Step) → Accepted s t b r x → Decided s c r (performed s t c r x)
   performed-bounded b x a =
-      by-kind (Decided s c r (performed s t c r x)) x (a .knows)
-      (λ e. rw (clock-performed s t c r x e) (kept-bounded _ _ (settled-bounded s rs _ (clock-bounded s rs t (x .clock) (clock-grows a e .1) h)) refl refl refl))
+      by-kind (Decided s c r (performed s t c r x)) x (a .passes .knows)
+      (λ e. rw (clock-performed s t c r x e) (kept-bounded _ _ (settled-bounded s rs _ (clock-bounded s rs t (x .clock) (clock-grows (a .passes) e .1) h)) refl refl refl))
       (λ e. rw (read-performed s t c r x e) (read-bounded (x .client) (x .object)))
-      (λ e. rw (ask-performed s t c r x e) (ask-bounded (x .client) (x .object) (client-exists a (rw e)) (object-exists a (rw e))))
-      (λ e. rw (write-performed s t c r x e) (kept-bounded _ _ (settled-bounded s rs _ (written-bounded s rs t (x .object) (x .value) (object-exists a (rw e)) (version-grows a e) h)) refl refl refl))
+      (λ e. rw (ask-performed s t c r x e) (ask-bounded (x .client) (x .object) (client-exists (a .passes) (rw e)) (object-exists (a .passes) (rw e))))
+      (λ e. rw (write-performed s t c r x e) (kept-bounded _ _ (settled-bounded s rs _ (written-bounded s rs t (x .object) (x .value) (object-exists (a .passes) (rw e)) (version-grows (a .passes) e) h)) refl refl refl))
       (λ e. rw (deliver-performed s t c r x e) (deliver-bounded (x .place)))
       (λ e. rw (lose-performed s t c r x e) (kept-bounded _ _ (taken-bounded s rs t (x .place) h) refl refl refl))
       (λ e. rw (double-performed s t c r x e) (kept-bounded _ _ (sent-bounded s rs t _ (named-at s rs t (x .place) h) h) refl refl refl))

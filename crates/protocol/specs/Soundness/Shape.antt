@@ -339,7 +339,7 @@ restart-shape s t c r d h = shape-views t _ (client-shape s (t .views) d (h .vie
 
 pub performed-shape : (s : Setup) (t : Tables) (b : Bool) (c : Copy) (r : Request) (x : Step) → Accepted s t b r x → Shape t → Shape (performed s t c r x .outcome .tables)
 performed-shape s t b c r x a h =
-    by-kind (Shape (performed s t c r x .outcome .tables)) x (a .knows)
+    by-kind (Shape (performed s t c r x .outcome .tables)) x (a .passes .knows)
     (λ e. rw (clock-performed s t c r x e) (settled-shape s _ (clock-shape t (x .clock) h)))
     (λ e. rw (read-performed s t c r x e) (read-shape s t c r (x .client) (x .object) h))
     (λ e. rw (ask-performed s t c r x e) (ask-shape s t c r (x .client) (x .object) h))
@@ -351,7 +351,7 @@ performed-shape s t b c r x a h =
     (λ e. rw (client-performed s t c r x e) (restart-shape s t c r (x .client) h))
   where
     in-list : usesPlace x ≡ true → x .place < 64
-    in-list e = omega (arith, place-exists a e, queue-fits a)
+    in-list e = omega (arith, place-exists (a .passes) e, queue-fits a)
 
 swept-length : (s : Setup) (g : Sweep) (first : ℕ) (l : List Copy) → length (sweptAll s g first l) ≡ length l
 unfolding sweptAll

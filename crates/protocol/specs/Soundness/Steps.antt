@@ -23,35 +23,47 @@ use Rattle.protocol.specs.Messages.{doubled}
 use Rattle.protocol.specs.Writes.{settled, writeStaged, clockStaged}
 use Rattle.protocol.specs.Server.{serverRestarted}
 use Rattle.protocol.specs.Client.{sweptAll}
-use Rattle.protocol.specs.Sound.{sound, volumeSound, objectSound, sessionsSound, holdersSound, recordsSound, tablesSound, queueSound, clockLimit, canGrow}
+use Rattle.protocol.specs.Sound.{sound, recordsSound, tablesSound, clockLimit, canGrow}
+use Rattle.protocol.specs.SoundLaws.{sound-length}
 use Rattle.protocol.specs.Gate.{isClock, isAsk, isWrite, isRestartServer, usesClient, usesObject, usesPlace, known, exists, timely, vacant, growable, orRefuse, refusalOfStep, refusal}
 use Rattle.protocol.specs.Decide.{kept, answered, counting, readDecided, askDecided, taken, deliverDecided, restartDecided, performed, refusedWith, decided}
 use Rattle.protocol.specs.World.{World, target, copiesAfter, requestsAfter, decision, stepped, answerOf}
 use Rattle.protocol.specs.Ledger.{accepts}
 
--- every question answered "yes"
-pub record Accepted (s : Setup) (t : Tables) (records : Bool) (r : Request) (x : Step) : Type 0 where
-  pub sounds : sound s t records ≡ true
+-- questions 2 to 6 answered "yes"
+pub record Passed (s : Setup) (t : Tables) (r : Request) (x : Step) : Type 0 where
   pub knows : known x ≡ true
   pub finds : exists s t x ≡ true
   pub times : timely t x ≡ true
   pub vacates : vacant t x ≡ true
   pub grows : growable s t r x ≡ true
 
+-- every question answered "yes"
+pub record Accepted (s : Setup) (t : Tables) (records : Bool) (r : Request) (x : Step) : Type 0 where
+  pub sounds : sound s t records ≡ true
+  pub passes : Passed s t r x
+
 asked : (ok : Bool) (k n : ℕ) → orRefuse ok (suc k) n ≡ 0 → (ok ≡ true) × (n ≡ 0)
 asked true k n e = (refl, e)
 asked false k n e = absurd (omega arith)
 
-pub accepted-all : (s : Setup) (t : Tables) (b : Bool) (r : Request) (x : Step) → refusal s t b r x ≡ 0 → Accepted s t b r x
-unfolding refusal refusalOfStep
-accepted-all s t b r x e =
-    let q1 = asked (sound s t b) 0 _ e in
-    let q2 = asked (known x) 1 _ (q1 .1) in
+pub passed : (s : Setup) (t : Tables) (r : Request) (x : Step) → refusalOfStep s t r x ≡ 0 → Passed s t r x
+unfolding refusalOfStep
+passed s t r x e =
+    let q2 = asked (known x) 1 _ e in
     let q3 = asked (exists s t x) 2 _ (q2 .1) in
     let q4 = asked (timely t x) 3 _ (q3 .1) in
     let q5 = asked (vacant t x) 4 _ (q4 .1) in
     let q6 = asked (growable s t r x) 5 0 (q5 .1) in
-    record { sounds = q1 .0; knows = q2 .0; finds = q3 .0; times = q4 .0; vacates = q5 .0; grows = q6 .0 }
+    record { knows = q2 .0; finds = q3 .0; times = q4 .0; vacates = q5 .0; grows = q6 .0 }
+
+pub step-passes : (s : Setup) (t : Tables) (b : Bool) (r : Request) (x : Step) → refusal s t b r x ≡ 0 → refusalOfStep s t r x ≡ 0
+unfolding refusal
+step-passes s t b r x e = asked (sound s t b) 0 _ e .1
+
+pub accepted-all : (s : Setup) (t : Tables) (b : Bool) (r : Request) (x : Step) → refusal s t b r x ≡ 0 → Accepted s t b r x
+unfolding refusal
+accepted-all s t b r x e = record { sounds = asked (sound s t b) 0 _ e .0; passes = passed s t r x (step-passes s t b r x e) }
 
 -- the records that a step looks at
 abbrev pub copyOf : Setup → World → Step → Copy
@@ -167,18 +179,7 @@ used : (a b : Bool) → (not a || b) ≡ true → a ≡ true → b ≡ true
 used true b e h = e
 used false b e h = not-both h refl
 
-queue-part : (s : Setup) (t : Tables) → tablesSound s t ≡ true → queueSound s (t .queue) ≡ true
-unfolding tablesSound
-queue-part s t e =
-    and-true
-    (leb (t .clock) clockLimit
-    && allFrom (volumeSound t) 0 (s .volumes)
-    && allFrom (objectSound t) 0 (s .objects)
-    && allFrom (sessionsSound s t) 0 (s .clients)
-    && allFrom (holdersSound s t) 0 (s .clients))
-    (queueSound s (t .queue)) e .1
-
-module _ {s : Setup} {t : Tables} {b : Bool} {r : Request} {x : Step} (a : Accepted s t b r x) where
+module _ {s : Setup} {t : Tables} {r : Request} {x : Step} (a : Passed s t r x) where
   found : ((not (usesClient x) || ltb (x .client) (s .clients)) ≡ true)
       × ((not (usesObject x) || ltb (x .object) (s .objects)) ≡ true)
       × ((not (usesPlace x) || ltb (x .place) (t .queue .len)) ≡ true)
@@ -225,7 +226,8 @@ module _ {s : Setup} {t : Tables} {b : Bool} {r : Request} {x : Step} (a : Accep
   pub next-grows : x .kind ≡ 3 → r .next < 4294967295
   next-grows e = ltb-true _ _ (used (isAsk x) _ (grown .2) (rw e))
 
-  -- question 1, in parts
+-- question 1, in parts
+module _ {s : Setup} {t : Tables} {b : Bool} {r : Request} {x : Step} (a : Accepted s t b r x) where
   sounding : (inRange s ≡ true) × (b ≡ true) × (tablesSound s t ≡ true)
   unfolding sound
   sounding =
@@ -236,11 +238,11 @@ module _ {s : Setup} {t : Tables} {b : Bool} {r : Request} {x : Step} (a : Accep
   pub setup-in-range : inRange s ≡ true
   setup-in-range = sounding .0
 
+  pub tables-sound : tablesSound s t ≡ true
+  tables-sound = sounding .2
+
   pub queue-fits : t .queue .len ≤ 64
-  unfolding queueSound
-  queue-fits =
-      let w = and-true _ _ (queue-part s t (sounding .2)) in
-      leb-true _ _ (w .0)
+  queue-fits = sound-length s t tables-sound
 
 -- the numbers of an existing setup
 pub record Ranges (s : Setup) : Type 0 where

@@ -4,7 +4,8 @@ use denote.Ref.{now}
 use Rattle.client.specs.Shown.{read-answered}
 use Rattle.leases.specs.Parts.{tablesOf}
 use Rattle.protocol.specs.Tables.{freshSessions}
-use Rattle.decide.proofs.Laws.{client-16, object-32, volume-of-8, volumes-8, client-named, object-named, place-named, number-can-grow, last-client, by-read, by-ask, by-lose, by-double, by-last, asks, restarts}
+use Rattle.protocol.specs.Soundness.Steps.{passed, next-grows}
+use Rattle.decide.proofs.Laws.{client-16, object-32, volume-of-8, volumes-8, client-named, object-named, place-named, last-client, by-read, by-ask, by-lose, by-double, by-last, asks, restarts}
 use borrow.Author.Needs.{needs}
 use Rattle.decide.proofs.client_steps.perform.Statement.{statement}
 use Rattle.decide.proofs.client_steps.perform.Tie as tie
@@ -38,7 +39,7 @@ number-requires c κs =
     let a = c .before .before .before .before .before .before .before .args in
     let p = c .before .before .before .before .before .before .before .pre in
     let e = p .1 .1 .1 freshSessions [] [] in
-    number-can-grow (a .s) (tablesOf (a .clock) (a .w) freshSessions (a .b) [] [] (record { epoch = now (a .epochs); expiry = now (a .expiries) }) (a .q)) (a .r) (a .x) e 3 (c .before .before .before .if2 .taken) refl
+    next-grows (passed (a .s) (tablesOf (a .clock) (a .w) freshSessions (a .b) [] [] (record { epoch = now (a .epochs); expiry = now (a .expiries) }) (a .q)) (a .r) (a .x) e) (c .before .before .before .if2 .taken)
 
 returns-2 : tie.Need-returns-2
 returns-2 c = λ v l k.

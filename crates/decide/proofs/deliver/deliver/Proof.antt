@@ -1,8 +1,7 @@
 use denote.Ref.{now}
 use Rattle.leases.specs.Parts.{sessionsOf, tablesOf}
 use Rattle.protocol.specs.Tables.{withQueue}
-use Rattle.protocol.specs.SoundLaws.{sound-clock, growing}
-use Rattle.decide.specs.Accepted.{sound-length, sound-message}
+use Rattle.protocol.specs.SoundLaws.{sound-clock, growing, sound-length, sound-message}
 use Rattle.decide.proofs.Laws.{deliver-law}
 use borrow.Author.Needs.{needs}
 use Rattle.decide.proofs.deliver.deliver.Statement.{statement}

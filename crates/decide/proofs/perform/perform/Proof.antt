@@ -2,8 +2,7 @@ use mathlib.Core.Path.{refl, sym, _∙_}
 use denote.Ref.{now}
 use Rattle.leases.specs.Parts.{sessionsOf, tablesOf}
 use Rattle.protocol.specs.Gate.{exists, timely, vacant, growable, refusalOfStep}
-use Rattle.protocol.specs.SoundLaws.{sound-clock, growing}
-use Rattle.decide.specs.Accepted.{sound-length}
+use Rattle.protocol.specs.SoundLaws.{sound-clock, growing, sound-length}
 use Rattle.decide.proofs.Laws.{place-named, by-deliver, elsewhere}
 use borrow.Author.Needs.{needs}
 use Rattle.decide.proofs.perform.perform.Statement.{statement}
