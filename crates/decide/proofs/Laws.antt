@@ -1,9 +1,9 @@
 -- What each way through a function's tests found, put together.
-use Prim.Native.Nat.{ℕ, _+_, _*_, _<_, _≤_, _^_}
-use native.Mathlib.Nat.{mul-le-mul-right, lt-of-le-of-lt, le-of-lt}
+use Prim.Native.Nat.{ℕ, _+_, _*_, _<_, _≤_}
+use native.Mathlib.Nat.{mul-le-mul-right, le-of-lt}
 use native.Mathlib.Omega.{arith}
-use mathlib.Core.Bool.{Bool, true, false, cond, not, _&&_, _||_}
-use mathlib.Core.Path.{_≡_, refl, sym, ap, _∙_}
+use mathlib.Core.Bool.{Bool, true, false, _&&_, _||_}
+use mathlib.Core.Path.{_≡_, refl, sym, _∙_}
 use lib.Dec.{ltb, leb, eqb}
 use borrow.Author.Tests.{eq-eqb, ne-eqb, eqb-true, ltb-true, leb-true}
 use Rattle.protocol.specs.declared.message.Kind.{Kind}
@@ -25,18 +25,17 @@ use Rattle.protocol.specs.declared.step.Decision.{Decision}
 use Rattle.protocol.specs.Setup.{volumeOf, inRange}
 use Rattle.protocol.specs.Client.{renewal, numbered, ended, clientRestarted}
 use Rattle.protocol.specs.Messages.{messageAt, objectOf, pushed, doubled}
-use Rattle.protocol.specs.Tables.{epochAt, versionAt, standingAt, withViews, withQueue}
+use Rattle.protocol.specs.Tables.{withViews, withQueue}
 use Rattle.protocol.specs.Writes.{Counted, settled, writeStaged, clockStaged}
 use Rattle.protocol.specs.Server.{renewed, ackStaged, dropStaged, serverRestarted}
-use Rattle.protocol.specs.Sound.{kindSound, timeFits, canGrow, tablesSound}
+use Rattle.protocol.specs.Sound.{kindSound, timeFits, tablesSound}
 use Rattle.protocol.specs.SoundLaws.{ranged, volume-in}
 use Rattle.protocol.specs.Soundness.Steps.{passed, step-passes, accepted-all, setup-in-range, tables-sound, client-exists, object-exists, place-exists}
-use Rattle.protocol.specs.Gate.{usesClient, usesObject, usesPlace, isClock, isWrite, isAsk, isRestartServer, known, refusalOfStep, refusal}
+use Rattle.protocol.specs.Gate.{isClock, isWrite, isRestartServer, known, refusalOfStep, refusal}
 use Rattle.protocol.specs.Answers.{completedAnswer}
 use Rattle.protocol.specs.Decide.{Received, kept, uncounted, byServer, grantReceived, invalidateReceived, offerReceived, received, answered, counting, readDecided, askDecided, delivered, taken, deliverDecided, restartDecided, performed, refusedWith, decided}
 use Rattle.protocol.specs.World.{targetAt, target}
 use Rattle.laws.specs.Choice.{and-true, not-both}
-use Rattle.laws.specs.Loop.{allFrom, all-each}
 
 -- a byte times a number of 32 bits
 pub byte-times : (a b : ℕ) → a < 256 → b < 4294967296 → a * b ≤ 1099511627776

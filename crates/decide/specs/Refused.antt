@@ -1,16 +1,15 @@
 -- "the first "no" gives its number, nothing else, and every lent table and buffer is unchanged": what a refused decision hands back.
 use Prim.Native.Nat.{ℕ}
-use mathlib.Core.Bool.{Bool, true, false, cond}
+use mathlib.Core.Bool.{Bool, true, false}
 use mathlib.Core.Logic.{_⊎_, inl, inr}
-use mathlib.Core.Path.{_≡_, refl, sym, _∙_}
+use mathlib.Core.Path.{_≡_, refl}
 use lib.Dec.{eqb}
 use Rattle.laws.specs.Choice.{cond-keeps, true-or-false, not-both}
-use Rattle.protocol.specs.declared.message.Message.{Message}
 use Rattle.protocol.specs.declared.records.Copy.{Copy}
 use Rattle.protocol.specs.declared.records.Request.{Request}
 use Rattle.protocol.specs.declared.setup.Setup.{Setup}
 use Rattle.protocol.specs.declared.step.Answer.{Answer}
-use Rattle.protocol.specs.declared.step.Answer.the-variants.{Done, Completed, Delivered, Refused}
+use Rattle.protocol.specs.declared.step.Answer.the-variants.{Delivered, Refused}
 use Rattle.protocol.specs.declared.step.Decision.{Decision}
 use Rattle.protocol.specs.declared.step.Step.{Step}
 use Rattle.protocol.specs.declared.step.Sweep.the-variants.{Keep}
@@ -20,7 +19,7 @@ use Rattle.protocol.specs.Writes.{settled, writeStaged, clockStaged}
 use Rattle.protocol.specs.Answers.{doneOrCompleted, isRefused, completedAnswer}
 use Rattle.protocol.specs.Client.{showable}
 use Rattle.protocol.specs.Gate.{isClock, isRead, isAsk, isWrite, isDeliver, isLose, isDouble, isRestartServer, refusal}
-use Rattle.protocol.specs.Decide.{received, taken, readDecided, askDecided, deliverDecided, restartDecided, performed, refusedWith, decidedBy, decided}
+use Rattle.protocol.specs.Decide.{received, taken, readDecided, askDecided, deliverDecided, restartDecided, performed, refusedWith, decided}
 
 -- the tables, the copy and the request as they were, and no sweep
 pub record Unchanged (t : Tables) (c : Copy) (r : Request) (d : Decision) : Type 0 where

@@ -1,9 +1,8 @@
 -- What each way through a call found, put together.
 use Prim.Native.Nat.{ℕ, _<_, _≤_}
-use mathlib.Core.Bool.{Bool, true, false, cond, _&&_}
+use mathlib.Core.Bool.{Bool, true, false, cond}
 use mathlib.Core.List.{List}
-use mathlib.Core.Path.{_≡_, refl, sym, ap, _∙_}
-use lib.Dec.{leb}
+use mathlib.Core.Path.{_≡_, sym, ap, _∙_}
 use lib.ListN.{length}
 use lib.Seq.{sets}
 use borrow.Author.Tests.{le-leb, lt-leb}
@@ -13,11 +12,11 @@ use Rattle.frame.specs.declared.Decoded.{Decoded}
 use Rattle.frame.specs.declared.Decoded.the-variants as decoded
 use Rattle.frame.specs.declared.Encoded.{Encoded}
 use Rattle.frame.specs.declared.Encoded.the-variants as encoded
-use Rattle.frame.specs.Frame.{fieldsOf, messageIn, same, sound, isFrame, messageOf, fits, framed, decodedNumber, encodedNumber, refusal, Decodes, Encodes}
+use Rattle.frame.specs.Frame.{fieldsOf, messageIn, same, sound, framed, decodedNumber, encodedNumber, Decodes, Encodes}
 use Rattle.run.specs.declared.Listed.{Listed}
 use Rattle.run.specs.declared.Listed.the-variants as listing
 use Rattle.run.specs.Listed.{printed, listed, output}
-use Rattle.exports.specs.Calls.{Lists, EncodesFields, numbersOf, fieldsStored, hasTen, DecodesFields}
+use Rattle.exports.specs.Calls.{Lists, EncodesFields, numbersOf, DecodesFields}
 
 module _ (file before after : List ℕ) (n : ℕ) (r : Listed) (e : r ≡ listed (printed file) (length before)) (f : after ≡ output (printed file) before) where
   pub list-written : (m : ℕ) → r ≡ listing.Written m → Lists file before after n m 0

@@ -1,6 +1,6 @@
 // The library that other languages link (`rt staticlib exports`): calls on numbers and slices, each 0 or 01's number of a refusal, which changes nothing.
 // A slice is two arguments, its address and its length.
-ghost use Prim.Native.Nat.{ℕ, _≤_};
+ghost use Prim.Native.Nat.{_≤_};
 ghost use mathlib.Core.Path.{_≡_};
 ghost use lib.ListN.{length};
 ghost use lib.Seq.{sets};

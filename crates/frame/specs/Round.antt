@@ -1,12 +1,12 @@
 -- Each message that fits has one frame, and each frame that is accepted is that of exactly one message.
 use Prim.Native.Nat.{ℕ, _+_, _<_}
 use native.Mathlib.Omega.{arith}
-use mathlib.Core.Bool.{Bool, true, false, _&&_}
-use mathlib.Core.List.{List, [], _∷_, _++_, append-assoc, append-nil}
+use mathlib.Core.Bool.{true, _&&_}
+use mathlib.Core.List.{List, [], _++_, append-assoc, append-nil}
 use mathlib.Core.Logic.{⊎-elim}
 use mathlib.Core.Path.{_≡_, refl, sym, ap, _∙_}
 use lib.Dec.{eqb}
-use lib.ListN.{length, getD, drop}
+use lib.ListN.{length, drop}
 use lib.Seq.{drop-cons, drop-length}
 use borrow.Author.Tests.{eq-eqb, eqb-true}
 use Rattle.laws.specs.Choice.{true-or-false, and-true}
@@ -18,7 +18,7 @@ use Rattle.protocol.specs.declared.message.Payload.the-variants.{Same, Value}
 use Rattle.frame.specs.declared.fields.Fields.{Fields}
 use Rattle.frame.specs.declared.Decoded.{Decoded}
 use Rattle.frame.specs.declared.Decoded.the-variants.{Accepted, Refused}
-use Rattle.frame.specs.Frame.{row, kindFields, fieldsOf, head, numbers, laid, frameOf, fieldsIn, kindIn, messageIn, same, accepted, messageOf}
+use Rattle.frame.specs.Frame.{row, kindFields, fieldsOf, numbers, laid, frameOf, fieldsIn, kindIn, messageIn, same, accepted, messageOf}
 
 -- Each field has a number of its width, as every message of a program does
 pub record FieldsFit (f : Fields) : Type 0 where

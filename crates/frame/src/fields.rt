@@ -1,5 +1,4 @@
 // A frame's fields as numbers, and the message that they are.
-ghost use Prim.Native.Nat.{ℕ};
 ghost use mathlib.Core.Path.{_≡_};
 ghost use Rattle.frame.specs.Frame.{row, kindFields, fieldsOf, payloadIn, kindIn, messageIn, same};
 use protocol::message::Kind;

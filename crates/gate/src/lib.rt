@@ -1,7 +1,5 @@
 // The questions at the gate, in order (01, "Questions at the gate"): the first "no" gives its number, and 0 is none.
-ghost use mathlib.Core.Bool.{Bool, true};
 ghost use mathlib.Core.Path.{_≡_};
-ghost use Prim.Native.Nat.{_≤_};
 ghost use Rattle.protocol.specs.Gate.{refusal};
 use protocol::records::Request;
 use protocol::setup::Setup;

@@ -1,5 +1,4 @@
 ghost use mathlib.Core.Path.{_≡_};
-ghost use Prim.Native.Nat.{ℕ, _≤_};
 ghost use Rattle.protocol.specs.Sound.{kindSound, messageSound, queueSound};
 use protocol::message::Kind;
 use protocol::message::Message;

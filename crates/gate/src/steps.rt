@@ -1,13 +1,12 @@
-ghost use mathlib.Core.Bool.{Bool, false, not, _&&_, _||_};
+ghost use mathlib.Core.Bool.{false, not, _||_};
 ghost use mathlib.Core.Path.{_≡_};
-ghost use Prim.Native.Nat.{ℕ, _≤_};
-ghost use lib.Dec.{ltb, leb};
+ghost use Prim.Native.Nat.{_≤_};
 ghost use lib.ListN.{getD};
 ghost use Rattle.laws.specs.Loop.{allFrom};
 ghost use Rattle.protocol.specs.declared.tables.Tables.{Tables};
 ghost use Rattle.protocol.specs.Sound.{canGrow, clockLimit};
 ghost use Rattle.protocol.specs.Setup.{between};
-ghost use Rattle.protocol.specs.Gate.{known, isClock, isWrite, isRestartServer, isAsk, orRefuse, refusalOfStep};
+ghost use Rattle.protocol.specs.Gate.{known, isClock, isWrite, orRefuse, refusalOfStep};
 ghost use Rattle.gate.specs.Scans.{epochGrows, existsWith};
 use protocol::records::Request;
 use protocol::setup::Setup;

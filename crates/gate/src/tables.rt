@@ -1,10 +1,7 @@
-ghost use mathlib.Core.Bool.{Bool, true, not, _&&_, _||_};
+ghost use mathlib.Core.Bool.{true};
 ghost use mathlib.Core.Path.{_≡_};
 ghost use Prim.Native.Nat.{ℕ, _*_, _+_, _<_, _≤_};
-ghost use lib.Dec.{ltb, leb};
-ghost use lib.ListN.{getD};
 ghost use Rattle.laws.specs.Loop.{allFrom};
-ghost use Rattle.protocol.specs.Setup.{inRange};
 ghost use Rattle.protocol.specs.Sound.{tablesSound};
 ghost use Rattle.gate.specs.Scans.{volumeFits, objectFits, pairFits, rowFits};
 use crate::messages;

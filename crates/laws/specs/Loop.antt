@@ -4,9 +4,9 @@ use Prim.Native.Nat.{ℕ, zero, suc, _+_, _-_, _<_, _≤_}
 use native.Mathlib.Decide.{ℕ-discrete}
 use native.Mathlib.Omega.{arith}
 use mathlib.Core.Bool.{Bool, true, false, cond, _&&_, _||_}
-use mathlib.Core.Path.{_≡_, refl, sym, ap, _∙_}
+use mathlib.Core.Path.{_≡_, refl, sym, _∙_}
 use mathlib.Core.List.{List, [], _∷_}
-use Rattle.laws.specs.Choice.{cond-keeps, and-true, or-false, or-true, not-both}
+use Rattle.laws.specs.Choice.{cond-keeps, and-true, or-false}
 
 pub left-more : (N j : ℕ) → j < N → N - j ≡ suc (N - (j + 1))
 left-more N j h = omega arith

@@ -1,9 +1,9 @@
 -- The numbers and stores of straight-line code are those of the definitions.
-use Prim.Native.Nat.{ℕ, suc, _+_, _*_, _/_, _%_, _<_, _≤_}
+use Prim.Native.Nat.{ℕ, suc, _+_, _*_, _/_, _%_}
 use native.Mathlib.Omega.{arith}
-use mathlib.Core.List.{List, [], _∷_}
-use mathlib.Core.Path.{_≡_, refl, sym, ap, _∙_}
-use lib.ListN.{length, getD, set, length-set}
+use mathlib.Core.List.{List, _∷_}
+use mathlib.Core.Path.{_≡_, _∙_}
+use lib.ListN.{getD, set, length-set}
 use lib.Seq.{sets}
 use Rattle.layout.specs.Number.{littleEndian, bytesOf, bytesAt, numberAt, Stored}
 

@@ -1,5 +1,5 @@
 // Numbers of 4 and 8 bytes, the lowest byte first (01, "Frame, run file and listing"). Callers see to it that the bytes are there.
-ghost use Prim.Native.Nat.{ℕ, _+_, _*_, _/_, _%_, _≤_};
+ghost use Prim.Native.Nat.{_+_, _*_, _/_, _%_, _≤_};
 ghost use mathlib.Core.Path.{_≡_};
 ghost use lib.ListN.{length};
 ghost use Rattle.layout.specs.Number.{numberAt, bytesOf, Stored};

@@ -1,15 +1,15 @@
 -- 01, "Frame, run file and listing": "prints a header, then a line a step: step from 1, answer, value".
-use Prim.Native.Nat.{ℕ, zero, suc, _+_, _*_, _<_, _≤_}
+use Prim.Native.Nat.{ℕ, _+_, _*_, _<_, _≤_}
 use native.Mathlib.Omega.{arith}
 use mathlib.Core.List.{List, [], _∷_, _++_}
-use mathlib.Core.Path.{_≡_, refl, sym, ap, _∙_}
+use mathlib.Core.Path.{_≡_, refl, _∙_}
 use lib.Dec.{eqb}
 use lib.ListN.{length, length-append}
 use Rattle.laws.specs.Choice.{cond-keeps}
 use Rattle.protocol.specs.declared.step.Answer.{Answer}
 use Rattle.protocol.specs.declared.step.Answer.the-variants.{Done, Shown, AskFirst, Completed, Delivered, Refused}
 use Rattle.protocol.specs.Answers.{doneOrCompleted, answerNumber, answerValue}
-use Rattle.listing.specs.Decimal.{decimal, width, further, tens, length-decimal, further-most, further-below}
+use Rattle.listing.specs.Decimal.{decimal, width, tens, length-decimal, further-most, further-below}
 
 abbrev pub space : ℕ
 space = 32

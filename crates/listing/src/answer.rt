@@ -1,5 +1,4 @@
 // 01's number and value of each answer.
-ghost use Prim.Native.Nat.{ℕ};
 ghost use mathlib.Core.Path.{_≡_};
 ghost use Rattle.protocol.specs.Answers.{doneOrCompleted, answerNumber, answerValue};
 use protocol::step::Answer;

@@ -2,7 +2,7 @@
 mod answer;
 mod number;
 
-ghost use Prim.Native.Nat.{ℕ, _+_, _≤_};
+ghost use Prim.Native.Nat.{_+_, _≤_};
 ghost use lib.ListN.{length};
 ghost use Rattle.listing.specs.Written.{Written};
 ghost use Rattle.listing.specs.Listing.{header, line, lineOf};

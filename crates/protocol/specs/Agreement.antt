@@ -1,6 +1,6 @@
 -- Demand 3 as one statement: "After each step of the list, the program against the ledger".
 use Prim.Native.Nat.{ℕ, _+_, _<_, _≤_}
-use mathlib.Core.Bool.{Bool, true, false, cond}
+use mathlib.Core.Bool.{true, false, cond}
 use mathlib.Core.List.{List, [], _∷_}
 use mathlib.Core.Path.{_≡_}
 use Rattle.protocol.specs.declared.setup.Setup.{Setup}

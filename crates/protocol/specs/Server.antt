@@ -2,7 +2,7 @@
 use Prim.Native.Nat.{ℕ, _+_}
 use mathlib.Core.Bool.{Bool, true, false, cond, not, _&&_, _||_}
 use lib.Dec.{ltb, leb, eqb}
-use lib.ListN.{getD, set, replicate}
+use lib.ListN.{set, replicate}
 use Rattle.laws.specs.Loop.{firstFrom}
 use Rattle.laws.specs.Store.{storeEach, always}
 use Rattle.protocol.specs.declared.message.Message.{Message}
@@ -12,9 +12,6 @@ use Rattle.protocol.specs.declared.message.Payload.{Payload}
 use Rattle.protocol.specs.declared.message.Payload.the-variants.{Same, Value}
 use Rattle.protocol.specs.declared.message.Kind.the-variants.{Grant, Offer}
 use Rattle.protocol.specs.declared.setup.Setup.{Setup}
-use Rattle.protocol.specs.declared.tables.Volumes.{Volumes}
-use Rattle.protocol.specs.declared.tables.Sessions.{Sessions}
-use Rattle.protocol.specs.declared.tables.Objects.{Objects}
 use Rattle.protocol.specs.declared.tables.Holders.{Holders}
 use Rattle.protocol.specs.declared.tables.Tables.{Tables}
 use Rattle.protocol.specs.Setup.{volumeOf}

@@ -2,7 +2,7 @@
 use Prim.Native.Nat.{ℕ, zero, suc, _+_, min, max}
 use mathlib.Core.Bool.{Bool, true, false, cond, not, _&&_, _||_}
 use mathlib.Core.List.{List, [], _∷_}
-use lib.ListN.{getD, set}
+use lib.ListN.{set}
 use Rattle.laws.specs.Loop.{foldFrom, anyFrom}
 use Rattle.laws.specs.Store.{storeEach, always}
 use Rattle.protocol.specs.declared.message.Message.{Message}

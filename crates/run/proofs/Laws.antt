@@ -1,14 +1,14 @@
 -- What each way through a function, or a loop's turn, found, put together.
-use Prim.Native.Nat.{ℕ, zero, suc, _+_, _-_, _*_, _<_, _≤_}
+use Prim.Native.Nat.{ℕ, _+_, _-_, _*_, _<_, _≤_}
 use native.Mathlib.Nat.{mul-le-mul}
 use native.Mathlib.Omega.{arith}
-use mathlib.Core.Bool.{true, false, cond, _&&_}
-use mathlib.Core.List.{List, [], _∷_, _++_}
-use mathlib.Core.Path.{_≡_, refl, sym, ap, _∙_}
-use lib.Dec.{ltb, eqb}
+use mathlib.Core.Bool.{true, false, _&&_}
+use mathlib.Core.List.{List, _++_}
+use mathlib.Core.Path.{_≡_, sym, ap, _∙_}
+use lib.Dec.{ltb}
 use lib.ListN.{length, getD, set, take, drop, replicate}
-use lib.Seq.{sets, sets-eq, take-append-seam, length-take-le}
-use borrow.Author.Tests.{lt-ltb, le-ltb, le-leb, lt-leb, eq-eqb, ne-eqb, ltb-true}
+use lib.Seq.{sets-eq, take-append-seam, length-take-le}
+use borrow.Author.Tests.{lt-ltb, le-ltb, le-leb, lt-leb, ne-eqb, ltb-true}
 use Rattle.laws.specs.Choice.{cond-keeps, and-true, true-or-false}
 use mathlib.Core.Logic.{⊎-elim}
 use Rattle.laws.specs.Loop.{foldFrom, fold-again}
@@ -42,7 +42,6 @@ use Rattle.protocol.specs.Soundness.Steps.{ranges, recordsOf}
 use Rattle.run.specs.Owned.{copyCount, worldOf, Owned, placeIn, reach, decidedOn, sweep-fits}
 use Rattle.run.specs.declared.steps.Left.{Left}
 use Rattle.run.specs.Ran.{RanSteps, Roomy, Running, run-on, run-again}
-use Rattle.run.specs.declared.Listed.{Listed}
 use Rattle.run.specs.declared.Listed.the-variants as listing-answer
 use Rattle.run.specs.Listed.{setupOf, answersOf, printed, listed, output, printed-short}
 

@@ -2,11 +2,11 @@
 use Prim.Native.Nat.{ℕ, zero, suc, _+_, _-_, _*_, _<_, _≤_}
 use native.Mathlib.Nat.{mul-le-mul, mul-le-mul-right, suc-mul}
 use native.Mathlib.Omega.{arith}
-use mathlib.Core.Bool.{Bool, true, false, cond}
+use mathlib.Core.Bool.{true, false, cond}
 use mathlib.Core.List.{List, [], _∷_}
 use mathlib.Core.Path.{_≡_, refl, sym, ap, _∙_}
 use lib.Dec.{ltb}
-use lib.ListN.{length, getD, set, take, replicate, length-set, List·getD-eq-default}
+use lib.ListN.{length, getD, set, take, length-set, List·getD-eq-default}
 use lib.Seq.{set-getD, take-set-le, take-set-lt, set-out, getD-take, length-take-le}
 use borrow.Author.Tests.{ltb-true, ltb-false}
 use Rattle.laws.specs.Choice.{cond-keeps}
@@ -26,7 +26,7 @@ use Rattle.protocol.specs.Tables.{noCopy, noRequest}
 use Rattle.protocol.specs.Client.{sweeps, sweepAt, sweptAll}
 use Rattle.protocol.specs.Gate.{isDeliver, refusalOfStep, refusal}
 use Rattle.protocol.specs.Decide.{kept, answered, decidedBy, decided}
-use Rattle.protocol.specs.World.{World, targetAt, target, decision, copiesAfter, requestsAfter, stepped, answerOf}
+use Rattle.protocol.specs.World.{World, target, decision, copiesAfter, requestsAfter, stepped, answerOf}
 use Rattle.protocol.specs.Soundness.Steps.{Ranges, ranges}
 use Rattle.protocol.specs.Soundness.Question.{SoundWorld, sounds, stepped-sound}
 

@@ -1,8 +1,8 @@
 -- A run over the steps of a file, each on what the last one left, and the lines of its answers.
 use Prim.Native.Nat.{ℕ, zero, suc, _+_, _-_, _*_, _<_, _≤_}
-use native.Mathlib.Nat.{add-zero, mul-le-mul}
+use native.Mathlib.Nat.{mul-le-mul}
 use native.Mathlib.Omega.{arith}
-use mathlib.Core.Bool.{Bool, true}
+use mathlib.Core.Bool.{true}
 use mathlib.Core.List.{List, [], _∷_, _++_}
 use mathlib.Core.Path.{_≡_, refl, sym, ap, _∙_}
 use lib.ListN.{length, set, take, replicate, length-append}
@@ -21,16 +21,15 @@ use Rattle.protocol.specs.Setup.{inRange}
 use Rattle.protocol.specs.Tables.{noCopy, noRequest, freshRequest, freshTables}
 use Rattle.protocol.specs.Answers.{answerValue}
 use Rattle.protocol.specs.Decide.{kept, answered}
-use Rattle.protocol.specs.World.{World, freshWorld, target, stepped, answerOf, ran, answers}
+use Rattle.protocol.specs.World.{World, freshWorld, target, ran, answers}
 use Rattle.protocol.specs.Soundness.Steps.{ranges}
 use Rattle.protocol.specs.Soundness.Question.{fresh-sound}
 use Rattle.runfile.specs.File.{placeOf, stepIn, stepAt}
 use Rattle.runfile.specs.Steps.{stepsFrom}
-use Rattle.layout.specs.Number.{Stored}
 use Rattle.listing.specs.Listing.{line, lineOf, linesFrom, line-short, answer-small}
 use Rattle.listing.specs.Written.{Written, sets-then}
 use Rattle.run.specs.declared.steps.Left.{Left}
-use Rattle.run.specs.Owned.{copyCount, worldOf, Owned, placeIn, decidedOn, copiesLeft, requestsLeft, copySeen, requestSeen, kept-after, world-after, answer-after, owned-after}
+use Rattle.run.specs.Owned.{copyCount, worldOf, Owned, decidedOn, copiesLeft, requestsLeft, copySeen, requestSeen, kept-after, world-after, answer-after, owned-after}
 
 -- the lines of a run's answers stand in the output, and the tables and records are what the run leaves
 pub record RanSteps (s : Setup) (file : List ℕ) (first count : ℕ) (before after : List ℕ) (at : ℕ) (r : Left) : Type 0 where

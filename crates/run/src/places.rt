@@ -1,5 +1,5 @@
 // Where a step's records stand in the arrays that a run owns, and a sweep over one client's copies there.
-ghost use Prim.Native.Nat.{ℕ, _+_, _≤_};
+ghost use Prim.Native.Nat.{_+_, _≤_};
 ghost use mathlib.Core.Path.{_≡_};
 ghost use Rattle.laws.specs.Loop.{foldFrom};
 ghost use Rattle.protocol.specs.Client.{sweeps, sweepAt};

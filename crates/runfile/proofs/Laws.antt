@@ -4,8 +4,8 @@ use native.Mathlib.Numerals.{add-one}
 use native.Mathlib.Omega.{arith}
 use mathlib.Core.Bool.{Bool, true, false, _&&_}
 use mathlib.Core.List.{List, [], _∷_, _++_}
-use mathlib.Core.Path.{_≡_, refl, sym, ap, _∙_}
-use lib.Dec.{leb, eqb}
+use mathlib.Core.Path.{_≡_, sym, ap, _∙_}
+use lib.Dec.{eqb}
 use lib.ListN.{length, getD, set, take}
 use lib.Seq.{take-suc-set, take-length, length-take-le}
 use borrow.Author.Tests.{le-leb, lt-leb}
@@ -15,7 +15,7 @@ use Rattle.protocol.specs.declared.setup.Setup.{Setup}
 use Rattle.protocol.specs.declared.step.Step.{Step}
 use Rattle.protocol.specs.Setup.{inRange}
 use Rattle.runfile.specs.declared.Contents.{Contents}
-use Rattle.runfile.specs.File.{countOf, distanceOf, setupPlace, firstPlace, placeOf, setupIn, stepIn, stepFits, stepFitsAt, stepsFit, trailerFits, measured, contentsFit, wellFormed, noStep, stepAt, contents, contentsOf, noContents, noteOf}
+use Rattle.runfile.specs.File.{countOf, distanceOf, setupPlace, placeOf, setupIn, stepIn, stepFits, stepFitsAt, stepsFit, trailerFits, measured, contentsFit, wellFormed, noStep, stepAt, contents, contentsOf, noContents, noteOf}
 use Rattle.runfile.specs.Steps.{Parts, parts, formed-parts}
 
 -- bytes taken one after the other

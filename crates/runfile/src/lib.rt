@@ -2,7 +2,6 @@
 mod record;
 mod shape;
 
-ghost use Prim.Native.Nat.{ℕ};
 ghost use mathlib.Core.Path.{_≡_};
 ghost use Rattle.runfile.specs.File.{noContents, contentsOf, noteOf, stepAt};
 use protocol::setup::Setup;

@@ -1,5 +1,5 @@
 // Which files are shaped as 01 says.
-ghost use Prim.Native.Nat.{ℕ, _+_, _*_, _≤_};
+ghost use Prim.Native.Nat.{_+_, _*_, _≤_};
 ghost use mathlib.Core.Path.{_≡_};
 ghost use lib.ListN.{length};
 ghost use Rattle.runfile.specs.File.{countOf, setupPlace, stepFits, stepsFit, trailerFits, measured, contentsFit, wellFormed};

@@ -1,9 +1,9 @@
 // A setup in range, and fresh tables for one (01, "Tables").
 pub mod fresh;
 
-ghost use Prim.Native.Nat.{ℕ, _-_, _<_, _≤_};
-ghost use lib.Dec.{ltb, leb, eqb};
-ghost use mathlib.Core.Bool.{Bool, cond, _&&_};
+ghost use Prim.Native.Nat.{_-_, _<_};
+ghost use lib.Dec.{ltb, eqb};
+ghost use mathlib.Core.Bool.{cond};
 ghost use mathlib.Core.Path.{_≡_};
 ghost use Rattle.laws.specs.Loop.{allFrom};
 ghost use Rattle.protocol.specs.Setup.{between, volumeFits, inRange};

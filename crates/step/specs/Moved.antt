@@ -15,7 +15,7 @@ use Rattle.protocol.specs.declared.step.Decision.{Decision}
 use Rattle.protocol.specs.declared.step.Step.{Step}
 use Rattle.protocol.specs.declared.tables.Tables.{Tables}
 use Rattle.protocol.specs.Messages.{messageAt}
-use Rattle.protocol.specs.Client.{showable, stands, grantTaken, ended, forgotten}
+use Rattle.protocol.specs.Client.{showable, stands, grantTaken, forgotten}
 use Rattle.protocol.specs.Gate.{isClock, isRead, isAsk, isWrite, isDeliver, isLose, isDouble, isRestartServer}
 use Rattle.protocol.specs.Decide.{Received, grantReceived, invalidateReceived, offerReceived, received, readDecided, askDecided, taken, deliverDecided, restartDecided, performed}
 use Rattle.protocol.specs.World.{World, decision}
@@ -50,7 +50,7 @@ module _ (r : Request) where
   performs s t c ok x e =
       cond-keeps Does (isClock x) (λ _. stays refl)
       (λ _. cond-keeps Does (isRead x) (λ _. cond-keeps Does (showable s t c (x .client) (x .object)) (λ _. stays refl) (λ _. stays refl))
-      (λ _. cond-keeps Does (isAsk x) (λ a. takes (x .object) refl (next-grows e (eqb-true _ 3 a)))
+      (λ _. cond-keeps Does (isAsk x) (λ a. takes (x .object) refl (next-grows (e .passes) (eqb-true _ 3 a)))
       (λ _. cond-keeps Does (isWrite x) (λ _. stays refl)
       (λ _. cond-keeps Does (isDeliver x) (λ _. receives s (taken t (x .place)) c (messageAt (t .queue) (x .place) .client) (messageAt (t .queue) (x .place) .kind))
       (λ _. cond-keeps Does (isLose x) (λ _. stays refl)

@@ -1,16 +1,16 @@
 -- The server takes an ACK: the client holds no copy, and no GRANT under way can bring it one, so its lease may go.
-use Prim.Native.Nat.{ℕ, _+_, _<_, _≤_}
+use Prim.Native.Nat.{ℕ, _+_, _<_}
 use native.Mathlib.Omega.{arith}
 use mathlib.Core.Bool.{Bool, true, false, cond, _&&_}
 use mathlib.Core.List.{List}
 use mathlib.Core.Logic.{_⊎_, inl, inr, ⊎-elim}
-use mathlib.Core.Path.{_≡_, refl, sym, ap, _∙_}
+use mathlib.Core.Path.{_≡_, sym, _∙_}
 use lib.Dec.{eqb}
-use lib.ListN.{length, getD, set}
+use lib.ListN.{getD, set}
 use borrow.Author.Tests.{eqb-true}
-use Rattle.laws.specs.Choice.{same?, not-both, cond-keeps, and-true}
+use Rattle.laws.specs.Choice.{not-both, and-true}
 use Rattle.protocol.specs.declared.message.Payload.{Payload}
-use Rattle.protocol.specs.declared.message.Kind.the-variants.{Ack, Grant}
+use Rattle.protocol.specs.declared.message.Kind.the-variants.{Grant}
 use Rattle.protocol.specs.declared.setup.Setup.{Setup}
 use Rattle.protocol.specs.declared.tables.Tables.{Tables}
 use Rattle.protocol.specs.Setup.{volumeOf}

@@ -1,31 +1,26 @@
 -- Step 5, accepted: the message is removed, and received by its client or by the server.
 use Prim.Native.Nat.{ℕ, _+_, _*_, _<_, _≤_}
 use native.Mathlib.Omega.{arith}
-use mathlib.Core.Bool.{Bool, true, false, cond, _&&_}
-use mathlib.Core.List.{List}
-use mathlib.Core.Logic.{_⊎_, inl, inr, ⊎-elim}
-use mathlib.Core.Path.{_≡_, refl, sym, ap, _∙_}
-use lib.ListN.{length, getD, set}
+use mathlib.Core.Bool.{true, false, cond, _&&_}
+use lib.ListN.{set}
 use lib.Seq.{set-getD}
 use Rattle.laws.specs.Choice.{cond-keeps, and-true}
-use Rattle.laws.specs.Loop.{foldFrom}
 use Rattle.protocol.specs.declared.message.Message.{Message}
 use Rattle.protocol.specs.declared.message.Payload.{Payload}
 use Rattle.protocol.specs.declared.message.Kind.{Kind}
 use Rattle.protocol.specs.declared.message.Kind.the-variants.{Renew, Grant, Invalidate, Ack, Offer, Dropped}
-use Rattle.protocol.specs.declared.records.Copy.{Copy}
 use Rattle.protocol.specs.declared.records.Request.{Request}
 use Rattle.protocol.specs.declared.setup.Setup.{Setup}
 use Rattle.protocol.specs.declared.tables.Tables.{Tables}
-use Rattle.protocol.specs.Messages.{messageAt, objectOf, removed}
+use Rattle.protocol.specs.Messages.{objectOf, removed}
 use Rattle.protocol.specs.Tables.{noCopy, noRequest}
-use Rattle.protocol.specs.Writes.{Staged, unstaged, settled}
-use Rattle.protocol.specs.Server.{ackTaken, acked, ackStaged, dropTaken, dropped, dropStaged}
-use Rattle.protocol.specs.Client.{stands, storable, grantTaken, filled, ended, sweptAll}
+use Rattle.protocol.specs.Writes.{Staged}
+use Rattle.protocol.specs.Server.{ackTaken, ackStaged, dropTaken, dropStaged}
+use Rattle.protocol.specs.Client.{stands, storable, grantTaken, ended, sweptAll}
 use Rattle.protocol.specs.Decide.{Received, taken, grantReceived, invalidateReceived, offerReceived, received}
 use Rattle.protocol.specs.World.{World}
 use Rattle.protocol.specs.Soundness.Steps.{Ranges}
-use Rattle.protocol.specs.Soundness.Shape.{Shape, WorldShape, taken-shape, ack-shape, drop-shape}
+use Rattle.protocol.specs.Soundness.Shape.{WorldShape, taken-shape, ack-shape, drop-shape}
 use Rattle.protocol.specs.Safety.Invariant.{Inv, Sent, from, copyAt, requestAt}
 use Rattle.protocol.specs.Safety.Tools.{stands-true, sent-removed}
 use Rattle.protocol.specs.Safety.Replaced.{withTables}

@@ -1,15 +1,15 @@
 -- The server takes a DROPPED: the client has no lease in the volume, so the server forgets them, the mark and the offer.
-use Prim.Native.Nat.{ℕ, _+_, _<_, _≤_}
+use Prim.Native.Nat.{ℕ, _+_, _<_}
 use native.Mathlib.Omega.{arith}
 use native.Mathlib.Decide.{ℕ-discrete}
 use mathlib.Core.Bool.{Bool, true, false, cond, not, _&&_}
 use mathlib.Core.List.{List}
 use mathlib.Core.Logic.{_⊎_, inl, inr, ⊎-elim}
-use mathlib.Core.Path.{_≡_, refl, sym, ap, _∙_}
+use mathlib.Core.Path.{_≡_, sym, ap, _∙_}
 use lib.Dec.{eqb}
 use lib.ListN.{length, getD, set}
 use borrow.Author.Tests.{eqb-true, eqb-false, eq-eqb, not-true}
-use Rattle.laws.specs.Choice.{same?, not-both, cond-keeps, and-true}
+use Rattle.laws.specs.Choice.{same?, not-both, and-true}
 use Rattle.laws.specs.Store.{storeEach, store-hit, store-other}
 use Rattle.protocol.specs.declared.setup.Setup.{Setup}
 use Rattle.protocol.specs.declared.tables.Tables.{Tables}
@@ -20,8 +20,8 @@ use Rattle.protocol.specs.Server.{dropTaken, ofVolume, disowned, dropped
 use Rattle.protocol.specs.World.{World}
 use Rattle.protocol.specs.Soundness.Steps.{Ranges}
 use Rattle.protocol.specs.Soundness.Shape.{Shape}
-use Rattle.protocol.specs.Safety.Invariant.{Inv, Stands, copyAt, Covered, Answers, Empty}
-use Rattle.protocol.specs.Safety.Tools.{volume-set, zero-dead, zero-dead-client, client-fits, object-fits, volume-fits}
+use Rattle.protocol.specs.Safety.Invariant.{Inv, copyAt, Covered, Answers}
+use Rattle.protocol.specs.Safety.Tools.{volume-set, zero-dead, client-fits, object-fits, volume-fits}
 use Rattle.protocol.specs.Safety.Replaced.{withTables}
 use Rattle.protocol.specs.Safety.Sending.{DroppedClause}
 use Rattle.protocol.specs.Safety.Taking.{covered-empty}

@@ -1,8 +1,7 @@
 -- The invariant holds of fresh tables: nothing is known, held, asked or under way.
-use Prim.Native.Nat.{ℕ, _+_, _*_, _<_, _≤_}
+use Prim.Native.Nat.{ℕ, _+_, _*_, _<_}
 use native.Mathlib.Omega.{arith}
-use mathlib.Core.Bool.{Bool, true, false}
-use mathlib.Core.List.{List}
+use mathlib.Core.Bool.{true, false}
 use mathlib.Core.Path.{_≡_, refl, sym, ap, _∙_}
 use lib.ListN.{getD, replicate, getD-replicate}
 use Rattle.laws.specs.Choice.{not-both}
@@ -11,8 +10,8 @@ use Rattle.protocol.specs.declared.records.Copy.{Copy}
 use Rattle.protocol.specs.declared.records.Request.{Request}
 use Rattle.protocol.specs.declared.setup.Setup.{Setup}
 use Rattle.protocol.specs.Messages.{emptyQueue}
-use Rattle.protocol.specs.Tables.{byVolume, byObject, noCopy, noRequest, freshRequest, freshTables}
-use Rattle.protocol.specs.World.{World, freshWorld}
+use Rattle.protocol.specs.Tables.{byVolume, noCopy, noRequest, freshRequest, freshTables}
+use Rattle.protocol.specs.World.{freshWorld}
 use Rattle.protocol.specs.Soundness.Steps.{Ranges}
 use Rattle.protocol.specs.Safety.Invariant.{Inv, Sent, copyAt, requestAt}
 use Rattle.protocol.specs.Safety.Tools.{row-below, nothing-stands, object-fits, volume-fits, zero-holder, zero-session}

@@ -1,30 +1,29 @@
 -- A client takes a GRANT: what it then knows is covered, as the GRANT was while under way.
-use Prim.Native.Nat.{ℕ, _+_, _*_, _<_, _≤_}
+use Prim.Native.Nat.{ℕ, _+_, _*_, _<_}
 use native.Mathlib.Omega.{arith}
-use mathlib.Core.Bool.{Bool, true, false}
+use mathlib.Core.Bool.{true, false}
 use mathlib.Core.List.{List}
-use mathlib.Core.Logic.{_⊎_, inl, inr, ⊎-elim}
+use mathlib.Core.Logic.{_⊎_, ⊎-elim}
 use mathlib.Core.Path.{_≡_, refl, sym, ap, _∙_}
 use lib.ListN.{length, getD, set}
 use Rattle.laws.specs.Choice.{same?}
-use Rattle.protocol.specs.declared.message.Kind.the-variants.{Renew, Grant, Ack, Dropped}
+use Rattle.protocol.specs.declared.message.Kind.the-variants.{Ack}
 use Rattle.protocol.specs.declared.message.Payload.{Payload}
 use Rattle.protocol.specs.declared.message.Payload.the-variants.{Same, Value}
 use Rattle.protocol.specs.declared.records.Copy.{Copy}
-use Rattle.protocol.specs.declared.records.Request.{Request}
 use Rattle.protocol.specs.declared.setup.Setup.{Setup}
 use Rattle.protocol.specs.Setup.{volumeOf}
-use Rattle.protocol.specs.Tables.{byVolume, byObject, withViews}
+use Rattle.protocol.specs.Tables.{byVolume, withViews}
 use Rattle.protocol.specs.Client.{ended, viewed, filled, payloadOr}
 use Rattle.protocol.specs.Ledger.{updated}
 use Rattle.protocol.specs.World.{World}
 use Rattle.protocol.specs.Soundness.Steps.{Ranges}
 use Rattle.protocol.specs.Soundness.Shape.{WorldShape}
-use Rattle.protocol.specs.Safety.Invariant.{Inv, Sent, Stands, from, copyAt, requestAt, Covered, ViewOk, Empty, Answers, Acknowledges, NamesHeld, PayloadOk, GrantOk}
+use Rattle.protocol.specs.Safety.Invariant.{Inv, Sent, Stands, from, copyAt, requestAt, Answers, Acknowledges, NamesHeld, PayloadOk}
 use Rattle.protocol.specs.Safety.Tools.{volume-at, volume-off, copy-at, copy-off, updated-same, updated-other, client-fits, volume-fits}
 use Rattle.protocol.specs.Safety.Sending.{GrantClause}
 use Rattle.protocol.specs.Safety.Requests.{requesting, request-ends, ended-idle}
-use Rattle.protocol.specs.Safety.Taking.{Others, Own, covered-same, seeing, taken}
+use Rattle.protocol.specs.Safety.Taking.{Others, Own, covered-same, taken}
 
 -- ---- GRANT (object o, number n, volume expiry x, epoch e, version v, object expiry y) of client d
 module _ (s : Setup) (range : Ranges s) (w : World) (inv : Inv s w) (shape : WorldShape s w) (d o n x e v y : ℕ) (p : Payload) (hd : d < s .clients)

@@ -1,11 +1,11 @@
 -- A client receives an INVALIDATE: no request for the object stands any more, the copy is erased, and the ACK says so.
-use Prim.Native.Nat.{ℕ, _+_, _*_, _<_, _≤_}
+use Prim.Native.Nat.{ℕ, _+_, _*_, _<_}
 use native.Mathlib.Omega.{arith}
 use mathlib.Core.Bool.{Bool, true, false}
 use mathlib.Core.List.{List}
 use mathlib.Core.Logic.{_⊎_, inl, inr, ⊎-elim}
 use mathlib.Core.Path.{_≡_, refl, sym, ap, _∙_}
-use lib.ListN.{length, getD, set}
+use lib.ListN.{length, set}
 use Rattle.laws.specs.Choice.{same?}
 use Rattle.protocol.specs.declared.message.Kind.the-variants.{Ack}
 use Rattle.protocol.specs.declared.records.Copy.{Copy}
@@ -13,13 +13,12 @@ use Rattle.protocol.specs.declared.records.Request.{Request}
 use Rattle.protocol.specs.declared.setup.Setup.{Setup}
 use Rattle.protocol.specs.Setup.{volumeOf}
 use Rattle.protocol.specs.Messages.{message, pushed}
-use Rattle.protocol.specs.Tables.{byObject, noCopy}
+use Rattle.protocol.specs.Tables.{noCopy}
 use Rattle.protocol.specs.Leases.{clientAlive}
 use Rattle.protocol.specs.Server.{sent}
 use Rattle.protocol.specs.Client.{forgotten}
 use Rattle.protocol.specs.Ledger.{updated}
 use Rattle.protocol.specs.World.{World}
-use Rattle.protocol.specs.Soundness.Steps.{Ranges}
 use Rattle.protocol.specs.Soundness.Shape.{WorldShape}
 use Rattle.protocol.specs.Safety.Invariant.{Inv, Stands, copyAt, requestAt, Covered}
 use Rattle.protocol.specs.Safety.Tools.{copy-at, copy-off, updated-same, updated-other, sent-pushed}

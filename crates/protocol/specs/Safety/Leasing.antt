@@ -5,26 +5,23 @@ use native.Mathlib.Decide.{ℕ-discrete}
 use mathlib.Core.Bool.{Bool, true, false, cond}
 use mathlib.Core.List.{List}
 use mathlib.Core.Logic.{_⊎_, inl, inr, ⊎-elim}
-use mathlib.Core.Path.{_≡_, refl, sym, ap, _∙_}
+use mathlib.Core.Path.{_≡_, refl, sym, _∙_}
 use lib.Dec.{eqb}
-use lib.ListN.{length, getD, set}
+use lib.ListN.{getD, set}
 use borrow.Author.Tests.{eqb-true}
-use Rattle.laws.specs.Choice.{same?, not-both, cond-keeps, true-or-false}
+use Rattle.laws.specs.Choice.{same?, not-both, cond-keeps}
 use Rattle.laws.specs.Store.{set-at}
-use Rattle.protocol.specs.declared.message.Payload.{Payload}
-use Rattle.protocol.specs.declared.message.Payload.the-variants.{Same, Value}
-use Rattle.protocol.specs.declared.message.Kind.the-variants.{Ack, Grant}
 use Rattle.protocol.specs.declared.setup.Setup.{Setup}
 use Rattle.protocol.specs.Setup.{volumeOf}
 use Rattle.protocol.specs.Messages.{pushed}
-use Rattle.protocol.specs.Tables.{byVolume, byObject, epochAt, seenAt, unreachableAt, offerAt, valueAt, versionAt, standingAt, waitingAt}
+use Rattle.protocol.specs.Tables.{byVolume, byObject, epochAt, seenAt, unreachableAt, offerAt, versionAt, standingAt, waitingAt}
 use Rattle.protocol.specs.Leases.{serverAlive, clientAlive}
 use Rattle.protocol.specs.Server.{volumeRenewed, objectRenewed, payloadFor, granting, granted}
 use Rattle.protocol.specs.Ledger.{updated}
 use Rattle.protocol.specs.World.{World}
 use Rattle.protocol.specs.Soundness.Steps.{Ranges}
 use Rattle.protocol.specs.Soundness.Shape.{Shape}
-use Rattle.protocol.specs.Safety.Invariant.{Inv, Stands, copyAt, requestAt, Covered, PayloadOk, NamesHeld}
+use Rattle.protocol.specs.Safety.Invariant.{Inv, Stands, copyAt, Covered, PayloadOk, NamesHeld}
 use Rattle.protocol.specs.Safety.Tools.{volume-set, object-set, volume-at, object-at, object-off, updated-same, updated-other, sent-pushed, client-fits, object-fits, volume-fits}
 use Rattle.protocol.specs.Safety.Replaced.{withTables}
 use Rattle.protocol.specs.Safety.Sending.{RenewClause, send-grant}

@@ -1,23 +1,20 @@
 -- The server notes a request number, and makes an offer under a number that it has not seen.
 use Prim.Native.Nat.{ℕ, _+_, _<_, _≤_}
 use native.Mathlib.Omega.{arith}
-use mathlib.Core.Bool.{Bool, true, false}
+use mathlib.Core.Bool.{true, false}
 use mathlib.Core.List.{List}
-use mathlib.Core.Logic.{_⊎_, inl, inr, ⊎-elim}
-use mathlib.Core.Path.{_≡_, refl, sym, ap, _∙_}
+use mathlib.Core.Logic.{_⊎_, ⊎-elim}
+use mathlib.Core.Path.{_≡_, sym, ap, _∙_}
 use lib.ListN.{length, getD, set}
-use Rattle.laws.specs.Choice.{same?}
 use Rattle.laws.specs.Store.{set-at}
 use Rattle.protocol.specs.declared.setup.Setup.{Setup}
-use Rattle.protocol.specs.declared.tables.Sessions.{Sessions}
-use Rattle.protocol.specs.declared.records.Request.{Request}
 use Rattle.protocol.specs.Setup.{volumeOf}
 use Rattle.protocol.specs.Tables.{byVolume, seenAt, unreachableAt, offerAt, withSessions}
 use Rattle.protocol.specs.Server.{noted}
 use Rattle.protocol.specs.World.{World}
 use Rattle.protocol.specs.Soundness.Steps.{Ranges}
 use Rattle.protocol.specs.Safety.Invariant.{Inv, Stands, requestAt, Header}
-use Rattle.protocol.specs.Safety.Tools.{volume-set, volume-at, volume-off, volume-fits}
+use Rattle.protocol.specs.Safety.Tools.{volume-set, volume-fits}
 use Rattle.protocol.specs.Safety.Replaced.{withTables}
 
 module _ (s : Setup) (w : World) (inv : Inv s w) (d n : ℕ) (full : length (w .tables .sessions .seen) ≡ 16) (hd : d < 16)

@@ -1,16 +1,14 @@
 -- A client takes an OFFER: it knows the epoch, and holds no lease in the volume any more.
-use Prim.Native.Nat.{ℕ, _+_, _*_, _<_, _≤_}
-use native.Mathlib.Omega.{arith}
-use mathlib.Core.Bool.{Bool, true, false, cond}
+use Prim.Native.Nat.{ℕ, _+_, _*_, _<_}
+use mathlib.Core.Bool.{true, false, cond}
 use mathlib.Core.List.{List}
-use mathlib.Core.Logic.{_⊎_, inl, inr, ⊎-elim}
+use mathlib.Core.Logic.{_⊎_, ⊎-elim}
 use mathlib.Core.Path.{_≡_, refl, sym, ap, _∙_}
 use lib.Dec.{eqb}
 use lib.ListN.{length, getD, set}
 use borrow.Author.Tests.{eq-eqb, ne-eqb}
 use Rattle.laws.specs.Choice.{same?, cond-keeps, not-both}
-use Rattle.protocol.specs.declared.message.Message.{Message}
-use Rattle.protocol.specs.declared.message.Kind.the-variants.{Offer, Dropped}
+use Rattle.protocol.specs.declared.message.Kind.the-variants.{Dropped}
 use Rattle.protocol.specs.declared.records.Copy.{Copy}
 use Rattle.protocol.specs.declared.setup.Setup.{Setup}
 use Rattle.protocol.specs.declared.step.Sweep.the-variants.{Expire}
@@ -23,7 +21,7 @@ use Rattle.protocol.specs.Client.{ended, viewed, swept, sweptAll}
 use Rattle.protocol.specs.World.{World}
 use Rattle.protocol.specs.Soundness.Steps.{Ranges}
 use Rattle.protocol.specs.Soundness.Shape.{WorldShape}
-use Rattle.protocol.specs.Safety.Invariant.{Inv, Stands, from, copyAt, requestAt, Empty}
+use Rattle.protocol.specs.Safety.Invariant.{Inv, from, copyAt, requestAt, Empty}
 use Rattle.protocol.specs.Safety.Tools.{volume-at, volume-off, zero-dead-client, sent-pushed, client-fits, volume-fits}
 use Rattle.protocol.specs.Safety.Sending.{OfferClause, send-dropped}
 use Rattle.protocol.specs.Safety.Requests.{requesting, request-ends, ended-idle, ended-moves, header}

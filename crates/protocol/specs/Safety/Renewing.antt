@@ -3,16 +3,14 @@ use Prim.Native.Nat.{ℕ, _+_, _<_, _≤_}
 use native.Mathlib.Omega.{arith}
 use mathlib.Core.Bool.{Bool, true, false, cond, not, _&&_, _||_}
 use mathlib.Core.List.{List}
-use mathlib.Core.Logic.{_⊎_, inl, inr, ⊎-elim}
-use mathlib.Core.Path.{_≡_, refl, sym, ap, _∙_}
+use mathlib.Core.Logic.{_⊎_, inr, ⊎-elim}
+use mathlib.Core.Path.{_≡_, refl, _∙_}
 use lib.Dec.{ltb, leb, eqb}
-use lib.ListN.{length, getD, set, length-set}
+use lib.ListN.{set, length-set}
 use lib.Seq.{getD-set-same}
-use borrow.Author.Tests.{ltb-true, ltb-false, leb-false, eqb-true, not-false, eq-eqb, lt-ltb}
-use Rattle.laws.specs.Choice.{same?, not-both, cond-keeps, true-or-false, and-true, and-false, both-true, or-false}
+use borrow.Author.Tests.{ltb-true, ltb-false, leb-false, eqb-true, not-false, eq-eqb}
+use Rattle.laws.specs.Choice.{not-both, cond-keeps, and-true, and-false, or-false}
 use Rattle.laws.specs.Loop.{first-found, first-missing}
-use Rattle.protocol.specs.declared.message.Message.{Message}
-use Rattle.protocol.specs.declared.message.Kind.the-variants.{Offer, Invalidate}
 use Rattle.protocol.specs.declared.setup.Setup.{Setup}
 use Rattle.protocol.specs.declared.tables.Tables.{Tables}
 use Rattle.protocol.specs.Setup.{volumeOf}
@@ -23,7 +21,7 @@ use Rattle.protocol.specs.Server.{sent, noted, offered, offering, waited
 use Rattle.protocol.specs.World.{World}
 use Rattle.protocol.specs.Soundness.Steps.{Ranges}
 use Rattle.protocol.specs.Soundness.Shape.{Shape, SessionsShape}
-use Rattle.protocol.specs.Safety.Invariant.{Inv, Stands, requestAt}
+use Rattle.protocol.specs.Safety.Invariant.{Inv}
 use Rattle.protocol.specs.Safety.Tools.{volume-set, volume-at, sent-pushed, client-fits}
 use Rattle.protocol.specs.Safety.Replaced.{withTables}
 use Rattle.protocol.specs.Safety.Marks.{marks-keep}

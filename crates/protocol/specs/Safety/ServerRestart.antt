@@ -4,19 +4,18 @@ use native.Mathlib.Omega.{arith}
 use native.Mathlib.Decide.{ℕ-discrete}
 use mathlib.Core.Bool.{Bool, true, false}
 use mathlib.Core.List.{List}
-use mathlib.Core.Logic.{_⊎_, inl, inr, ⊎-elim}
-use mathlib.Core.Path.{_≡_, refl, sym, ap, _∙_}
-use lib.ListN.{length, getD, replicate, getD-replicate}
-use Rattle.laws.specs.Choice.{not-both}
+use mathlib.Core.Logic.{_⊎_, inl, ⊎-elim}
+use mathlib.Core.Path.{_≡_, refl}
+use lib.ListN.{getD, replicate, getD-replicate}
 use Rattle.laws.specs.Store.{storeEach, always, store-hit}
 use Rattle.protocol.specs.declared.setup.Setup.{Setup}
 use Rattle.protocol.specs.Setup.{volumeOf}
-use Rattle.protocol.specs.Tables.{byVolume, byObject, epochAt}
+use Rattle.protocol.specs.Tables.{byVolume, epochAt}
 use Rattle.protocol.specs.Server.{serverRestarted}
 use Rattle.protocol.specs.World.{World}
 use Rattle.protocol.specs.Soundness.Steps.{Ranges}
 use Rattle.protocol.specs.Soundness.Shape.{Shape}
-use Rattle.protocol.specs.Safety.Invariant.{Inv, requestAt, Covered, Header, InvalidateOk}
+use Rattle.protocol.specs.Safety.Invariant.{Inv, Covered, Header, InvalidateOk}
 use Rattle.protocol.specs.Safety.Tools.{nothing-stands, zero-holder, zero-session}
 use Rattle.protocol.specs.Safety.Replaced.{withTables}
 

@@ -1,36 +1,31 @@
 -- Every step keeps the invariant, and under it every client reads what is current.
-use Prim.Native.Nat.{ℕ, _+_, _*_, _<_, _≤_}
+use Prim.Native.Nat.{ℕ, _+_}
 use native.Mathlib.Omega.{arith}
-use mathlib.Core.Bool.{Bool, true, false, cond, not, _&&_}
-use mathlib.Core.List.{List}
-use mathlib.Core.Logic.{_⊎_, inl, inr, ⊎-elim}
-use mathlib.Core.Path.{_≡_, refl, sym, ap, _∙_}
+use mathlib.Core.Bool.{true, false, cond, not, _&&_}
+use mathlib.Core.Logic.{_⊎_, inl, ⊎-elim}
+use mathlib.Core.Path.{_≡_, refl}
 use lib.Dec.{eqb}
-use lib.ListN.{length, getD, set, replicate, getD-replicate}
+use lib.ListN.{set, replicate}
 use lib.Seq.{set-getD}
 use borrow.Author.Tests.{eqb-false, not-true, ne-eqb}
 use Rattle.laws.specs.Choice.{cond-keeps, true-or-false, and-true}
-use Rattle.laws.specs.Loop.{foldFrom}
 use Rattle.protocol.specs.declared.message.Message.{Message}
-use Rattle.protocol.specs.declared.records.Copy.{Copy}
-use Rattle.protocol.specs.declared.records.Request.{Request}
 use Rattle.protocol.specs.declared.setup.Setup.{Setup}
 use Rattle.protocol.specs.declared.step.Decision.{Decision}
 use Rattle.protocol.specs.declared.step.Step.{Step}
 use Rattle.protocol.specs.declared.step.Target.{Target}
 use Rattle.protocol.specs.Setup.{inRange, volumeOf}
 use Rattle.protocol.specs.Messages.{messageAt, objectOf}
-use Rattle.protocol.specs.Tables.{valueAt, viewExpiryAt, noCopy, noRequest, freshTables}
+use Rattle.protocol.specs.Tables.{viewExpiryAt, noCopy}
 use Rattle.protocol.specs.Leases.{clientAlive, clientClock}
 use Rattle.protocol.specs.Client.{showable}
 use Rattle.protocol.specs.Decide.{readDecided, askDecided, deliverDecided, restartDecided}
-use Rattle.protocol.specs.World.{World, freshWorld, targetAt, target, copiesAfter, requestsAfter, stepped}
+use Rattle.protocol.specs.World.{World, targetAt, target, copiesAfter, requestsAfter, stepped}
 use Rattle.protocol.specs.Ledger.{accepts}
 use Rattle.protocol.specs.Soundness.Steps.{Ranges, ranges, Accepted, accepted, by-kind, copyOf, requestOf, recordsOf, performedOf, decision-accepted, refused-keeps, setup-in-range, client-exists, object-exists, place-exists, queue-fits, read-performed, ask-performed, deliver-performed, lose-performed, double-performed, server-performed, client-performed}
-use Rattle.protocol.specs.Soundness.Shape.{WorldShape}
 use Rattle.protocol.specs.Soundness.Question.{SoundWorld}
 use Rattle.protocol.specs.Bookkeeping.Agreed.{ReadsCurrent}
-use Rattle.protocol.specs.Safety.Invariant.{Inv, Sent, from, copyAt, requestAt}
+use Rattle.protocol.specs.Safety.Invariant.{Inv, from, copyAt}
 use Rattle.protocol.specs.Safety.Tools.{sent-at}
 use Rattle.protocol.specs.Safety.Sending.{lost, doubling}
 use Rattle.protocol.specs.Safety.Sweeping.{swept-keep}

@@ -1,25 +1,24 @@
 -- What one client knows and holds is replaced while no request of it stands: a GRANT or an OFFER taken, a restart. Nobody else is touched.
-use Prim.Native.Nat.{ℕ, _+_, _*_, _<_, _≤_}
+use Prim.Native.Nat.{ℕ, _+_, _<_, _≤_}
 use native.Mathlib.Omega.{arith}
 use mathlib.Core.Bool.{Bool, true, false}
 use mathlib.Core.List.{List}
-use mathlib.Core.Logic.{_⊎_, inl, inr, ⊎-elim}
-use mathlib.Core.Path.{_≡_, refl, sym, ap, _∙_, subst}
-use lib.ListN.{length, getD}
+use mathlib.Core.Logic.{_⊎_, ⊎-elim}
+use mathlib.Core.Path.{_≡_, refl, sym, ap, _∙_}
+use lib.ListN.{getD}
 use Rattle.laws.specs.Choice.{same?}
 use Rattle.protocol.specs.declared.message.Kind.the-variants.{Ack, Dropped}
 use Rattle.protocol.specs.declared.message.Payload.{Payload}
 use Rattle.protocol.specs.declared.message.Payload.the-variants.{Same, Value}
 use Rattle.protocol.specs.declared.records.Copy.{Copy}
-use Rattle.protocol.specs.declared.records.Request.{Request}
 use Rattle.protocol.specs.declared.setup.Setup.{Setup}
 use Rattle.protocol.specs.Setup.{volumeOf}
-use Rattle.protocol.specs.Tables.{byVolume, byObject, withViews}
+use Rattle.protocol.specs.Tables.{byVolume, withViews}
 use Rattle.protocol.specs.Leases.{clientAlive}
 use Rattle.protocol.specs.Ledger.{updated}
 use Rattle.protocol.specs.World.{World}
 use Rattle.protocol.specs.Soundness.Steps.{Ranges}
-use Rattle.protocol.specs.Safety.Invariant.{Inv, Sent, Stands, from, copyAt, Covered, ViewOk, Versions, Empty, Answers, Acknowledges, NamesHeld}
+use Rattle.protocol.specs.Safety.Invariant.{Inv, Sent, Stands, from, copyAt, Covered, ViewOk, Empty, Answers, Acknowledges, NamesHeld}
 
 -- ---- a view is covered by what it says, not by how
 module _ (s : Setup) (clock d v epoch guard session : ℕ) (un : Bool) (version lease : List ℕ) where

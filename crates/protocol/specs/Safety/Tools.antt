@@ -10,18 +10,17 @@ use mathlib.Core.Path.{_≡_, refl, sym, ap, _∙_}
 use lib.Dec.{ltb, eqb}
 use lib.ListN.{length, getD, set, replicate, getD-replicate, List·getD-append}
 use lib.Seq.{getD-set-same, getD-set-other}
-use borrow.Author.Tests.{ltb-true, ltb-false, lt-ltb, le-ltb, eqb-true, eqb-false, eq-eqb, ne-eqb}
-use Rattle.laws.specs.Choice.{same?, cond-keeps, true-or-false, not-both, and-true}
+use borrow.Author.Tests.{ltb-true, ltb-false, lt-ltb, le-ltb, eqb-true, eq-eqb, ne-eqb}
+use Rattle.laws.specs.Choice.{cond-keeps, not-both, and-true}
 use Rattle.laws.specs.Store.{set-at}
 use Rattle.laws.specs.Lists.{removeAt}
 use Rattle.protocol.specs.declared.message.Message.{Message}
 use Rattle.protocol.specs.declared.message.Queue.{Queue}
-use Rattle.protocol.specs.declared.message.Kind.{Kind}
 use Rattle.protocol.specs.declared.records.Copy.{Copy}
 use Rattle.protocol.specs.declared.records.Request.{Request}
 use Rattle.protocol.specs.declared.setup.Setup.{Setup}
-use Rattle.protocol.specs.Messages.{blank, messageAt, pushed, removed, doubled, hasRoom}
-use Rattle.protocol.specs.Tables.{byVolume, byObject, noCopy, noRequest}
+use Rattle.protocol.specs.Messages.{blank, messageAt, pushed, removed, hasRoom}
+use Rattle.protocol.specs.Tables.{byVolume, byObject, noCopy}
 use Rattle.protocol.specs.Leases.{serverAlive, clientAlive, endOver}
 use Rattle.protocol.specs.Client.{stands}
 use Rattle.protocol.specs.Ledger.{updated}

@@ -1,6 +1,5 @@
 use borrow.Author.Needs.{needs}
 use Rattle.decide.proofs.Laws.{byte-times}
-use native.Mathlib.Omega.{arith}
 use Rattle.decide.proofs.records.target_at.Statement.{statement}
 use Rattle.decide.proofs.records.target_at.Tie as tie
 
