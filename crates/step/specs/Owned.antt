@@ -1,5 +1,5 @@
--- A step by a caller that owns room for the largest setup: as many records as the setup has are lent, the others stay.
-use Prim.Native.Nat.{ℕ, _*_}
+-- A step by a caller that owns room for the largest setup: as many records as it says are lent, the others stay.
+use Prim.Native.Nat.{ℕ}
 use mathlib.Core.Bool.{cond}
 use mathlib.Core.List.{List, _++_}
 use lib.Dec.{ltb}
@@ -17,22 +17,17 @@ use Rattle.step.specs.Lent.{world}
 unfoldable pub atMost : ℕ → ℕ → ℕ
 atMost most n = cond (ltb n most) n most
 
-abbrev pub copiesLent : Setup → ℕ
-copiesLent s = atMost 512 (s .clients * s .objects)
+-- what is lent: the first n copies and m requests
+abbrev pub lent : Tables → List Copy → List Request → ℕ → ℕ → World
+lent t l k n m = world t (take n l) (take m k)
 
-abbrev pub requestsLent : Setup → ℕ
-requestsLent s = atMost 16 (s .clients)
-
--- what is lent
-abbrev pub lent : Setup → Tables → List Copy → List Request → World
-lent s t l k = world t (take (copiesLent s) l) (take (requestsLent s) k)
-
-abbrev pub ownedWith : Setup → World → List Copy → List Request → Step → Owned
-ownedWith s w l k x = record {
-  copies = stepped s w x .copies ++ drop (copiesLent s) l;
-  requests = stepped s w x .requests ++ drop (requestsLent s) k;
+-- what the caller has after a step on `w`, when that many were lent
+abbrev pub ownedWith : Setup → World → List Copy → List Request → ℕ → ℕ → Step → Owned
+ownedWith s w l k n m x = record {
+  copies = stepped s w x .copies ++ drop n l;
+  requests = stepped s w x .requests ++ drop m k;
   outcome = record { answer = answerOf s w x; tables = stepped s w x .tables };
 }
 
-unfoldable pub ownedOf : Setup → Tables → List Copy → List Request → Step → Owned
-ownedOf s t l k x = ownedWith s (lent s t l k) l k x
+unfoldable pub ownedOf : Setup → Tables → List Copy → List Request → ℕ → ℕ → Step → Owned
+ownedOf s t l k n m x = ownedWith s (lent t l k (atMost 512 n) (atMost 16 m)) l k (atMost 512 n) (atMost 16 m) x

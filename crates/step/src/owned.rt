@@ -1,5 +1,4 @@
 ghost use mathlib.Core.Path.{_≡_};
-ghost use Prim.Native.Nat.{_*_};
 ghost use Rattle.step.specs.Owned.{atMost, ownedOf};
 use crate::step;
 use protocol::records::Copy;
@@ -16,40 +15,30 @@ pub struct Owned {
     pub outcome: Outcome,
 }
 
-fn copies_lent(s: Setup) -> usize
-    ensures { λ r. ⌜ r ≡ atMost 512 (s .clients * s .objects) ⌝ }
+fn at_most(most: usize, n: usize) -> usize
+    ensures { λ r. ⌜ r ≡ atMost most n ⌝ }
 {
-    let clients = s.clients as usize;
-    let objects = s.objects as usize;
-    let n = clients * objects;
-    if n < 512 {
+    if n < most {
         return n;
     }
-    512
+    most
 }
 
-fn requests_lent(s: Setup) -> usize
-    ensures { λ r. ⌜ r ≡ atMost 16 (s .clients) ⌝ }
-{
-    let n = s.clients as usize;
-    if n < 16 {
-        return n;
-    }
-    16
-}
-
-// One step, by value: as many copies and requests as the setup has are lent to `step`, and the others stay.
+// One step, by value: the first n copies and m requests, or all where there are fewer, are lent to `step`, and the others stay. So a caller can lend
+// another number than the setup has, which is unsound.
 pub fn step_on(
     setup: Setup,
     tables: Tables,
     mut copies: [Copy; 512],
     mut requests: [Request; 16],
+    n: usize,
+    m: usize,
     x: Step,
 ) -> Owned
-    ensures { λ r. ⌜ r ≡ ownedOf setup tables copies requests x ⌝ }
+    ensures { λ r. ⌜ r ≡ ownedOf setup tables copies requests n m x ⌝ }
 {
-    let n = copies_lent(setup);
-    let m = requests_lent(setup);
+    let n = at_most(512, n);
+    let m = at_most(16, m);
     let o = step(setup, tables, &mut copies[..n], &mut requests[..m], x);
     Owned {
         copies: copies,

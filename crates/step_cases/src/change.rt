@@ -1,10 +1,28 @@
-// One change, by the number of its field: 1 to 7 the setup, 10 to 31 the tables, 40 to 50 the message list, 60 to 63 copies, 70 to 73 requests.
+// One change, by the number of its field: 1 to 7 the setup, 10 to 31 the tables, 40 to 50 the message list, 60 to 63 copies, 70 to 74 requests.
 use crate::messages;
-use crate::records;
+use crate::record;
 use crate::tables;
 use crate::text::word;
 use crate::world::World;
+use protocol::setup::Setup;
 use protocol::tables::Tables;
+
+fn copies_of(s: Setup) -> usize {
+    let clients = s.clients as usize;
+    let objects = s.objects as usize;
+    clients * objects
+}
+
+// From here on as many records are lent as the setup has, so that a case about the setup is not one about their number.
+fn setup(w: World, field: u64, place: usize, x: u64) -> World {
+    let mut w = w;
+    let s = w.setup;
+    let s = tables::setup(s, field, place, x);
+    w.setup = s;
+    w.copies_lent = copies_of(s);
+    w.requests_lent = s.clients as usize;
+    w
+}
 
 fn server(t: Tables, field: u64, place: usize, x: u64) -> Tables {
     let mut t = t;
@@ -50,29 +68,31 @@ fn any_table(t: Tables, field: u64, place: usize, x: u64) -> Tables {
 fn copies(w: World, field: u64, place: usize, x: u64) -> World {
     let mut w = w;
     if field == 63 {
-        w.other = x != 0;
+        w.copies_lent = x as usize;
         return w;
     }
     let i = place % 512;
     let c = w.copies[i];
-    w.copies[i] = records::copy(c, field, x);
+    w.copies[i] = record::copy(c, field, x);
     w
 }
 
 fn requests(w: World, field: u64, place: usize, x: u64) -> World {
     let mut w = w;
+    if field == 74 {
+        w.requests_lent = x as usize;
+        return w;
+    }
     let i = place % 16;
     let r = w.requests[i];
-    w.requests[i] = records::request(r, field, x);
+    w.requests[i] = record::request(r, field, x);
     w
 }
 
 pub fn changed(w: World, field: u64, place: usize, x: u64) -> World {
     let mut w = w;
     if field < 10 {
-        let s = w.setup;
-        w.setup = tables::setup(s, field, place, x);
-        return w;
+        return setup(w, field, place, x);
     }
     if field < 60 {
         let t = w.tables;

@@ -2,7 +2,7 @@
 // reads the same file, and its answers are the file `stdout`.
 mod change;
 mod messages;
-mod records;
+mod record;
 mod tables;
 mod take;
 mod text;

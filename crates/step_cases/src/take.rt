@@ -8,14 +8,14 @@ pub struct Taken {
     pub world: World,
 }
 
-// The step on as many records as the setup has.
-fn on_records(w: World, x: Step) -> Taken {
+pub fn stepped(w: World, x: Step) -> Taken {
     let setup = w.setup;
-    let other = w.other;
+    let copies_lent = w.copies_lent;
+    let requests_lent = w.requests_lent;
     let t = w.tables;
     let c = w.copies;
     let r = w.requests;
-    let o = step::owned::step_on(setup, t, c, r, x);
+    let o = step::owned::step_on(setup, t, c, r, copies_lent, requests_lent, x);
     let copies = o.copies;
     let requests = o.requests;
     let outcome = o.outcome;
@@ -26,28 +26,10 @@ fn on_records(w: World, x: Step) -> Taken {
         tables,
         copies,
         requests,
-        other,
+        copies_lent,
+        requests_lent,
     };
     Taken { answer, world }
-}
-
-// The caller by value lends no other number of records. It is unsound, and that is how it reaches `decide`.
-fn on_others(w: World, x: Step) -> Taken {
-    let s = w.setup;
-    let t = w.tables;
-    let c = w.copies[0];
-    let r = w.requests[0];
-    let d = decide::decide(s, t, false, c, r, x);
-    let outcome = d.outcome;
-    let answer = outcome.answer;
-    Taken { answer, world: w }
-}
-
-pub fn stepped(w: World, x: Step) -> Taken {
-    if w.other {
-        return on_others(w, x);
-    }
-    on_records(w, x)
 }
 
 fn number(n: u64) {

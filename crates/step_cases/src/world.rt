@@ -3,13 +3,14 @@ use protocol::records::Request;
 use protocol::setup::Setup;
 use protocol::tables::Tables;
 
-// All that a step is handed: of the records, as many as the setup has, unless `other` says that it is another number of them.
+// All that a step is handed: of the records, the first so many copies and requests.
 pub struct World {
     pub setup: Setup,
     pub tables: Tables,
     pub copies: [Copy; 512],
     pub requests: [Request; 16],
-    pub other: bool,
+    pub copies_lent: usize,
+    pub requests_lent: usize,
 }
 
 fn no_setup() -> Setup {
@@ -37,6 +38,7 @@ pub fn fresh() -> World {
         tables,
         copies,
         requests,
-        other: false,
+        copies_lent: 0,
+        requests_lent: 0,
     }
 }

@@ -9,7 +9,10 @@ use crate::tables::Server;
 impl CaseTables {
     pub fn change(&mut self, field: u64, place: usize, value: u64) {
         match field {
-            1..=7 => change_setup(&mut self.setup, field, place, value),
+            1..=7 => {
+                change_setup(&mut self.setup, field, place, value);
+                self.lend_all();
+            }
             10 => self.tables.clock = word(value),
             11..=17 => change_volumes(&mut self.tables.server, field, place, value),
             20..=27 => change_objects(&mut self.tables.server, field, place, value),
@@ -23,8 +26,9 @@ impl CaseTables {
             60 => self.copies[place].version = word(value),
             61 => self.copies[place].value = value,
             62 => self.copies[place].expiry = word(value),
-            63 => self.other = value != 0,
+            63 => self.copies_lent = value as usize,
             70..=73 => change_request(&mut self.requests[place], field, value),
+            74 => self.requests_lent = value as usize,
             _ => panic!("field {field}"),
         }
     }

@@ -15,8 +15,9 @@ pub struct CaseTables {
     pub(super) rows: [Row; QUEUE],
     pub(super) copies: Vec<ObjectCopy>,
     pub(super) requests: Vec<Request>,
-    /// Whether another number of records is lent than the setup has.
-    pub(super) other: bool,
+    /// How many of the copies and of the requests are lent.
+    pub(super) copies_lent: usize,
+    pub(super) requests_lent: usize,
 }
 
 /// What every place of the list holds at first.
@@ -42,15 +43,22 @@ impl CaseTables {
             rows: [RENEW; QUEUE],
             copies: NO_COPIES.to_vec(),
             requests: NO_REQUESTS.to_vec(),
-            other: false,
+            copies_lent: 0,
+            requests_lent: 0,
         }
+    }
+
+    /// As many records as the setup has, so that a case about the setup is not
+    /// one about their number.
+    pub(super) fn lend_all(&mut self) {
+        self.requests_lent = usize::from(self.setup.clients);
+        self.copies_lent = self.requests_lent * usize::from(self.setup.objects);
     }
 
     /// The parts as a step call wants them.
     pub fn parts(&mut self) -> (&Setup, &mut Tables, &mut [ObjectCopy], &mut [Request]) {
-        let clients = usize::from(self.setup.clients);
-        let copies = (clients * usize::from(self.setup.objects)).min(self.copies.len());
-        let requests = clients.min(self.requests.len()) - usize::from(self.other);
+        let copies = self.copies_lent.min(self.copies.len());
+        let requests = self.requests_lent.min(self.requests.len());
         (&self.setup, &mut self.tables, &mut self.copies[..copies], &mut self.requests[..requests])
     }
 }
