@@ -9,13 +9,13 @@ use lib.ListN.{length}
 use Rattle.laws.specs.Loop.{foldFrom, listFrom, countFrom}
 
 -- what a turn carries from j to j + 1, the loop carries from its first number to the number after its last
-pub fold-reaches {ℓ κ} : {S : Type ℓ} (P : ℕ → S → Type κ) (f : S → ℕ → S) (N : ℕ) → ((s : S) (j : ℕ) → j < N → P j s → P (j + 1) (f s j))
+pub fold-carries {ℓ κ} : {S : Type ℓ} (P : ℕ → S → Type κ) (f : S → ℕ → S) (N : ℕ) → ((s : S) (j : ℕ) → j < N → P j s → P (j + 1) (f s j))
     → (s : S) (j n : ℕ) → j + n ≡ N → P j s → P N (foldFrom f s j n)
 unfolding foldFrom
-fold-reaches P f N k s j zero e p =
+fold-carries P f N k s j zero e p =
     let h : j ≡ N = omega arith in
     rw h at p
-fold-reaches P f N k s j (suc n) e p = fold-reaches P f N k (f s j) (j + 1) n (omega arith) (k s j (omega arith) p)
+fold-carries P f N k s j (suc n) e p = fold-carries P f N k (f s j) (j + 1) n (omega arith) (k s j (omega arith) p)
 
 -- two tests that agree on the numbers counted
 pub count-same : (p q : ℕ → Bool) (j n : ℕ) → ((k : ℕ) → j ≤ k → k < j + n → p k ≡ q k) → countFrom p j n ≡ countFrom q j n

@@ -24,12 +24,15 @@ module _ {ℓ} {A : Type ℓ} where
   pub remove-step : (d : A) (l : List A) (j : ℕ) → j + 1 < length l → removeAt (set l j (getD l (j + 1) d)) (j + 1) ≡ removeAt l j
   remove-step d l j h = rw add-one (step d l j (omega arith))
 
+  pub length-removed : (l : List A) (i : ℕ) → i < length l → suc (length (removeAt l i)) ≡ length l
+  unfolding removeAt
+  length-removed [] i h = absurd (omega arith)
+  length-removed (x ∷ l) zero h = refl
+  length-removed (x ∷ l) (suc i) h = ap suc (length-removed l i (le-of-suc-le-suc h))
+
   -- a removal that fills up at the end keeps the length
   pub length-remove : (b : A) (l : List A) (i : ℕ) → i < length l → length (removeAt l i ++ (b ∷ [])) ≡ length l
-  unfolding removeAt
-  length-remove b [] i h = absurd (omega arith)
-  length-remove b (x ∷ l) zero h = length-append l (b ∷ []) ∙ omega arith
-  length-remove b (x ∷ l) (suc i) h = ap suc (length-remove b l i (le-of-suc-le-suc h))
+  length-remove b l i h = length-append (removeAt l i) (b ∷ []) ∙ omega (arith, length-removed l i h)
 
   -- the last place is written
   pub set-last : (b : A) (l : List A) (n : ℕ) → length l ≡ suc n → set l n b ≡ removeAt l n ++ (b ∷ [])

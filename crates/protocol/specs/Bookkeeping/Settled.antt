@@ -12,7 +12,7 @@ use borrow.Author.Tests.{ltb-false}
 use Rattle.laws.specs.Choice.{same?, not-both, and-true, cond-keeps}
 use Rattle.laws.specs.Loop.{foldFrom}
 use Rattle.laws.specs.Each.{cleared}
-use Rattle.laws.specs.Count.{fold-reaches}
+use Rattle.laws.specs.Count.{fold-carries}
 use Rattle.protocol.specs.declared.setup.Setup.{Setup}
 use Rattle.protocol.specs.declared.tables.Tables.{Tables}
 use Rattle.protocol.specs.Setup.{volumeOf}
@@ -134,5 +134,5 @@ module _ (s : Setup) (T : ℕ) where
   pub clock-ended : (t : Tables) → Ended T (s .objects) (settled s (clockStaged s t T))
   unfolding settled
   clock-ended t =
-      fold-reaches (Ended T) (completeIf (due s) s) (s .objects) turn-ended _ 0 (s .objects) (omega arith)
+      fold-carries (Ended T) (completeIf (due s) s) (s .objects) turn-ended _ 0 (s .objects) (omega arith)
       (record { clock = refl; ends = λ o p e. absurd (omega arith) })

@@ -6,14 +6,14 @@ use native.Mathlib.Omega.{arith}
 use mathlib.Core.Bool.{Bool, true, false, cond, not, _&&_}
 use mathlib.Core.List.{List, [], _∷_, _++_}
 use mathlib.Core.Logic.{_⊎_, inl, inr, ⊎-elim}
-use mathlib.Core.Path.{_≡_, refl, sym, ap, _∙_}
+use mathlib.Core.Path.{_≡_, refl, sym, _∙_}
 use lib.Dec.{ltb, eqb}
 use lib.ListN.{length, getD, set, replicate, getD-replicate, List·getD-append}
 use lib.Seq.{getD-set-same, getD-set-other}
 use borrow.Author.Tests.{ltb-true, ltb-false, lt-ltb, le-ltb, eqb-true, eq-eqb, ne-eqb}
 use Rattle.laws.specs.Choice.{cond-keeps, not-both, and-true}
 use Rattle.laws.specs.Store.{set-at}
-use Rattle.laws.specs.Lists.{removeAt}
+use Rattle.laws.specs.Lists.{removeAt, length-removed}
 use Rattle.protocol.specs.declared.message.Message.{Message}
 use Rattle.protocol.specs.declared.message.Queue.{Queue}
 use Rattle.protocol.specs.declared.records.Copy.{Copy}
@@ -194,12 +194,6 @@ removed-at [] i j y = inl refl
 removed-at (x ∷ l) zero j y = inr refl
 removed-at (x ∷ l) (suc i) zero y = inl refl
 removed-at (x ∷ l) (suc i) (suc j) y = removed-at l i j y
-
-length-removed : {A : Type 0} (l : List A) (i : ℕ) → i < length l → suc (length (removeAt l i)) ≡ length l
-unfolding removeAt
-length-removed [] i h = absurd (omega arith)
-length-removed (x ∷ l) zero h = refl
-length-removed (x ∷ l) (suc i) h = ap suc (length-removed l i (omega arith))
 
 pub sent-removed : (q : Queue) (i : ℕ) (m : Message) → length (q .items) ≡ 64 → q .len ≤ 64 → i < q .len → Sent (removed q i) m → Sent q m
 unfolding removed
