@@ -1,11 +1,11 @@
 -- What each way through a function's tests found, put together.
-use Prim.Native.Nat.{ℕ, _+_, _*_, _<_, _≤_}
+use Prim.Native.Nat.{ℕ, _*_, _<_, _≤_}
 use native.Mathlib.Nat.{mul-le-mul-right, le-of-lt}
 use native.Mathlib.Omega.{arith}
 use mathlib.Core.Bool.{Bool, true, false, _&&_, _||_}
 use mathlib.Core.Path.{_≡_, refl, sym, _∙_}
-use lib.Dec.{ltb, leb, eqb}
-use borrow.Author.Tests.{eq-eqb, ne-eqb, eqb-true, ltb-true, leb-true}
+use lib.Dec.{ltb, eqb}
+use borrow.Author.Tests.{eq-eqb, ne-eqb, eqb-true, ltb-true}
 use Rattle.protocol.specs.declared.message.Kind.{Kind}
 use Rattle.protocol.specs.declared.message.Kind.the-variants.{Renew, Grant, Invalidate, Ack, Offer, Dropped}
 use Rattle.protocol.specs.declared.message.Message.{Message}
@@ -30,8 +30,8 @@ use Rattle.protocol.specs.Writes.{Counted, settled, writeStaged, clockStaged}
 use Rattle.protocol.specs.Server.{renewed, ackStaged, dropStaged, serverRestarted}
 use Rattle.protocol.specs.Sound.{kindSound, timeFits, tablesSound}
 use Rattle.protocol.specs.SoundLaws.{ranged, volume-in}
-use Rattle.protocol.specs.Soundness.Steps.{passed, step-passes, accepted-all, setup-in-range, tables-sound, client-exists, object-exists, place-exists}
-use Rattle.protocol.specs.Gate.{isClock, isWrite, isRestartServer, known, refusalOfStep, refusal}
+use Rattle.protocol.specs.Soundness.Steps.{passed, step-passes, accepted-all, setup-in-range, tables-sound, client-exists, object-exists, place-exists, by-kind, clock-performed, read-performed, ask-performed, write-performed, deliver-performed, lose-performed, double-performed, server-performed, client-performed}
+use Rattle.protocol.specs.Gate.{isClock, isWrite, isRestartServer, refusalOfStep, refusal}
 use Rattle.protocol.specs.Answers.{completedAnswer}
 use Rattle.protocol.specs.Decide.{Received, kept, uncounted, byServer, grantReceived, invalidateReceived, offerReceived, received, answered, counting, readDecided, askDecided, delivered, taken, deliverDecided, restartDecided, performed, refusedWith, decided}
 use Rattle.protocol.specs.World.{targetAt, target}
@@ -134,46 +134,28 @@ some-completed n h = rw (ne-eqb _ _ h)
 -- an accepted step, by its kind
 module _ (s : Setup) (t : Tables) (c : Copy) (r : Request) (x : Step) (d : Decision) where
   pub by-clock : (n : Counted) → x .kind ≡ 1 → n ≡ settled s (clockStaged s t (x .clock)) → d ≡ counting c r n → d ≡ performed s t c r x
-  unfolding performed
-  by-clock n k h e = rw (k, ← h) e
+  by-clock n k h e = rw (clock-performed s t c r x k, ← h) e
 
   pub by-read : x .kind ≡ 2 → d ≡ readDecided s t c r (x .client) (x .object) → d ≡ performed s t c r x
-  unfolding performed
-  by-read k e = rw k e
+  by-read k e = rw (read-performed s t c r x k) e
 
   pub by-ask : x .kind ≡ 3 → d ≡ askDecided s t c r (x .client) (x .object) → d ≡ performed s t c r x
-  unfolding performed
-  by-ask k e = rw k e
+  by-ask k e = rw (ask-performed s t c r x k) e
 
   pub by-write : (n : Counted) → x .kind ≡ 4 → n ≡ settled s (writeStaged s t (x .object) (x .value)) → d ≡ counting c r n → d ≡ performed s t c r x
-  unfolding performed
-  by-write n k h e = rw (k, ← h) e
+  by-write n k h e = rw (write-performed s t c r x k, ← h) e
 
   pub by-deliver : x .kind ≡ 5 → d ≡ deliverDecided s t c r (x .place) → d ≡ performed s t c r x
-  unfolding performed
-  by-deliver k e = rw k e
+  by-deliver k e = rw (deliver-performed s t c r x k) e
 
   pub by-lose : (u : Tables) → x .kind ≡ 6 → u ≡ taken t (x .place) → d ≡ answered (kept c r) u Done → d ≡ performed s t c r x
-  unfolding performed
-  by-lose u k h e = rw (k, ← h) e
+  by-lose u k h e = rw (lose-performed s t c r x k, ← h) e
 
   pub by-double : (u : Tables) → x .kind ≡ 7 → u ≡ withQueue t (doubled (t .queue) (x .place)) → d ≡ answered (kept c r) u Done → d ≡ performed s t c r x
-  unfolding performed
-  by-double u k h e = rw (k, ← h) e
+  by-double u k h e = rw (double-performed s t c r x k, ← h) e
 
   pub by-restart-server : (u : Tables) → x .kind ≡ 8 → u ≡ serverRestarted s t → d ≡ answered (kept c r) u Done → d ≡ performed s t c r x
-  unfolding performed
-  by-restart-server u k h e = rw (k, ← h) e
-
-  by-restart-client : x .kind ≡ 9 → d ≡ restartDecided s t c r (x .client) → d ≡ performed s t c r x
-  unfolding performed
-  by-restart-client k e = rw k e
-
-past : (k n : ℕ) → n ≤ k → (k ≡ n → ⊥) → n + 1 ≤ k
-past k n h e = omega arith
-
-nine : (k : ℕ) → 9 ≤ k → k ≤ 9 → k ≡ 9
-nine k h i = omega arith
+  by-restart-server u k h e = rw (server-performed s t c r x k, ← h) e
 
 -- what an accepted step names exists, and what must grow can
 module _ (s : Setup) (t : Tables) (r : Request) (x : Step) (a : refusalOfStep s t r x ≡ 0) (k : ℕ) (h : x .kind ≡ k) where
@@ -207,17 +189,19 @@ restarts s t c r q d v e f = rw (e, f)
 -- what is left of the kinds: 9
 module _ (s : Setup) (t : Tables) (r : Request) (x : Step) (e : refusalOfStep s t r x ≡ 0) (n1 : x .kind ≡ 1 → ⊥) (n2 : x .kind ≡ 2 → ⊥) (n3 : x .kind ≡ 3 → ⊥)
     (n4 : x .kind ≡ 4 → ⊥) (n5 : x .kind ≡ 5 → ⊥) (n6 : x .kind ≡ 6 → ⊥) (n7 : x .kind ≡ 7 → ⊥) (n8 : x .kind ≡ 8 → ⊥) where
+  none : {A : Type 0} (k : ℕ) → (x .kind ≡ k → ⊥) → x .kind ≡ k → A
+  none k n e = absurd (n e)
+
   last : x .kind ≡ 9
-  unfolding known
   last =
-      let k = and-true (leb 1 (x .kind)) (leb (x .kind) 9) (passed s t r x e .knows) in
-      nine _ (past _ 8 (past _ 7 (past _ 6 (past _ 5 (past _ 4 (past _ 3 (past _ 2 (past _ 1 (leb-true 1 _ (k .0)) n1) n2) n3) n4) n5) n6) n7) n8) (leb-true _ 9 (k .1))
+      by-kind (x .kind ≡ 9) x (passed s t r x e .knows) (none 1 n1) (none 2 n2) (none 3 n3) (none 4 n4) (none 5 n5) (none 6 n6) (none 7 n7) (none 8 n8)
+      (λ k. k)
 
   pub last-client : x .client < s .clients
   last-client = client-named s t r x e 9 last refl
 
   pub by-last : (c : Copy) (d : Decision) → d ≡ restartDecided s t c r (x .client) → d ≡ performed s t c r x
-  by-last c d h = by-restart-client s t c r x d last h
+  by-last c d h = rw (client-performed s t c r x last) h
 
 module _ (s : Setup) (t : Tables) (records : Bool) (c : Copy) (r : Request) (x : Step) (k : ℕ) (p : k ≡ refusal s t records r x) where
   pub setup-asked : k ≡ 0 → inRange s ≡ true
