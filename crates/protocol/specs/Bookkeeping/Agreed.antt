@@ -22,7 +22,7 @@ use Rattle.protocol.specs.Answers.{reported, isRefused}
 use Rattle.protocol.specs.Gate.{isClock}
 use Rattle.protocol.specs.Decide.{readDecided}
 use Rattle.protocol.specs.World.{World, freshWorld, stepped, answerOf}
-use Rattle.protocol.specs.Ledger.{none, write, accepts, events, Ledger, emptyLedger, bookAll, Books, freshBooks, booked}
+use Rattle.protocol.specs.Ledger.{none, write, accepts, events, Ledger, emptyLedger, bookAll, Books, freshBooks, booksAfter}
 use Rattle.protocol.specs.Agreement.{standingWrite, Agrees, AgreesFrom, AgreesThroughout}
 use Rattle.protocol.specs.Soundness.Steps.{accepted, ranges, setup-in-range, copyOf, requestOf, tables-after, accepted-answer, refused-answer, refused-keeps, clock-performed, read-performed}
 use Rattle.protocol.specs.Soundness.Answered.{accepted-of, refused-is-refused}
@@ -40,7 +40,7 @@ ReadsCurrent s w =
 -- a step of a world, and the ledger l before it: what the ledger is after it
 pub record BookedStep (s : Setup) (w : World) (x : Step) (l m : Ledger) : Type 0 where
   pub keeps : Booked s (stepped s w x .tables) m
-  pub reports : m .completes ≡ l .completes + reported (answerOf s w x)
+  pub reports : m .completedCount ≡ l .completedCount + reported (answerOf s w x)
 
 -- what an open write says of the tables
 pub opened-write : (b : Bool) (p q v e : ℕ) → cond b (write p q) none ≡ write v e → (b ≡ true) × (q ≡ e)
@@ -52,7 +52,7 @@ unfolding readDecided
 read-tables s t c r d o = cond-keeps (λ (g : Decision). g .outcome .tables ≡ t) (showable s t c d o) (λ e. refl) (λ e. refl)
 
 module _ (s : Setup) (w : World) (x : Step) (l : Ledger) where
-  accepted-step : SoundWorld s w → Booked s (w .tables) l → accepts s w x ≡ true → BookedStep s w x l (bookAll l (events s w x))
+  accepted-step : SoundWorld s w → Booked s (w .tables) l → accepts s w x ≡ true → BookedStep s w x l (bookAll s l (events s w x))
   unfolding events
   accepted-step k h e =
       let a = accepted s w x e in
@@ -60,12 +60,12 @@ module _ (s : Setup) (w : World) (x : Step) (l : Ledger) where
       performed-recorded s (ranges s (setup-in-range a)) (w .tables) (k .shape .tables) (k .bounds .tables) (copyOf s w x) (requestOf s w x) l h _ x a in
       rw e (record { keeps = rw (tables-after s w x e) (g .booked); reports = rw (accepted-answer s w x e) (g .reports) })
 
-  refused-step : Booked s (w .tables) l → accepts s w x ≡ false → BookedStep s w x l (bookAll l (events s w x))
+  refused-step : Booked s (w .tables) l → accepts s w x ≡ false → BookedStep s w x l (bookAll s l (events s w x))
   unfolding events bookAll
   refused-step h e = rw e (record { keeps = rw (refused-keeps s w x e) h; reports = rw (refused-answer s w x e) (omega arith) })
 
   -- every step keeps the ledger and the tables together
-  pub step-booked : SoundWorld s w → Booked s (w .tables) l → BookedStep s w x l (bookAll l (events s w x))
+  pub step-booked : SoundWorld s w → Booked s (w .tables) l → BookedStep s w x l (bookAll s l (events s w x))
   step-booked k h = ⊎-elim (accepted-step k h) (refused-step h) (true-or-false (accepts s w x))
 
   -- after a clock step
@@ -87,7 +87,7 @@ module _ (s : Setup) (w : World) (x : Step) (l : Ledger) where
       ∙ read-tables s (w .tables) (copyOf s w x) (requestOf s w x) (x .client) (x .object)
 
   pub step-shows : SoundWorld s w → Booked s (w .tables) l → ReadsCurrent s w
-      → (v : ℕ) → answerOf s w x ≡ Shown v → v ≡ bookAll l (events s w x) .posted (x .object)
+      → (v : ℕ) → answerOf s w x ≡ Shown v → v ≡ bookAll s l (events s w x) .postedValue (x .object)
   step-shows k h c v e =
       let q = shown-read s w x v e in
       sym (q .value)
@@ -96,8 +96,8 @@ module _ (s : Setup) (w : World) (x : Step) (l : Ledger) where
       ∙ step-booked k h .keeps .values (x .object) (q .object)
 
 -- ---- one step, against the ledger after it
-pub step-agrees : (s : Setup) (w : World) (x : Step) (n : ℕ) (l : Ledger) → SoundWorld s w → Booked s (w .tables) l → n ≡ l .completes → ReadsCurrent s w
-    → Agrees s w n x (bookAll l (events s w x))
+pub step-agrees : (s : Setup) (w : World) (x : Step) (n : ℕ) (l : Ledger) → SoundWorld s w → Booked s (w .tables) l → n ≡ l .completedCount → ReadsCurrent s w
+    → Agrees s w n x (bookAll s l (events s w x))
 step-agrees s w x n l k h e c =
     let b = step-booked s w x l k h in
     record {
@@ -113,13 +113,6 @@ step-agrees s w x n l k h e c =
 abbrev pub booksOf : World → Ledger → Books
 booksOf w l = record { world = w; ledger = l }
 
-pub books-fresh : (s : Setup) → freshBooks s ≡ booksOf (freshWorld s) emptyLedger
-books-fresh s = refl
-
-pub books-step : (s : Setup) (w : World) (l : Ledger) (x : Step) → booked s (booksOf w l) x ≡ booksOf (stepped s w x) (bookAll l (events s w x))
-unfolding booked
-books-step s w l x = refl
-
 -- What is still asked of demand 3: an invariant that fresh tables have, that every step of a sound world keeps, and under which every client reads what
 -- is current.
 pub record Invariant {κ} (s : Setup) (P : World → Type κ) : Type κ where
@@ -128,13 +121,13 @@ pub record Invariant {κ} (s : Setup) (P : World → Type κ) : Type κ where
   pub current : (w : World) → SoundWorld s w → P w → ReadsCurrent s w
 
 module _ {κ} (s : Setup) (P : World → Type κ) (v : Invariant s P) where
-  pub agrees-from : (w : World) (n : ℕ) (l : Ledger) (xs : List Step) → SoundWorld s w → P w → Booked s (w .tables) l → n ≡ l .completes
+  pub agrees-from : (w : World) (n : ℕ) (l : Ledger) (xs : List Step) → SoundWorld s w → P w → Booked s (w .tables) l → n ≡ l .completedCount
       → AgreesFrom s w n (booksOf w l) xs
-  unfolding AgreesFrom booked
+  unfolding AgreesFrom booksAfter
   agrees-from w n l [] k i h e = tt
   agrees-from w n l (x ∷ xs) k i h e =
       let b = step-booked s w x l k h in
-      (step-agrees s w x n l k h e (v .current w k i), agrees-from (stepped s w x) (n + reported (answerOf s w x)) (bookAll l (events s w x)) xs (stepped-sound s w x k) (v .kept w x k i) (b .keeps) (omega (arith, e, b .reports)))
+      (step-agrees s w x n l k h e (v .current w k i), agrees-from (stepped s w x) (n + reported (answerOf s w x)) (bookAll s l (events s w x)) xs (stepped-sound s w x k) (v .kept w x k i) (b .keeps) (omega (arith, e, b .reports)))
 
   agrees-in-range : inRange s ≡ true → (xs : List Step) → AgreesThroughout s xs
   agrees-in-range i xs = agrees-from (freshWorld s) 0 emptyLedger xs (fresh-sound s i) (v .fresh) (fresh-booked s) refl
@@ -145,7 +138,7 @@ module _ (s : Setup) (i : inRange s ≡ false) where
   never-accepted w x =
       ⊎-elim (λ e. not-both (setup-in-range (accepted s w x e)) i) (λ e. e) (true-or-false (accepts s w x))
 
-  refused-agrees : (w : World) (x : Step) (n : ℕ) (l : Ledger) → Booked s (w .tables) l → n ≡ l .completes → Agrees s w n x (bookAll l (events s w x))
+  refused-agrees : (w : World) (x : Step) (n : ℕ) (l : Ledger) → Booked s (w .tables) l → n ≡ l .completedCount → Agrees s w n x (bookAll s l (events s w x))
   refused-agrees w x n l h e =
       let a = never-accepted w x in
       let b = refused-step s w x l h a in
@@ -159,12 +152,12 @@ module _ (s : Setup) (i : inRange s ≡ false) where
         tallies = b .keeps .tallies;
       }
 
-  out-of-range-from : (w : World) (n : ℕ) (l : Ledger) (xs : List Step) → Booked s (w .tables) l → n ≡ l .completes → AgreesFrom s w n (booksOf w l) xs
-  unfolding AgreesFrom booked
+  out-of-range-from : (w : World) (n : ℕ) (l : Ledger) (xs : List Step) → Booked s (w .tables) l → n ≡ l .completedCount → AgreesFrom s w n (booksOf w l) xs
+  unfolding AgreesFrom booksAfter
   out-of-range-from w n l [] h e = tt
   out-of-range-from w n l (x ∷ xs) h e =
       let b = refused-step s w x l h (never-accepted w x) in
-      (refused-agrees w x n l h e, out-of-range-from (stepped s w x) (n + reported (answerOf s w x)) (bookAll l (events s w x)) xs (b .keeps) (omega (arith, e, b .reports)))
+      (refused-agrees w x n l h e, out-of-range-from (stepped s w x) (n + reported (answerOf s w x)) (bookAll s l (events s w x)) xs (b .keeps) (omega (arith, e, b .reports)))
 
   agrees-out-of-range : (xs : List Step) → AgreesThroughout s xs
   agrees-out-of-range xs = out-of-range-from (freshWorld s) 0 emptyLedger xs (fresh-booked s) refl

@@ -7,7 +7,6 @@ use mathlib.Core.Path.{_≡_, refl, _∙_}
 use lib.Dec.{ltb, leb, eqb·suc-zero}
 use borrow.Author.Tests.{ltb-true}
 use Rattle.laws.specs.Choice.{cond-keeps, and-true, not-both}
-use Rattle.laws.specs.Loop.{listFrom}
 use Rattle.protocol.specs.declared.message.Kind.{Kind}
 use Rattle.protocol.specs.declared.message.Kind.the-variants.{Renew, Grant, Invalidate, Ack, Offer, Dropped}
 use Rattle.protocol.specs.declared.message.Message.{Message}
@@ -28,12 +27,12 @@ use Rattle.protocol.specs.Client.{showable, stands, grantTaken}
 use Rattle.protocol.specs.Sound.{kindSound}
 use Rattle.protocol.specs.Answers.{reported, completedAnswer}
 use Rattle.protocol.specs.Decide.{Received, uncounted, kept, answered, counting, received, grantReceived, invalidateReceived, offerReceived, taken, performed, readDecided, askDecided, deliverDecided, restartDecided}
-use Rattle.protocol.specs.Ledger.{Event, accepted, cutOff, shown, clocked, completing, receiptStaged, deliveryStaged, readEvents, happening, Ledger, book, bookAll}
+use Rattle.protocol.specs.Ledger.{Event, acceptance, serverRestart, showing, clockStep, completions, receiptStaged, deliveryStaged, readEvents, happening, Ledger, book, bookAll}
 use Rattle.protocol.specs.Soundness.Steps.{Ranges, Accepted, by-kind, object-exists, place-exists, queue-fits, none-stands, clock-performed, read-performed, ask-performed, write-performed, deliver-performed, lose-performed, double-performed, server-performed, client-performed}
 use Rattle.protocol.specs.Soundness.Shape.{Shape, clock-shape, written-shape, taken-shape, acked-shape, dropped-shape}
 use Rattle.protocol.specs.Soundness.Bounds.{Bounded, named-at}
-use Rattle.protocol.specs.Bookkeeping.Booked.{Booked, SameWrites, same-booked, begun-booked, cut-completes, restarted-booked}
-use Rattle.protocol.specs.Bookkeeping.Settled.{OpenEach, Settlement, StagedOn, settlingOf, settle, done-completes, ready-stands, due-stands}
+use Rattle.protocol.specs.Bookkeeping.Booked.{Booked, SameWrites, same-booked, begun-booked, restarted-booked}
+use Rattle.protocol.specs.Bookkeeping.Settled.{OpenEach, Settlement, StagedOn, settlingOf, settle, completions-counted, ready-stands, due-stands}
 
 -- ---- what an answer reports
 pub reported-completed : (n : ℕ) → reported (completedAnswer n) ≡ n
@@ -44,15 +43,15 @@ pub reported-delivered : (m : Message) (n : ℕ) → reported (Delivered m n) �
 reported-delivered m zero = refl
 reported-delivered m (suc n) = rw (eqb·suc-zero n)
 
-pub book-append : (l : Ledger) (es fs : List Event) → bookAll l (es ++ fs) ≡ bookAll (bookAll l es) fs
+pub book-append : (s : Setup) (l : Ledger) (es fs : List Event) → bookAll s l (es ++ fs) ≡ bookAll s (bookAll s l es) fs
 unfolding bookAll
-book-append l [] fs = refl
-book-append l (e ∷ es) fs = book-append (book l e) es fs
+book-append s l [] fs = refl
+book-append s l (e ∷ es) fs = book-append s (book s l e) es fs
 
 -- a decision, and what the ledger l becomes with it
 pub record Recorded (s : Setup) (l : Ledger) (g : Decision) (m : Ledger) : Type 0 where
   pub booked : Booked s (g .outcome .tables) m
-  pub reports : m .completes ≡ l .completes + reported (g .outcome .answer)
+  pub reports : m .completedCount ≡ l .completedCount + reported (g .outcome .answer)
 
 -- ---- what leaves every write alone
 pub objects-same : (t u : Tables) → u .objects ≡ t .objects → SameWrites t u
@@ -139,7 +138,7 @@ module _ (s : Setup) (rs : Ranges s) (t : Tables) (k : Shape t) (c : Copy) (r : 
 
 -- ---- the events of an accepted step, by its kind
 module _ (s : Setup) (t : Tables) (c : Copy) (x : Step) where
-  pub clock-happening : x .kind ≡ 1 → happening s t c x ≡ completing s (clockStaged s t (x .clock)) ++ (clocked (x .clock) ∷ [])
+  pub clock-happening : x .kind ≡ 1 → happening s t c x ≡ completions s (clockStaged s t (x .clock)) ++ (clockStep (x .clock) ∷ [])
   unfolding happening
   clock-happening e = rw e
 
@@ -152,11 +151,11 @@ module _ (s : Setup) (t : Tables) (c : Copy) (x : Step) where
   ask-happening e = rw e
 
   pub write-happening : x .kind ≡ 4
-      → happening s t c x ≡ accepted (x .object) (x .value) (latestEnd s t (x .object)) ∷ completing s (writeStaged s t (x .object) (x .value))
+      → happening s t c x ≡ acceptance (x .object) (x .value) (latestEnd s t (x .object)) ∷ completions s (writeStaged s t (x .object) (x .value))
   unfolding happening
   write-happening e = rw e
 
-  pub deliver-happening : x .kind ≡ 5 → happening s t c x ≡ completing s (deliveryStaged s t (x .place))
+  pub deliver-happening : x .kind ≡ 5 → happening s t c x ≡ completions s (deliveryStaged s t (x .place))
   unfolding happening
   deliver-happening e = rw e
 
@@ -168,7 +167,7 @@ module _ (s : Setup) (t : Tables) (c : Copy) (x : Step) where
   unfolding happening
   double-happening e = rw e
 
-  pub server-happening : x .kind ≡ 8 → happening s t c x ≡ map cutOff (listFrom (standingAt t) 0 (s .objects))
+  pub server-happening : x .kind ≡ 8 → happening s t c x ≡ serverRestart ∷ []
   unfolding happening
   server-happening e = rw e
 
@@ -176,33 +175,33 @@ module _ (s : Setup) (t : Tables) (c : Copy) (x : Step) where
   unfolding happening
   client-happening e = rw e
 
-accepted-completes : (l : Ledger) (o x e : ℕ) → book l (accepted o x e) .completes ≡ l .completes
+acceptance-completes : (s : Setup) (l : Ledger) (o v u : ℕ) → book s l (acceptance o v u) .completedCount ≡ l .completedCount
 unfolding book
-accepted-completes l o x e = refl
+acceptance-completes s l o v u = refl
 
 -- ---- an accepted step
 module _ (s : Setup) (rs : Ranges s) (t : Tables) (k : Shape t) (b : Bounded s t) (c : Copy) (r : Request) (l : Ledger) (h : Booked s t l) where
-  clock-recorded : (x : ℕ) → Recorded s l (counting c r (settled s (clockStaged s t x))) (bookAll l (completing s (clockStaged s t x) ++ (clocked x ∷ [])))
+  clock-recorded : (x : ℕ) → Recorded s l (counting c r (settled s (clockStaged s t x))) (bookAll s l (completions s (clockStaged s t x) ++ (clockStep x ∷ [])))
   unfolding bookAll book
   clock-recorded x =
       let g = clockStaged s t x in
       let q = settle s rs t g l (clock-on s t x k) h in
-      rw (book-append l (completing s g) (clocked x ∷ []))
-      (record { booked = q .booked; reports = done-completes l (settlingOf s g) ∙ omega (arith, q .counts, reported-completed (settled s g .count)) })
+      rw (book-append s l (completions s g) (clockStep x ∷ []))
+      (record { booked = q .booked; reports = completions-counted s l (settlingOf s g) ∙ omega (arith, q .counts, reported-completed (settled s g .count)) })
 
   write-recorded : (o x : ℕ) → o < s .objects → standingAt t o ≡ false
-      → Recorded s l (counting c r (settled s (writeStaged s t o x))) (bookAll l (accepted o x (latestEnd s t o) ∷ completing s (writeStaged s t o x)))
+      → Recorded s l (counting c r (settled s (writeStaged s t o x))) (bookAll s l (acceptance o x (latestEnd s t o) ∷ completions s (writeStaged s t o x)))
   unfolding bookAll
   write-recorded o x p v =
       let g = writeStaged s t o x in
-      let m = book l (accepted o x (latestEnd s t o)) in
+      let m = book s l (acceptance o x (latestEnd s t o)) in
       let q = settle s rs (begun s t o x) g m (write-on s t o x p k) (begun-booked s rs t k l h o x p v) in
       record {
         booked = q .booked;
-        reports = done-completes m (settlingOf s g) ∙ omega (arith, q .counts, reported-completed (settled s g .count), accepted-completes l o x (latestEnd s t o));
+        reports = completions-counted s m (settlingOf s g) ∙ omega (arith, q .counts, reported-completed (settled s g .count), acceptance-completes s l o x (latestEnd s t o));
       }
 
-  deliver-recorded : (i : ℕ) → i < 64 → Recorded s l (deliverDecided s t c r i) (bookAll l (completing s (deliveryStaged s t i)))
+  deliver-recorded : (i : ℕ) → i < 64 → Recorded s l (deliverDecided s t c r i) (bookAll s l (completions s (deliveryStaged s t i)))
   unfolding deliverDecided
   deliver-recorded i p =
       let m = messageAt (t .queue) i in
@@ -212,7 +211,7 @@ module _ (s : Setup) (rs : Ranges s) (t : Tables) (k : Shape t) (b : Bounded s t
       record {
         booked = q .booked;
         reports =
-            done-completes l (settlingOf s (deliveryStaged s t i))
+            completions-counted s l (settlingOf s (deliveryStaged s t i))
             ∙ omega (arith, q .counts, reported-delivered m (received s (taken t i) c r (m .client) (m .kind) .counted .count));
       }
 
@@ -220,12 +219,12 @@ module _ (s : Setup) (rs : Ranges s) (t : Tables) (k : Shape t) (b : Bounded s t
   quiet : (g : Decision) → SameWrites t (g .outcome .tables) → reported (g .outcome .answer) ≡ 0 → Recorded s l g l
   quiet g e f = record { booked = same-booked s t _ l e h; reports = omega (arith, f) }
 
-  read-recorded : (d o : ℕ) → Recorded s l (readDecided s t c r d o) (bookAll l (readEvents s t c d o))
+  read-recorded : (d o : ℕ) → Recorded s l (readDecided s t c r d o) (bookAll s l (readEvents s t c d o))
   unfolding readDecided bookAll book
   read-recorded d o = go (showable s t c d o)
     where
       go : (f : Bool)
-          → Recorded s l (cond f (answered (kept c r) t (Shown (c .value))) (answered (kept c r) t AskFirst)) (bookAll l (cond f (shown d o (c .value) ∷ []) []))
+          → Recorded s l (cond f (answered (kept c r) t (Shown (c .value))) (answered (kept c r) t AskFirst)) (bookAll s l (cond f (showing d o (c .value) ∷ []) []))
       go true = quiet _ (objects-same t _ refl) refl
       go false = quiet _ (objects-same t _ refl) refl
 
@@ -237,13 +236,14 @@ module _ (s : Setup) (rs : Ranges s) (t : Tables) (k : Shape t) (b : Bounded s t
   unfolding restartDecided
   restart-recorded d = quiet _ (objects-same t _ refl) refl
 
-  server-recorded : Recorded s l (answered (kept c r) (serverRestarted s t) Done) (bookAll l (map cutOff (listFrom (standingAt t) 0 (s .objects))))
-  server-recorded = record { booked = restarted-booked s t l h; reports = cut-completes l (listFrom (standingAt t) 0 (s .objects)) ∙ omega arith }
+  server-recorded : Recorded s l (answered (kept c r) (serverRestarted s t) Done) (book s l serverRestart)
+  unfolding book
+  server-recorded = record { booked = restarted-booked s t l h; reports = omega arith }
 
-  pub performed-recorded : (f : Bool) (x : Step) → Accepted s t f r x → Recorded s l (performed s t c r x) (bookAll l (happening s t c x))
+  pub performed-recorded : (f : Bool) (x : Step) → Accepted s t f r x → Recorded s l (performed s t c r x) (bookAll s l (happening s t c x))
   unfolding bookAll
   performed-recorded f x a =
-      by-kind (Recorded s l (performed s t c r x) (bookAll l (happening s t c x))) x (a .passes .knows)
+      by-kind (Recorded s l (performed s t c r x) (bookAll s l (happening s t c x))) x (a .passes .knows)
       (λ e. rw (clock-performed s t c r x e, clock-happening s t c x e) (clock-recorded (x .clock)))
       (λ e. rw (read-performed s t c r x e, read-happening s t c x e) (read-recorded (x .client) (x .object)))
       (λ e. rw (ask-performed s t c r x e, ask-happening s t c x e) (ask-recorded (x .client) (x .object)))

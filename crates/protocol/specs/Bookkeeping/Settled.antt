@@ -19,7 +19,7 @@ use Rattle.protocol.specs.Setup.{volumeOf}
 use Rattle.protocol.specs.Tables.{standingAt, endAt}
 use Rattle.protocol.specs.Leases.{guardPassed, endOver}
 use Rattle.protocol.specs.Writes.{Counted, waited, ready, due, posted, completed, Staged, completeIf, settled, settling, clockStaged}
-use Rattle.protocol.specs.Ledger.{completed as done, isOpen, Ledger, book, bookAll}
+use Rattle.protocol.specs.Ledger.{completion, isOpen, Ledger, book, bookAll}
 use Rattle.protocol.specs.Soundness.Steps.{Ranges}
 use Rattle.protocol.specs.Soundness.Shape.{Shape, completed-shape}
 use Rattle.protocol.specs.Bookkeeping.Booked.{Booked, SameWrites, same-booked, standing-opened, completed-booked}
@@ -37,15 +37,15 @@ unfolding due
 due-stands s t o e = and-true (standingAt t o) (not (waited s t o) && guardPassed t (volumeOf s o) || endOver (t .clock) (endAt t o)) e .0
 
 -- each write is open when it completes, one after the other
-unfoldable pub OpenEach : Ledger → List ℕ → Type 0
-OpenEach l [] = Unit {0}
-OpenEach l (o ∷ os) = (isOpen (l .opened o) ≡ true) × OpenEach (book l (done o)) os
+unfoldable pub OpenEach : Setup → Ledger → List ℕ → Type 0
+OpenEach s l [] = Unit {0}
+OpenEach s l (o ∷ os) = (isOpen (l .openWrite o) ≡ true) × OpenEach s (book s l (completion o)) os
 
 -- c is what is left after the writes of os completed, n being counted before
 pub record Settlement (s : Setup) (l : Ledger) (n : ℕ) (c : Counted) (os : List ℕ) : Type 0 where
-  pub booked : Booked s (c .tables) (bookAll l (map done os))
+  pub booked : Booked s (c .tables) (bookAll s l (map completion os))
   pub counts : c .count ≡ n + length os
-  pub opens : OpenEach l os
+  pub opens : OpenEach s l os
 
 module _ (s : Setup) (rs : Ranges s) (test : Tables → ℕ → Bool) (stands : Stands test) where
   abbrev Leads : ℕ → ℕ → Counted → Ledger → Type 0
@@ -63,7 +63,7 @@ module _ (s : Setup) (rs : Ranges s) (test : Tables → ℕ → Bool) (stands : 
           → Settlement s l (c .count) (foldFrom (completeIf test s) (cond b next c) (j + 1) n)
           (cond b (j ∷ settling test s (completed s (c .tables) j) (j + 1) n) (settling test s (c .tables) (j + 1) n))
       go true e rest =
-          let r = rest next (book l (done j)) (completed-shape s (c .tables) j k) (completed-booked s rs (c .tables) k l h j (omega arith) (stands (c .tables) j e)) in
+          let r = rest next (book s l (completion j)) (completed-shape s (c .tables) j k) (completed-booked s rs (c .tables) k l h j (omega arith) (stands (c .tables) j e)) in
           record {
             booked = r .booked;
             counts = r .counts ∙ omega arith;
@@ -87,10 +87,10 @@ unfolding settled
 settle s rs t g l a h =
     settle-from s rs (g .test) (a .stands) (g .from) (g .many) (a .fits) (record { count = 0; tables = g .tables }) l (a .shape) (same-booked s t (g .tables) l (a .same) h)
 
-pub done-completes : (l : Ledger) (os : List ℕ) → bookAll l (map done os) .completes ≡ l .completes + length os
+pub completions-counted : (s : Setup) (l : Ledger) (os : List ℕ) → bookAll s l (map completion os) .completedCount ≡ l .completedCount + length os
 unfolding bookAll book
-done-completes l [] = omega arith
-done-completes l (o ∷ os) = done-completes (book l (done o)) os ∙ omega arith
+completions-counted s l [] = omega arith
+completions-counted s l (o ∷ os) = completions-counted s (book s l (completion o)) os ∙ omega arith
 
 -- ---- after a clock step
 pub record Ended (T j : ℕ) (c : Counted) : Type 0 where

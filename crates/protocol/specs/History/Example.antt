@@ -3,7 +3,7 @@ use Prim.Native.Nat.{ℕ}
 use mathlib.Core.List.{List, [], _∷_, map}
 use mathlib.Core.Path.{_≡_, refl}
 use lib.ListN.{replicate}
-use Rattle.laws.specs.Loop.{foldFrom, anyFrom, allFrom, firstFrom, listFrom}
+use Rattle.laws.specs.Loop.{foldFrom, anyFrom, allFrom, firstFrom}
 use Rattle.laws.specs.Lists.{removeAt}
 use Rattle.laws.specs.Store.{storeEach}
 use Rattle.protocol.specs.declared.setup.Setup.{Setup}
@@ -20,7 +20,7 @@ use Rattle.protocol.specs.Answers.{answerNumber, answerValue}
 use Rattle.protocol.specs.Gate.{known, exists, timely, vacant, growable, refusalOfStep, refusal}
 use Rattle.protocol.specs.Decide.{grantReceived, invalidateReceived, offerReceived, received, readDecided, askDecided, deliverDecided, performed, decided}
 use Rattle.protocol.specs.World.{freshWorld, target, decision, stepped, answers}
-use Rattle.protocol.specs.Ledger.{Event, accepted, completed as done, cutOff, shown, clocked, happening, events}
+use Rattle.protocol.specs.Ledger.{Event, acceptance, completion, serverRestart, showing, clockStep, happening, events}
 use Rattle.protocol.specs.History.{told, historyFrom, history}
 
 -- one client, volume and object; tv 10, t 100, m 3
@@ -70,10 +70,10 @@ run =
 -- the history, newest first
 pub story : List Event
 story =
-    shown 0 0 9 ∷ cutOff 0 ∷ accepted 0 10 21
-    ∷ clocked 11 ∷ done 0 ∷ clocked 10 ∷ accepted 0 9 10
-    ∷ shown 0 0 8 ∷ done 0 ∷ accepted 0 8 10
-    ∷ shown 0 0 7 ∷ done 0 ∷ accepted 0 7 3 ∷ []
+    showing 0 0 9 ∷ serverRestart ∷ acceptance 0 10 21
+    ∷ clockStep 11 ∷ completion 0 ∷ clockStep 10 ∷ acceptance 0 9 10
+    ∷ showing 0 0 8 ∷ completion 0 ∷ acceptance 0 8 10
+    ∷ showing 0 0 7 ∷ completion 0 ∷ acceptance 0 7 3 ∷ []
 
 -- 01's number and value of each answer, oldest first
 pub numbers : List ℕ
@@ -97,5 +97,5 @@ values =
     ∷ 0 ∷ 0 ∷ 9 ∷ []
 
 pub worked-through : (history tiny run ≡ story) × (map answerNumber (answers tiny (freshWorld tiny) run) ≡ numbers) × (map answerValue (answers tiny (freshWorld tiny) run) ≡ values)
-unfolding story numbers values answers tiny step clock read ask deliver lose restart write run told historyFrom events happening foldFrom anyFrom allFrom firstFrom listFrom removeAt storeEach inRange pushed removed freshTables serverAlive clientAlive clientClock guardPassed endOver waits latestEnd opened awaited notified waited ready due deserted posted released completed settled settling written noted offered lowestWaited volumeRenewed objectRenewed granted mustDrop renewedBy renewed ackTaken acked ackStaged dropTaken disowned dropped dropStaged serverRestarted showable stands grantTaken forgotten swept sweptAll queueSound tablesSound copiesSound requestsSound sound known exists timely vacant growable refusalOfStep refusal grantReceived invalidateReceived offerReceived received readDecided askDecided deliverDecided performed decided target decision stepped
+unfolding story numbers values answers tiny step clock read ask deliver lose restart write run told historyFrom events happening foldFrom anyFrom allFrom firstFrom removeAt storeEach inRange pushed removed freshTables serverAlive clientAlive clientClock guardPassed endOver waits latestEnd opened awaited notified waited ready due deserted posted released completed settled settling written noted offered lowestWaited volumeRenewed objectRenewed granted mustDrop renewedBy renewed ackTaken acked ackStaged dropTaken disowned dropped dropStaged serverRestarted showable stands grantTaken forgotten swept sweptAll queueSound tablesSound copiesSound requestsSound sound known exists timely vacant growable refusalOfStep refusal grantReceived invalidateReceived offerReceived received readDecided askDecided deliverDecided performed decided target decision stepped
 worked-through = (refl, refl, refl)
