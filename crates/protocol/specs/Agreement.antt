@@ -5,11 +5,10 @@ use mathlib.Core.Bool.{true, false, cond}
 use mathlib.Core.List.{List, [], _∷_}
 use mathlib.Core.Path.{_≡_}
 use Rattle.protocol.specs.declared.setup.Setup.{Setup}
-use Rattle.protocol.specs.declared.step.Answer.the-variants.{Shown}
 use Rattle.protocol.specs.declared.step.Step.{Step}
 use Rattle.protocol.specs.declared.tables.Tables.{Tables}
 use Rattle.protocol.specs.Tables.{valueAt, standingAt, pendingAt, endAt}
-use Rattle.protocol.specs.Answers.{reported, isRefused}
+use Rattle.protocol.specs.Answers.{answerValue, reported, isShown, isRefused}
 use Rattle.protocol.specs.Gate.{isClock}
 use Rattle.protocol.specs.World.{World, freshWorld, stepped, answerOf}
 use Rattle.protocol.specs.Ledger.{Open, none, write, Ledger, openCount, Books, freshBooks, booksAfter}
@@ -21,7 +20,7 @@ standingWrite t o = cond (standingAt t o) (write (pendingAt t o) (endAt t o)) no
 -- step x on w, against the ledger l after it; n writes were reported completed before it
 pub record Agrees (s : Setup) (w : World) (n : ℕ) (x : Step) (l : Ledger) : Type 0 where
   -- "a read answered "shown" gave its object's posted value"
-  pub shows : (v : ℕ) → answerOf s w x ≡ Shown v → v ≡ l .postedValue (x .object)
+  pub shows : isShown (answerOf s w x) ≡ true → answerValue (answerOf s w x) ≡ l .postedValue (x .object)
   -- "each object's value in the server's tables is the posted one"
   pub values : (o : ℕ) → o < s .objects → valueAt (stepped s w x .tables) o ≡ l .postedValue o
   -- "it has a standing write exactly where the ledger has an open one, with the same value and latest end"

@@ -1,6 +1,7 @@
 -- The history of a run is the events of its steps, told newest first. Demand 3 once more, in functions of the history alone.
 -- Letters: s setup, w world, x a step, a its answer, h a history, e an event, p a test of events, d client, o and k objects, v value, u latest end, T clock.
 pub mod Lawful
+pub mod Showings
 pub mod Kept
 pub mod Example
 use Prim.Native.Nat.{ℕ, _+_, _<_, _≤_}
@@ -13,7 +14,7 @@ use Rattle.protocol.specs.declared.setup.Setup.{Setup}
 use Rattle.protocol.specs.declared.step.Answer.{Answer}
 use Rattle.protocol.specs.declared.step.Step.{Step}
 use Rattle.protocol.specs.Tables.{valueAt}
-use Rattle.protocol.specs.Answers.{answerNumber, answerValue, reported}
+use Rattle.protocol.specs.Answers.{answerValue, reported, isShown}
 use Rattle.protocol.specs.World.{World, freshWorld, stepped, ran, answers}
 use Rattle.protocol.specs.Ledger.{Event, acceptance, completion, serverRestart, showing, clockStep, events, Open, none, write, isOpen}
 use Rattle.protocol.specs.Agreement.{standingWrite}
@@ -110,6 +111,25 @@ unfoldable pub reportedIn : List Answer → ℕ
 reportedIn [] = 0
 reportedIn (a ∷ rest) = reported a + reportedIn rest
 
+-- what a step was answered "shown", if it was: client, object and value
+abbrev pub shownBy : Step → Answer → List (ℕ × ℕ × ℕ)
+shownBy x a = cond (isShown a) ((x .client, x .object, answerValue a) ∷ []) []
+
+-- what the steps of a run were answered "shown", in their order
+unfoldable pub shownByAll : List Step → List Answer → List (ℕ × ℕ × ℕ)
+shownByAll [] _ = []
+shownByAll (_ ∷ _) [] = []
+shownByAll (x ∷ xs) (a ∷ rest) = shownBy x a ++ shownByAll xs rest
+
+-- what a history tells as shown, oldest first
+unfoldable pub shownIn : List Event → List (ℕ × ℕ × ℕ)
+shownIn [] = []
+shownIn (acceptance _ _ _ ∷ past) = shownIn past
+shownIn (completion _ ∷ past) = shownIn past
+shownIn (serverRestart ∷ past) = shownIn past
+shownIn (showing d o v ∷ past) = shownIn past ++ ((d, o, v) ∷ [])
+shownIn (clockStep _ ∷ past) = shownIn past
+
 -- ---- what demand 3 says of a history h
 
 -- a value shown is that of the write completed last before
@@ -128,6 +148,8 @@ AddsUp s h = howOften isAcceptance h ≡ howOften isCompletion h + cutOffs s h +
 
 -- together, of a run from fresh tables
 pub record HistoryAgrees (s : Setup) (xs : List Step) : Type 0 where
+  -- each answer "shown" is told, and nothing else is told as shown
+  pub showings : shownByAll xs (answers s (freshWorld s) xs) ≡ shownIn (history s xs)
   pub shows : ShowsLast (history s xs)
   pub ends : EndsInTime (history s xs)
   pub tallies : AddsUp s (history s xs)

@@ -10,7 +10,6 @@ use Rattle.laws.specs.Choice.{cond-keeps, true-or-false, not-both}
 use Rattle.protocol.specs.declared.records.Copy.{Copy}
 use Rattle.protocol.specs.declared.records.Request.{Request}
 use Rattle.protocol.specs.declared.setup.Setup.{Setup}
-use Rattle.protocol.specs.declared.step.Answer.the-variants.{Shown}
 use Rattle.protocol.specs.declared.step.Decision.{Decision}
 use Rattle.protocol.specs.declared.step.Step.{Step}
 use Rattle.protocol.specs.declared.tables.Tables.{Tables}
@@ -18,11 +17,11 @@ use Rattle.protocol.specs.Setup.{inRange}
 use Rattle.protocol.specs.Tables.{valueAt, standingAt, pendingAt, endAt}
 use Rattle.protocol.specs.Writes.{settled, clockStaged}
 use Rattle.protocol.specs.Client.{showable}
-use Rattle.protocol.specs.Answers.{reported, isRefused}
+use Rattle.protocol.specs.Answers.{answerValue, reported, isShown, isRefused}
 use Rattle.protocol.specs.Gate.{isClock}
 use Rattle.protocol.specs.Decide.{readDecided}
 use Rattle.protocol.specs.World.{World, freshWorld, stepped, answerOf}
-use Rattle.protocol.specs.Ledger.{none, write, accepts, events, Ledger, emptyLedger, bookAll, Books, freshBooks, booksAfter}
+use Rattle.protocol.specs.Ledger.{none, write, accepts, events, Ledger, emptyLedger, bookAll, Books, booksAfter}
 use Rattle.protocol.specs.Agreement.{standingWrite, Agrees, AgreesFrom, AgreesThroughout}
 use Rattle.protocol.specs.Soundness.Steps.{accepted, ranges, setup-in-range, copyOf, requestOf, tables-after, accepted-answer, refused-answer, refused-keeps, clock-performed, read-performed}
 use Rattle.protocol.specs.Soundness.Answered.{accepted-of, refused-is-refused}
@@ -30,12 +29,13 @@ use Rattle.protocol.specs.Soundness.Question.{SoundWorld, stepped-sound,
 use Rattle.protocol.specs.Bookkeeping.Booked.{Booked, fresh-booked}
 use Rattle.protocol.specs.Bookkeeping.Settled.{clock-ended}
 use Rattle.protocol.specs.Bookkeeping.Kept.{performed-recorded}
-use Rattle.protocol.specs.Bookkeeping.Shown.{copyAt, shown-read}
+use Rattle.protocol.specs.Bookkeeping.Shown.{shown-read}
+use Rattle.protocol.specs.Safety.Invariant.{copyAt}
 
 -- a client that may show its copy of an object has the server's value
 abbrev pub ReadsCurrent : Setup → World → Type 0
 ReadsCurrent s w =
-    (d o : ℕ) → d < s .clients → o < s .objects → showable s (w .tables) (copyAt s w d o) d o ≡ true → copyAt s w d o .value ≡ valueAt (w .tables) o
+    (d o : ℕ) → d < s .clients → o < s .objects → showable s (w .tables) (copyAt s (w .copies) d o) d o ≡ true → copyAt s (w .copies) d o .value ≡ valueAt (w .tables) o
 
 -- a step of a world, and the ledger l before it: what the ledger is after it
 pub record BookedStep (s : Setup) (w : World) (x : Step) (l m : Ledger) : Type 0 where
@@ -87,10 +87,10 @@ module _ (s : Setup) (w : World) (x : Step) (l : Ledger) where
       ∙ read-tables s (w .tables) (copyOf s w x) (requestOf s w x) (x .client) (x .object)
 
   pub step-shows : SoundWorld s w → Booked s (w .tables) l → ReadsCurrent s w
-      → (v : ℕ) → answerOf s w x ≡ Shown v → v ≡ bookAll s l (events s w x) .postedValue (x .object)
-  step-shows k h c v e =
-      let q = shown-read s w x v e in
-      sym (q .value)
+      → isShown (answerOf s w x) ≡ true → answerValue (answerOf s w x) ≡ bookAll s l (events s w x) .postedValue (x .object)
+  step-shows k h c e =
+      let q = shown-read s w x e in
+      q .value
       ∙ c (x .client) (x .object) (q .client) (q .object) (q .shows)
       ∙ sym (ap (λ (t : Tables). valueAt t (x .object)) (read-leaves (q .kind) (q .takes)))
       ∙ step-booked k h .keeps .values (x .object) (q .object)
@@ -144,7 +144,7 @@ module _ (s : Setup) (i : inRange s ≡ false) where
       let b = refused-step s w x l h a in
       let r = refused-is-refused s w x a in
       record {
-        shows = λ v f. not-both r (ap isRefused f);
+        shows = λ f. not-both f (ap isShown (refused-answer s w x a));
         values = b .keeps .values;
         writes = b .keeps .writes;
         ends = λ c f o v u p j. not-both r f;

@@ -1,10 +1,10 @@
 -- Every accepted step keeps the ledger and the tables together.
 use Prim.Native.Nat.{ℕ, zero, suc, _+_, _<_}
 use native.Mathlib.Omega.{arith}
-use mathlib.Core.Bool.{Bool, true, false, cond}
-use mathlib.Core.List.{List, [], _∷_, _++_, map}
+use mathlib.Core.Bool.{Bool, true, false}
+use mathlib.Core.List.{List, [], _∷_, _++_}
 use mathlib.Core.Path.{_≡_, refl, _∙_}
-use lib.Dec.{ltb, leb, eqb·suc-zero}
+use lib.Dec.{ltb, eqb·suc-zero}
 use borrow.Author.Tests.{ltb-true}
 use Rattle.laws.specs.Choice.{cond-keeps, and-true, not-both}
 use Rattle.protocol.specs.declared.message.Kind.{Kind}
@@ -14,20 +14,20 @@ use Rattle.protocol.specs.declared.message.Payload.{Payload}
 use Rattle.protocol.specs.declared.records.Copy.{Copy}
 use Rattle.protocol.specs.declared.records.Request.{Request}
 use Rattle.protocol.specs.declared.setup.Setup.{Setup}
-use Rattle.protocol.specs.declared.step.Answer.the-variants.{Done, Shown, AskFirst, Delivered}
+use Rattle.protocol.specs.declared.step.Answer.the-variants.{Done, Delivered}
 use Rattle.protocol.specs.declared.step.Decision.{Decision}
 use Rattle.protocol.specs.declared.step.Step.{Step}
 use Rattle.protocol.specs.declared.tables.Tables.{Tables}
 use Rattle.protocol.specs.Setup.{volumeOf}
 use Rattle.protocol.specs.Messages.{messageAt}
-use Rattle.protocol.specs.Tables.{seenAt, standingAt}
+use Rattle.protocol.specs.Tables.{standingAt}
 use Rattle.protocol.specs.Writes.{unstaged, latestEnd, begun, ready, settled, settling, written, writeStaged, clockStaged}
 use Rattle.protocol.specs.Server.{noted, offered, volumeRenewed, objectRenewed, granted, lowestWaited, mustDrop, renewedBy, renewed, ackTaken, acked, ackStaged, dropTaken, dropped, ofVolume, dropStaged, serverRestarted, stale, beingWritten}
 use Rattle.protocol.specs.Client.{showable, stands, grantTaken}
 use Rattle.protocol.specs.Sound.{kindSound}
 use Rattle.protocol.specs.Answers.{reported, completedAnswer}
 use Rattle.protocol.specs.Decide.{Received, uncounted, kept, answered, counting, received, grantReceived, invalidateReceived, offerReceived, taken, performed, readDecided, askDecided, deliverDecided, restartDecided}
-use Rattle.protocol.specs.Ledger.{Event, acceptance, serverRestart, showing, clockStep, completions, receiptStaged, deliveryStaged, readEvents, happening, Ledger, book, bookAll}
+use Rattle.protocol.specs.Ledger.{Event, acceptance, serverRestart, clockStep, completions, receiptStaged, deliveryStaged, readEvents, happening, Ledger, book, bookAll}
 use Rattle.protocol.specs.Soundness.Steps.{Ranges, Accepted, by-kind, object-exists, place-exists, queue-fits, none-stands, clock-performed, read-performed, ask-performed, write-performed, deliver-performed, lose-performed, double-performed, server-performed, client-performed}
 use Rattle.protocol.specs.Soundness.Shape.{Shape, clock-shape, written-shape, taken-shape, acked-shape, dropped-shape}
 use Rattle.protocol.specs.Soundness.Bounds.{Bounded, named-at}
@@ -219,14 +219,15 @@ module _ (s : Setup) (rs : Ranges s) (t : Tables) (k : Shape t) (b : Bounded s t
   quiet : (g : Decision) → SameWrites t (g .outcome .tables) → reported (g .outcome .answer) ≡ 0 → Recorded s l g l
   quiet g e f = record { booked = same-booked s t _ l e h; reports = omega (arith, f) }
 
-  read-recorded : (d o : ℕ) → Recorded s l (readDecided s t c r d o) (bookAll s l (readEvents s t c d o))
-  unfolding readDecided bookAll book
-  read-recorded d o = go (showable s t c d o)
-    where
-      go : (f : Bool)
-          → Recorded s l (cond f (answered (kept c r) t (Shown (c .value))) (answered (kept c r) t AskFirst)) (bookAll s l (cond f (showing d o (c .value) ∷ []) []))
-      go true = quiet _ (objects-same t _ refl) refl
-      go false = quiet _ (objects-same t _ refl) refl
+  -- what is shown is not booked
+  read-booked : (d o : ℕ) → bookAll s l (readEvents s t c d o) ≡ l
+  unfolding bookAll book
+  read-booked d o = cond-keeps (λ (es : List Event). bookAll s l es ≡ l) (showable s t c d o) (λ e. refl) (λ e. refl)
+
+  read-recorded : (d o : ℕ) → Recorded s l (readDecided s t c r d o) l
+  unfolding readDecided
+  read-recorded d o =
+      cond-keeps (λ (g : Decision). Recorded s l g l) (showable s t c d o) (λ e. quiet _ (objects-same t _ refl) refl) (λ e. quiet _ (objects-same t _ refl) refl)
 
   ask-recorded : (d o : ℕ) → Recorded s l (askDecided s t c r d o) l
   unfolding askDecided
@@ -245,7 +246,7 @@ module _ (s : Setup) (rs : Ranges s) (t : Tables) (k : Shape t) (b : Bounded s t
   performed-recorded f x a =
       by-kind (Recorded s l (performed s t c r x) (bookAll s l (happening s t c x))) x (a .passes .knows)
       (λ e. rw (clock-performed s t c r x e, clock-happening s t c x e) (clock-recorded (x .clock)))
-      (λ e. rw (read-performed s t c r x e, read-happening s t c x e) (read-recorded (x .client) (x .object)))
+      (λ e. rw (read-performed s t c r x e, read-happening s t c x e, read-booked (x .client) (x .object)) (read-recorded (x .client) (x .object)))
       (λ e. rw (ask-performed s t c r x e, ask-happening s t c x e) (ask-recorded (x .client) (x .object)))
       (λ e. rw (write-performed s t c r x e, write-happening s t c x e) (write-recorded (x .object) (x .value) (object-exists (a .passes) (rw e)) (none-stands (a .passes) e)))
       (λ e. rw (deliver-performed s t c r x e, deliver-happening s t c x e) (deliver-recorded (x .place) (omega (arith, place-exists (a .passes) (rw e), queue-fits a))))

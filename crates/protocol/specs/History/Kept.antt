@@ -1,12 +1,12 @@
 -- Every step of a run makes lawful history.
 use Prim.Native.Nat.{ℕ, _+_, _<_}
 use native.Mathlib.Omega.{arith}
-use mathlib.Core.Bool.{Bool, true, false, cond}
+use mathlib.Core.Bool.{true, false}
 use mathlib.Core.List.{List, [], _∷_, _++_}
 use mathlib.Core.Logic.{⊎-elim}
 use mathlib.Core.Path.{_≡_, refl, sym, ap, _∙_}
 use lib.Dec.{ltb}
-use Rattle.laws.specs.Choice.{true-or-false, and-true}
+use Rattle.laws.specs.Choice.{cond-keeps, true-or-false, and-true}
 use Rattle.protocol.specs.declared.records.Copy.{Copy}
 use Rattle.protocol.specs.declared.records.Request.{Request}
 use Rattle.protocol.specs.declared.setup.Setup.{Setup}
@@ -21,7 +21,7 @@ use Rattle.protocol.specs.Sound.{kindSound}
 use Rattle.protocol.specs.Answers.{reported}
 use Rattle.protocol.specs.Decide.{taken}
 use Rattle.protocol.specs.World.{World, freshWorld, stepped, answerOf, ran, answers}
-use Rattle.protocol.specs.Ledger.{Event, acceptance, showing, clockStep, completions, deliveryStaged, readEvents, happening, accepts, events, none, Ledger}
+use Rattle.protocol.specs.Ledger.{Event, acceptance, clockStep, completions, deliveryStaged, readEvents, happening, accepts, events, none, Ledger}
 use Rattle.protocol.specs.Agreement.{standingWrite}
 use Rattle.protocol.specs.Soundness.Steps.{accepted, Ranges, ranges, setup-in-range, copyOf, requestOf, by-kind, client-exists, object-exists, place-exists, queue-fits, none-stands}
 use Rattle.protocol.specs.Soundness.Shape.{Shape, taken-shape}
@@ -33,6 +33,7 @@ use Rattle.protocol.specs.Bookkeeping.Kept.{objects-same, clock-on, writ
 use Rattle.protocol.specs.Bookkeeping.Shown.{copy-read}
 use Rattle.protocol.specs.Bookkeeping.Agreed.{Invariant, ReadsCurrent, opened-write, step-booked}
 use Rattle.protocol.specs.History.{told, historyFrom, history, lastCompleted, openIn, howOften, isCompletion, reportedIn, AddsUp, HistoryAgrees}
+use Rattle.protocol.specs.History.Showings.{showings-told}
 use Rattle.protocol.specs.History.Lawful.{LawfulAll, ledgerOf, ledger-told, told-append, ledger-open, ledger-posted, ledger-tallies, open-counted, completions-lawful, shows-last, ends-in-time}
 
 module _ (s : Setup) (rs : Ranges s) (t : Tables) (k : Shape t) (b : Bounded s t) (past : List Event) (h : Booked s t (ledgerOf s past)) (a : LawfulAll s past) where
@@ -71,11 +72,8 @@ module _ (s : Setup) (rs : Ranges s) (t : Tables) (k : Shape t) (b : Bounded s t
 
   read-lawful : (c : Copy) (d o : ℕ) → o < s .objects → (showable s t c d o ≡ true → c .value ≡ valueAt t o) → LawfulAll s (told (readEvents s t c d o) past)
   unfolding LawfulAll told
-  read-lawful c d o p f = go (showable s t c d o) refl
-    where
-      go : (j : Bool) → showable s t c d o ≡ j → LawfulAll s (told (cond j (showing d o (c .value) ∷ []) []) past)
-      go true e = (f e ∙ h .values o p ∙ ledger-posted s past a o, a)
-      go false e = a
+  read-lawful c d o p f =
+      cond-keeps (λ (es : List Event). LawfulAll s (told es past)) (showable s t c d o) (λ e. (f e ∙ h .values o p ∙ ledger-posted s past a o, a)) (λ e. a)
 
 -- ---- a step
 module _ (s : Setup) (w : World) (x : Step) (past : List Event) (k : SoundWorld s w) (c : ReadsCurrent s w) (h : Booked s (w .tables) (ledgerOf s past)) (a : LawfulAll s past) where
@@ -168,6 +166,7 @@ history-agrees s P v i xs =
     let w = ran s (freshWorld s) xs in
     let h = history s xs in
     record {
+      showings = showings-told s xs;
       shows = shows-last s h (r .lawful);
       ends = ends-in-time s h (r .lawful);
       tallies = adds-up s w h r;
