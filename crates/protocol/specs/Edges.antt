@@ -25,19 +25,19 @@ use Rattle.protocol.specs.Decide.{performed, decided}
 use Rattle.protocol.specs.World.{World, freshWorld, target, decision, stepped, answerOf}
 
 -- one client, volume and object; tv 10, t 100, m 3
-tiny : Setup
+unfoldable pub tiny : Setup
 tiny = record { clients = 1; volumes = 1; objects = 1; tv = 10; t = 100; m = 3; volume = replicate 32 0 }
 
-step : ℕ → ℕ → ℕ → ℕ → Step
+unfoldable pub step : ℕ → ℕ → ℕ → ℕ → Step
 step k i c y = record { kind = k; client = 0; object = 0; place = i; clock = c; value = y }
 
-clock : ℕ → Step
+unfoldable pub clock : ℕ → Step
 clock c = step 1 0 c 0
 
-write : ℕ → Step
+unfoldable pub write : ℕ → Step
 write y = step 4 0 0 y
 
-lose : ℕ → Step
+unfoldable pub lose : ℕ → Step
 lose i = step 6 i 0 0
 
 double : ℕ → Step

@@ -3,7 +3,6 @@
 pub mod Lawful
 pub mod Showings
 pub mod Kept
-pub mod Example
 use Prim.Native.Nat.{ℕ, _+_, _<_, _≤_}
 use mathlib.Core.Bool.{Bool, true, false, cond, _||_}
 use mathlib.Core.List.{List, [], _∷_, _++_}
