@@ -7,6 +7,7 @@ use mathlib.Core.List.{List, [], _∷_, _++_, map}
 use lib.Dec.{eqb}
 use lib.ListN.{getD}
 use Rattle.laws.specs.Loop.{countFrom}
+use Rattle.laws.specs.Updated.{updated}
 use Rattle.protocol.specs.declared.message.Kind.{Kind}
 use Rattle.protocol.specs.declared.message.Kind.the-variants.{Renew, Grant, Invalidate, Ack, Offer, Dropped}
 use Rattle.protocol.specs.declared.records.Copy.{Copy}
@@ -95,10 +96,6 @@ emptyLedger = record { postedValue = λ o. 0; openWrite = λ o. none; acceptedCo
 -- the writes still open
 abbrev pub openCount : Setup → Ledger → ℕ
 openCount s l = countFrom (λ (o : ℕ). isOpen (l .openWrite o)) 0 (s .objects)
-
--- f with y at o
-abbrev pub updated : {A : Type 0} → (ℕ → A) → ℕ → A → ℕ → A
-updated f o y k = cond (eqb k o) y (f k)
 
 -- "Accepted write: opens one, .. accepted grows by 1. Completing: posts the open write's value and closes it; completed grows by 1. Accepted server
 -- restart: closes every open write and posts nothing; cut off grows by their number. All else: no change."

@@ -8,6 +8,7 @@ use lib.Seq.{getD-set-same, getD-set-other}
 use borrow.Author.Tests.{eq-eqb, ne-eqb}
 use Rattle.laws.specs.Choice.{same?}
 use Rattle.laws.specs.Loop.{countFrom}
+use Rattle.laws.specs.Updated.{updated, updated-same, updated-other}
 use Rattle.laws.specs.Each.{replicate-at}
 use Rattle.laws.specs.Count.{count-none, count-less}
 use Rattle.protocol.specs.declared.setup.Setup.{Setup}
@@ -15,7 +16,7 @@ use Rattle.protocol.specs.declared.tables.Tables.{Tables}
 use Rattle.protocol.specs.Tables.{valueAt, standingAt, pendingAt, endAt, freshTables}
 use Rattle.protocol.specs.Writes.{latestEnd, opened, begun, posted, completed}
 use Rattle.protocol.specs.Server.{serverRestarted}
-use Rattle.protocol.specs.Ledger.{acceptance, completion, serverRestart, none, write, isOpen, Ledger, emptyLedger, openCount, updated, book}
+use Rattle.protocol.specs.Ledger.{acceptance, completion, serverRestart, none, write, isOpen, Ledger, emptyLedger, openCount, book}
 use Rattle.protocol.specs.Agreement.{standingWrite}
 use Rattle.protocol.specs.Soundness.Steps.{Ranges}
 use Rattle.protocol.specs.Soundness.Shape.{Shape}
@@ -25,13 +26,6 @@ pub record Booked (s : Setup) (t : Tables) (l : Ledger) : Type 0 where
   pub values : (o : ℕ) → o < s .objects → valueAt t o ≡ l .postedValue o
   pub writes : (o : ℕ) → o < s .objects → standingWrite t o ≡ l .openWrite o
   pub tallies : l .acceptedCount ≡ l .completedCount + l .cutOffCount + openCount s l
-
--- ---- one place of a function replaced
-updated-here : {A : Type 0} (f : ℕ → A) (o : ℕ) (x : A) → updated f o x o ≡ x
-updated-here f o x = rw (eq-eqb o o refl)
-
-updated-other : {A : Type 0} (f : ℕ → A) (o : ℕ) (x : A) (k : ℕ) → (k ≡ o → ⊥) → updated f o x k ≡ f k
-updated-other f o x k n = rw (ne-eqb k o n)
 
 -- ---- tables that differ in nothing that the ledger has
 pub record SameWrites (t u : Tables) : Type 0 where
@@ -86,13 +80,13 @@ module _ (s : Setup) (rs : Ranges s) (t : Tables) (k : Shape t) (l : Ledger) (h 
   begun-booked o x p v =
       let w = write x (latestEnd s t o) in
       let more : countFrom (λ (j : ℕ). isOpen (updated (l .openWrite) o w j)) 0 (s .objects) ≡ suc (openCount s l) =
-      count-less _ _ o (s .objects) p (ap isOpen (updated-here (l .openWrite) o w)) (ap isOpen (vacant-opened o p v)) (λ j n. ap isOpen (updated-other (l .openWrite) o w j n)) in
+      count-less _ _ o (s .objects) p (ap isOpen (updated-same (l .openWrite) o w)) (ap isOpen (vacant-opened o p v)) (λ j n. ap isOpen (updated-other (l .openWrite) o j w n)) in
       record {
         values = h .values;
         writes = λ j q.
             begun-writes o x p j
-            ∙ ⊎-elim (λ e. rw e (updated-here (standingWrite t) o w ∙ sym (updated-here (l .openWrite) o w)))
-            (λ n. updated-other (standingWrite t) o w j n ∙ h .writes j q ∙ sym (updated-other (l .openWrite) o w j n)) (same? j o);
+            ∙ ⊎-elim (λ e. rw e (updated-same (standingWrite t) o w ∙ sym (updated-same (l .openWrite) o w)))
+            (λ n. updated-other (standingWrite t) o j w n ∙ h .writes j q ∙ sym (updated-other (l .openWrite) o j w n)) (same? j o);
         tallies = omega (arith, more, h .tallies);
       }
 
@@ -103,7 +97,7 @@ module _ (s : Setup) (rs : Ranges s) (t : Tables) (k : Shape t) (l : Ledger) (h 
       let i : o < 32 = omega (arith, rs .objects .1) in
       let open-at = standing-opened o p v in
       let less : openCount s l ≡ suc (countFrom (λ (j : ℕ). isOpen (updated (l .openWrite) o none j)) 0 (s .objects)) =
-      count-less _ _ o (s .objects) p (ap isOpen open-at) (ap isOpen (updated-here (l .openWrite) o none)) (λ j n. ap isOpen (sym (updated-other (l .openWrite) o none j n))) in
+      count-less _ _ o (s .objects) p (ap isOpen open-at) (ap isOpen (updated-same (l .openWrite) o none)) (λ j n. ap isOpen (sym (updated-other (l .openWrite) o j none n))) in
       record {
         values = λ j q.
             ⊎-elim (λ e. rw (e, eq-eqb o o refl, getD-set-same (t .objects .value) o (pendingAt t o) 0 (omega (arith, k .objects .value)), open-at))
