@@ -33,9 +33,12 @@ pub data Event : Type 0 where
   showing : (d o v : ℕ) → Event
   clockStep : (T : ℕ) → Event
 
--- the writes that complete in a step, in their order
+-- the objects whose writes complete in a step, in their order
+abbrev pub settlingOf : Setup → Staged → List ℕ
+settlingOf s g = settling (g .test) s (g .tables) (g .from) (g .many)
+
 abbrev pub completions : Setup → Staged → List Event
-completions s g = map completion (settling (g .test) s (g .tables) (g .from) (g .many))
+completions s g = map completion (settlingOf s g)
 
 -- what a received message stages: only an ACK and a DROPPED complete writes
 abbrev pub receiptStaged : Setup → Tables → ℕ → Kind → Staged

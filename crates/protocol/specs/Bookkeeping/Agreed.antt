@@ -1,4 +1,6 @@
 -- Demand 3, all of it but one thing: that a client which may show its copy has the server's value. That is asked of an invariant P of worlds.
+-- Letters: s setup, w world, k that it is sound, t tables, x a step, c a copy, r a request, g a decision or what is recorded of it, d client, o object,
+-- y value, u latest end, n writes reported before, l and m ledgers, h that one is booked, b what a step books, v what is asked of P; the others are proofs.
 use Prim.Native.Nat.{ℕ, _+_, _<_, _≤_}
 use native.Mathlib.Omega.{arith}
 use mathlib.Core.Bool.{Bool, true, false, cond}
@@ -43,9 +45,9 @@ pub record BookedStep (s : Setup) (w : World) (x : Step) (l m : Ledger) : Type 0
   pub reports : m .completedCount ≡ l .completedCount + reported (answerOf s w x)
 
 -- what an open write says of the tables
-pub opened-write : (b : Bool) (p q v e : ℕ) → cond b (write p q) none ≡ write v e → (b ≡ true) × (q ≡ e)
-opened-write true p q v e f = (refl, cc)
-opened-write false p q v e f = absurd (let z : _≡_ {A = ℕ} 0 1 = cc in omega arith)
+pub open-stands : (standing : Bool) (pending end y u : ℕ) → cond standing (write pending end) none ≡ write y u → (standing ≡ true) × (end ≡ u)
+open-stands true pending end y u e = (refl, cc)
+open-stands false pending end y u e = absurd (let f : _≡_ {A = ℕ} 0 1 = cc in omega arith)
 
 read-tables : (s : Setup) (t : Tables) (c : Copy) (r : Request) (d o : ℕ) → readDecided s t c r d o .outcome .tables ≡ t
 unfolding readDecided
@@ -69,48 +71,47 @@ module _ (s : Setup) (w : World) (x : Step) (l : Ledger) where
   step-booked k h = ⊎-elim (accepted-step k h) (refused-step h) (true-or-false (accepts s w x))
 
   -- after a clock step
-  pub step-ends : isClock x ≡ true → isRefused (answerOf s w x) ≡ false
-      → (o v e : ℕ) → o < s .objects → standingWrite (stepped s w x .tables) o ≡ write v e → x .clock ≤ e
-  step-ends c f o v e p i =
+  step-ends : isClock x ≡ true → isRefused (answerOf s w x) ≡ false
+      → (o y u : ℕ) → o < s .objects → standingWrite (stepped s w x .tables) o ≡ write y u → x .clock ≤ u
+  step-ends e f o y u p i =
       let a = accepted-of s w x f in
-      let q = tables-after s w x a ∙ ap (λ (d : Decision). d .outcome .tables) (clock-performed s (w .tables) (copyOf s w x) (requestOf s w x) x (eqb-true _ 1 c)) in
-      let n = settled s (clockStaged s (w .tables) (x .clock)) .tables in
-      let j = opened-write (standingAt n o) (pendingAt n o) (endAt n o) v e (sym (ap (λ (t : Tables). standingWrite t o) q) ∙ i) in
-      let k = clock-ended s (x .clock) (w .tables) .ends o p (j .0) in
-      omega (arith, k, j .1)
+      let q = tables-after s w x a ∙ ap (λ (g : Decision). g .outcome .tables) (clock-performed s (w .tables) (copyOf s w x) (requestOf s w x) x (eqb-true _ 1 e)) in
+      let t = settled s (clockStaged s (w .tables) (x .clock)) .tables in
+      let j = open-stands (standingAt t o) (pendingAt t o) (endAt t o) y u (sym (ap (λ (z : Tables). standingWrite z o) q) ∙ i) in
+      omega (arith, clock-ended s (x .clock) (w .tables) .ends o p (j .0), j .1)
 
   -- ---- what a read shows
   read-leaves : x .kind ≡ 2 → accepts s w x ≡ true → stepped s w x .tables ≡ w .tables
-  read-leaves k e =
+  read-leaves f e =
       tables-after s w x e
-      ∙ ap (λ (d : Decision). d .outcome .tables) (read-performed s (w .tables) (copyOf s w x) (requestOf s w x) x k)
+      ∙ ap (λ (g : Decision). g .outcome .tables) (read-performed s (w .tables) (copyOf s w x) (requestOf s w x) x f)
       ∙ read-tables s (w .tables) (copyOf s w x) (requestOf s w x) (x .client) (x .object)
 
-  pub step-shows : SoundWorld s w → Booked s (w .tables) l → ReadsCurrent s w
+  step-shows : SoundWorld s w → Booked s (w .tables) l → ReadsCurrent s w
       → isShown (answerOf s w x) ≡ true → answerValue (answerOf s w x) ≡ bookAll s l (events s w x) .postedValue (x .object)
-  step-shows k h c e =
+  step-shows k h f e =
       let q = shown-read s w x e in
       q .value
-      ∙ c (x .client) (x .object) (q .client) (q .object) (q .shows)
+      ∙ f (x .client) (x .object) (q .client) (q .object) (q .shows)
       ∙ sym (ap (λ (t : Tables). valueAt t (x .object)) (read-leaves (q .kind) (q .takes)))
       ∙ step-booked k h .keeps .values (x .object) (q .object)
 
 -- ---- one step, against the ledger after it
-pub step-agrees : (s : Setup) (w : World) (x : Step) (n : ℕ) (l : Ledger) → SoundWorld s w → Booked s (w .tables) l → n ≡ l .completedCount → ReadsCurrent s w
+step-agrees : (s : Setup) (w : World) (x : Step) (n : ℕ) (l : Ledger) → SoundWorld s w → Booked s (w .tables) l → n ≡ l .completedCount → ReadsCurrent s w
     → Agrees s w n x (bookAll s l (events s w x))
-step-agrees s w x n l k h e c =
+step-agrees s w x n l k h e f =
     let b = step-booked s w x l k h in
     record {
-      shows = step-shows s w x l k h c;
+      shows = step-shows s w x l k h f;
       values = b .keeps .values;
       writes = b .keeps .writes;
-      ends = λ i f o v u p j. step-ends s w x l i f o v u p (b .keeps .writes o p ∙ j);
+      ends = λ i j o y u p q. step-ends s w x l i j o y u p (b .keeps .writes o p ∙ q);
       reports = omega (arith, e, b .reports);
       tallies = b .keeps .tallies;
     }
 
 -- the ledger's books: its own tables are worked through as the program's are
-abbrev pub booksOf : World → Ledger → Books
+abbrev booksOf : World → Ledger → Books
 booksOf w l = record { world = w; ledger = l }
 
 -- What is still asked of demand 3: an invariant that fresh tables have, that every step of a sound world keeps, and under which every client reads what
@@ -121,7 +122,7 @@ pub record Invariant {κ} (s : Setup) (P : World → Type κ) : Type κ where
   pub current : (w : World) → SoundWorld s w → P w → ReadsCurrent s w
 
 module _ {κ} (s : Setup) (P : World → Type κ) (v : Invariant s P) where
-  pub agrees-from : (w : World) (n : ℕ) (l : Ledger) (xs : List Step) → SoundWorld s w → P w → Booked s (w .tables) l → n ≡ l .completedCount
+  agrees-from : (w : World) (n : ℕ) (l : Ledger) (xs : List Step) → SoundWorld s w → P w → Booked s (w .tables) l → n ≡ l .completedCount
       → AgreesFrom s w n (booksOf w l) xs
   unfolding AgreesFrom booksAfter
   agrees-from w n l [] k i h e = tt
@@ -142,12 +143,12 @@ module _ (s : Setup) (i : inRange s ≡ false) where
   refused-agrees w x n l h e =
       let a = never-accepted w x in
       let b = refused-step s w x l h a in
-      let r = refused-is-refused s w x a in
+      let f = refused-is-refused s w x a in
       record {
-        shows = λ f. not-both f (ap isShown (refused-answer s w x a));
+        shows = λ i. not-both i (ap isShown (refused-answer s w x a));
         values = b .keeps .values;
         writes = b .keeps .writes;
-        ends = λ c f o v u p j. not-both r f;
+        ends = λ i j o y u p q. not-both f j;
         reports = omega (arith, e, b .reports);
         tallies = b .keeps .tallies;
       }

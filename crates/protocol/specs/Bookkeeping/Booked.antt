@@ -1,4 +1,5 @@
 -- The ledger against the server's tables, and what one event changes.
+-- Letters: s setup, t and u tables, k their shape, l a ledger, h that it is booked, o and j objects, y value, w a write; the others are proofs.
 use Prim.Native.Nat.{ℕ, suc, _+_, _<_}
 use native.Mathlib.Omega.{arith}
 use mathlib.Core.Bool.{true, false}
@@ -42,49 +43,49 @@ same-booked s t u l e h = record {
 }
 
 module _ (s : Setup) (rs : Ranges s) (t : Tables) (k : Shape t) (l : Ledger) (h : Booked s t l) where
-  pub standing-opened : (o : ℕ) → o < s .objects → standingAt t o ≡ true → l .openWrite o ≡ write (pendingAt t o) (endAt t o)
-  standing-opened o p e = sym (h .writes o p) ∙ rw e
+  pub standing-open : (o : ℕ) → o < s .objects → standingAt t o ≡ true → l .openWrite o ≡ write (pendingAt t o) (endAt t o)
+  standing-open o p e = sym (h .writes o p) ∙ rw e
 
-  pub vacant-opened : (o : ℕ) → o < s .objects → standingAt t o ≡ false → l .openWrite o ≡ none
-  vacant-opened o p e = sym (h .writes o p) ∙ rw e
+  pub vacant-closed : (o : ℕ) → o < s .objects → standingAt t o ≡ false → l .openWrite o ≡ none
+  vacant-closed o p e = sym (h .writes o p) ∙ rw e
 
   -- ---- a write accepted
-  begun-writes : (o x : ℕ) → o < s .objects → (j : ℕ) → standingWrite (begun s t o x) j ≡ updated (standingWrite t) o (write x (latestEnd s t o)) j
+  begun-writes : (o y : ℕ) → o < s .objects → (j : ℕ) → standingWrite (begun s t o y) j ≡ updated (standingWrite t) o (write y (latestEnd s t o)) j
   unfolding opened
-  begun-writes o x p j = ⊎-elim here other (same? j o)
+  begun-writes o y p j = ⊎-elim here other (same? j o)
     where
       i : o < 32
       i = omega (arith, rs .objects .1)
 
-      here : j ≡ o → standingWrite (begun s t o x) j ≡ updated (standingWrite t) o (write x (latestEnd s t o)) j
+      here : j ≡ o → standingWrite (begun s t o y) j ≡ updated (standingWrite t) o (write y (latestEnd s t o)) j
       here e =
           rw (
             e,
             eq-eqb o o refl,
             getD-set-same (t .objects .standing) o true false (omega (arith, k .objects .standing)),
-            getD-set-same (t .objects .pending) o x 0 (omega (arith, k .objects .pending)),
+            getD-set-same (t .objects .pending) o y 0 (omega (arith, k .objects .pending)),
             getD-set-same (t .objects .end) o (latestEnd s t o) 0 (omega (arith, k .objects .end)),
           )
 
-      other : (j ≡ o → ⊥) → standingWrite (begun s t o x) j ≡ updated (standingWrite t) o (write x (latestEnd s t o)) j
+      other : (j ≡ o → ⊥) → standingWrite (begun s t o y) j ≡ updated (standingWrite t) o (write y (latestEnd s t o)) j
       other n =
           rw (
             ne-eqb j o n,
             getD-set-other (t .objects .standing) o j true false n,
-            getD-set-other (t .objects .pending) o j x 0 n,
+            getD-set-other (t .objects .pending) o j y 0 n,
             getD-set-other (t .objects .end) o j (latestEnd s t o) 0 n,
           )
 
-  pub begun-booked : (o x : ℕ) → o < s .objects → standingAt t o ≡ false → Booked s (begun s t o x) (book s l (acceptance o x (latestEnd s t o)))
+  pub begun-booked : (o y : ℕ) → o < s .objects → standingAt t o ≡ false → Booked s (begun s t o y) (book s l (acceptance o y (latestEnd s t o)))
   unfolding opened book
-  begun-booked o x p v =
-      let w = write x (latestEnd s t o) in
+  begun-booked o y p v =
+      let w = write y (latestEnd s t o) in
       let more : countFrom (λ (j : ℕ). isOpen (updated (l .openWrite) o w j)) 0 (s .objects) ≡ suc (openCount s l) =
-      count-less _ _ o (s .objects) p (ap isOpen (updated-same (l .openWrite) o w)) (ap isOpen (vacant-opened o p v)) (λ j n. ap isOpen (updated-other (l .openWrite) o j w n)) in
+      count-less _ _ o (s .objects) p (ap isOpen (updated-same (l .openWrite) o w)) (ap isOpen (vacant-closed o p v)) (λ j n. ap isOpen (updated-other (l .openWrite) o j w n)) in
       record {
         values = h .values;
         writes = λ j q.
-            begun-writes o x p j
+            begun-writes o y p j
             ∙ ⊎-elim (λ e. rw e (updated-same (standingWrite t) o w ∙ sym (updated-same (l .openWrite) o w)))
             (λ n. updated-other (standingWrite t) o j w n ∙ h .writes j q ∙ sym (updated-other (l .openWrite) o j w n)) (same? j o);
         tallies = omega (arith, more, h .tallies);
@@ -95,7 +96,7 @@ module _ (s : Setup) (rs : Ranges s) (t : Tables) (k : Shape t) (l : Ledger) (h 
   unfolding completed posted book
   completed-booked o p v =
       let i : o < 32 = omega (arith, rs .objects .1) in
-      let open-at = standing-opened o p v in
+      let open-at = standing-open o p v in
       let less : openCount s l ≡ suc (countFrom (λ (j : ℕ). isOpen (updated (l .openWrite) o none j)) 0 (s .objects)) =
       count-less _ _ o (s .objects) p (ap isOpen open-at) (ap isOpen (updated-same (l .openWrite) o none)) (λ j n. ap isOpen (sym (updated-other (l .openWrite) o j none n))) in
       record {

@@ -1,4 +1,7 @@
 -- Every accepted step keeps the ledger and the tables together.
+-- Letters: s setup, t and u tables, k their shape, b their bounds, c a copy, r a request, g a decision or what is staged, l a ledger, h that it is booked,
+-- m a ledger or a message, q its kind, d client, o object, i place, T clock, y value, n how many, x a step. Of a message: n number, e epoch, w version,
+-- x and y the volume's and the object's expiry, v volume or payload. The others, and e elsewhere, are proofs.
 use Prim.Native.Nat.{ℕ, zero, suc, _+_, _<_}
 use native.Mathlib.Omega.{arith}
 use mathlib.Core.Bool.{Bool, true, false}
@@ -27,23 +30,24 @@ use Rattle.protocol.specs.Client.{showable, stands, grantTaken}
 use Rattle.protocol.specs.Sound.{kindSound}
 use Rattle.protocol.specs.Answers.{reported, completedAnswer}
 use Rattle.protocol.specs.Decide.{Received, uncounted, kept, answered, counting, received, grantReceived, invalidateReceived, offerReceived, taken, performed, readDecided, askDecided, deliverDecided, restartDecided}
-use Rattle.protocol.specs.Ledger.{Event, acceptance, serverRestart, clockStep, completions, receiptStaged, deliveryStaged, readEvents, happening, Ledger, book, bookAll}
+use Rattle.protocol.specs.Ledger.{Event, acceptance, serverRestart, clockStep, settlingOf, completions, receiptStaged, deliveryStaged, readEvents, happening, Ledger, book, bookAll}
 use Rattle.protocol.specs.Soundness.Steps.{Ranges, Accepted, by-kind, object-exists, place-exists, queue-fits, none-stands, clock-performed, read-performed, ask-performed, write-performed, deliver-performed, lose-performed, double-performed, server-performed, client-performed}
 use Rattle.protocol.specs.Soundness.Shape.{Shape, clock-shape, written-shape, taken-shape, acked-shape, dropped-shape}
 use Rattle.protocol.specs.Soundness.Bounds.{Bounded, named-at}
+use Rattle.protocol.specs.Bookkeeping.Happening.{clock-happening, read-happening, ask-happening, write-happening, deliver-happening, lose-happening, double-happening, server-happening, client-happening}
 use Rattle.protocol.specs.Bookkeeping.Booked.{Booked, SameWrites, same-booked, begun-booked, restarted-booked}
-use Rattle.protocol.specs.Bookkeeping.Settled.{OpenEach, Settlement, StagedOn, settlingOf, settle, completions-counted, ready-stands, due-stands}
+use Rattle.protocol.specs.Bookkeeping.Settled.{OpenEach, Settlement, StagedOn, settle, completions-counted, ready-stands, due-stands}
 
 -- ---- what an answer reports
-pub reported-completed : (n : ℕ) → reported (completedAnswer n) ≡ n
+reported-completed : (n : ℕ) → reported (completedAnswer n) ≡ n
 reported-completed zero = refl
 reported-completed (suc n) = rw (eqb·suc-zero n, eqb·suc-zero n)
 
-pub reported-delivered : (m : Message) (n : ℕ) → reported (Delivered m n) ≡ n
+reported-delivered : (m : Message) (n : ℕ) → reported (Delivered m n) ≡ n
 reported-delivered m zero = refl
 reported-delivered m (suc n) = rw (eqb·suc-zero n)
 
-pub book-append : (s : Setup) (l : Ledger) (es fs : List Event) → bookAll s l (es ++ fs) ≡ bookAll s (bookAll s l es) fs
+book-append : (s : Setup) (l : Ledger) (es fs : List Event) → bookAll s l (es ++ fs) ≡ bookAll s (bookAll s l es) fs
 unfolding bookAll
 book-append s l [] fs = refl
 book-append s l (e ∷ es) fs = book-append s (book s l e) es fs
@@ -72,12 +76,12 @@ renewed-same s t d o n e w =
 unstaged-on : (s : Setup) (t : Tables) → Shape t → StagedOn s t (unstaged t)
 unstaged-on s t k = record { same = objects-same t t refl; shape = k; stands = λ u o e. not-both e refl; fits = omega arith }
 
-pub clock-on : (s : Setup) (t : Tables) (x : ℕ) → Shape t → StagedOn s t (clockStaged s t x)
-clock-on s t x k = record { same = objects-same t _ refl; shape = clock-shape t x k; stands = due-stands s; fits = omega arith }
+pub clock-on : (s : Setup) (t : Tables) (T : ℕ) → Shape t → StagedOn s t (clockStaged s t T)
+clock-on s t T k = record { same = objects-same t _ refl; shape = clock-shape t T k; stands = due-stands s; fits = omega arith }
 
-pub write-on : (s : Setup) (t : Tables) (o x : ℕ) → o < s .objects → Shape t → StagedOn s (begun s t o x) (writeStaged s t o x)
+pub write-on : (s : Setup) (t : Tables) (o y : ℕ) → o < s .objects → Shape t → StagedOn s (begun s t o y) (writeStaged s t o y)
 unfolding written
-write-on s t o x p k = record { same = objects-same _ _ refl; shape = written-shape s t o x k; stands = ready-stands s; fits = omega arith }
+write-on s t o y p k = record { same = objects-same _ _ refl; shape = written-shape s t o y k; stands = ready-stands s; fits = omega arith }
 
 acked-same : (t : Tables) (d o : ℕ) → SameWrites t (acked t d o)
 unfolding acked
@@ -127,7 +131,7 @@ module _ (s : Setup) (rs : Ranges s) (t : Tables) (k : Shape t) (c : Copy) (r : 
       cond-keeps (λ (g : Received). Settlement s l 0 (g .counted) []) (stands r n)
       (λ _. uncounted-settles s t _ l (objects-same t _ refl) h) (λ _. uncounted-settles s t _ l (objects-same t _ refl) h)
 
-  pub received-settles : (q : Kind) → kindSound s q ≡ true → Settlement s l 0 (received s t c r d q .counted) (settlingOf s (receiptStaged s t d q))
+  received-settles : (q : Kind) → kindSound s q ≡ true → Settlement s l 0 (received s t c r d q .counted) (settlingOf s (receiptStaged s t d q))
   unfolding received settling
   received-settles (Renew o n e w) f = uncounted-settles s t _ l (renewed-same s t d o n e w) h
   received-settles (Grant o n x e w y v) f = grant-settles o n x e w y v
@@ -136,78 +140,44 @@ module _ (s : Setup) (rs : Ranges s) (t : Tables) (k : Shape t) (c : Copy) (r : 
   received-settles (Offer v n e) f = offer-settles v n e
   received-settles (Dropped v n e) f = settle s rs t _ l (drop-on s t d v n e k) h
 
--- ---- the events of an accepted step, by its kind
-module _ (s : Setup) (t : Tables) (c : Copy) (x : Step) where
-  pub clock-happening : x .kind ≡ 1 → happening s t c x ≡ completions s (clockStaged s t (x .clock)) ++ (clockStep (x .clock) ∷ [])
-  unfolding happening
-  clock-happening e = rw e
-
-  pub read-happening : x .kind ≡ 2 → happening s t c x ≡ readEvents s t c (x .client) (x .object)
-  unfolding happening
-  read-happening e = rw e
-
-  pub ask-happening : x .kind ≡ 3 → happening s t c x ≡ []
-  unfolding happening
-  ask-happening e = rw e
-
-  pub write-happening : x .kind ≡ 4
-      → happening s t c x ≡ acceptance (x .object) (x .value) (latestEnd s t (x .object)) ∷ completions s (writeStaged s t (x .object) (x .value))
-  unfolding happening
-  write-happening e = rw e
-
-  pub deliver-happening : x .kind ≡ 5 → happening s t c x ≡ completions s (deliveryStaged s t (x .place))
-  unfolding happening
-  deliver-happening e = rw e
-
-  pub lose-happening : x .kind ≡ 6 → happening s t c x ≡ []
-  unfolding happening
-  lose-happening e = rw e
-
-  pub double-happening : x .kind ≡ 7 → happening s t c x ≡ []
-  unfolding happening
-  double-happening e = rw e
-
-  pub server-happening : x .kind ≡ 8 → happening s t c x ≡ serverRestart ∷ []
-  unfolding happening
-  server-happening e = rw e
-
-  pub client-happening : x .kind ≡ 9 → happening s t c x ≡ []
-  unfolding happening
-  client-happening e = rw e
-
-acceptance-completes : (s : Setup) (l : Ledger) (o v u : ℕ) → book s l (acceptance o v u) .completedCount ≡ l .completedCount
+acceptance-completes : (s : Setup) (l : Ledger) (o y end : ℕ) → book s l (acceptance o y end) .completedCount ≡ l .completedCount
 unfolding book
-acceptance-completes s l o v u = refl
+acceptance-completes s l o y end = refl
 
 -- ---- an accepted step
 module _ (s : Setup) (rs : Ranges s) (t : Tables) (k : Shape t) (b : Bounded s t) (c : Copy) (r : Request) (l : Ledger) (h : Booked s t l) where
-  clock-recorded : (x : ℕ) → Recorded s l (counting c r (settled s (clockStaged s t x))) (bookAll s l (completions s (clockStaged s t x) ++ (clockStep x ∷ [])))
+  clock-recorded : (T : ℕ) → Recorded s l (counting c r (settled s (clockStaged s t T))) (bookAll s l (completions s (clockStaged s t T) ++ (clockStep T ∷ [])))
   unfolding bookAll book
-  clock-recorded x =
-      let g = clockStaged s t x in
-      let q = settle s rs t g l (clock-on s t x k) h in
-      rw (book-append s l (completions s g) (clockStep x ∷ []))
+  clock-recorded T =
+      let g = clockStaged s t T in
+      let q = settle s rs t g l (clock-on s t T k) h in
+      rw (book-append s l (completions s g) (clockStep T ∷ []))
       (record { booked = q .booked; reports = completions-counted s l (settlingOf s g) ∙ omega (arith, q .counts, reported-completed (settled s g .count)) })
 
-  write-recorded : (o x : ℕ) → o < s .objects → standingAt t o ≡ false
-      → Recorded s l (counting c r (settled s (writeStaged s t o x))) (bookAll s l (acceptance o x (latestEnd s t o) ∷ completions s (writeStaged s t o x)))
+  write-recorded : (o y : ℕ) → o < s .objects → standingAt t o ≡ false
+      → Recorded s l (counting c r (settled s (writeStaged s t o y))) (bookAll s l (acceptance o y (latestEnd s t o) ∷ completions s (writeStaged s t o y)))
   unfolding bookAll
-  write-recorded o x p v =
-      let g = writeStaged s t o x in
-      let m = book s l (acceptance o x (latestEnd s t o)) in
-      let q = settle s rs (begun s t o x) g m (write-on s t o x p k) (begun-booked s rs t k l h o x p v) in
+  write-recorded o y p v =
+      let g = writeStaged s t o y in
+      let m = book s l (acceptance o y (latestEnd s t o)) in
+      let q = settle s rs (begun s t o y) g m (write-on s t o y p k) (begun-booked s rs t k l h o y p v) in
       record {
         booked = q .booked;
-        reports = completions-counted s m (settlingOf s g) ∙ omega (arith, q .counts, reported-completed (settled s g .count), acceptance-completes s l o x (latestEnd s t o));
+        reports = completions-counted s m (settlingOf s g) ∙ omega (arith, q .counts, reported-completed (settled s g .count), acceptance-completes s l o y (latestEnd s t o));
       }
+
+  pub deliver-settles : (i : ℕ) → i < 64
+      → Settlement s l 0 (received s (taken t i) c r (messageAt (t .queue) i .client) (messageAt (t .queue) i .kind) .counted) (settlingOf s (deliveryStaged s t i))
+  deliver-settles i p =
+      let m = messageAt (t .queue) i in
+      let a = and-true (ltb (m .client) (s .clients)) (kindSound s (m .kind)) (named-at s rs t i b) in
+      received-settles s rs (taken t i) (taken-shape t i p k) c r (m .client) l (same-booked s t (taken t i) l (objects-same t _ refl) h) (m .kind) (a .1)
 
   deliver-recorded : (i : ℕ) → i < 64 → Recorded s l (deliverDecided s t c r i) (bookAll s l (completions s (deliveryStaged s t i)))
   unfolding deliverDecided
   deliver-recorded i p =
       let m = messageAt (t .queue) i in
-      let a = and-true (ltb (m .client) (s .clients)) (kindSound s (m .kind)) (named-at s rs t i b) in
-      let q =
-      received-settles s rs (taken t i) (taken-shape t i p k) c r (m .client) l (same-booked s t (taken t i) l (objects-same t _ refl) h) (m .kind) (a .1) in
+      let q = deliver-settles i p in
       record {
         booked = q .booked;
         reports =

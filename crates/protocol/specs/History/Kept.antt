@@ -1,37 +1,37 @@
 -- Every step of a run makes lawful history.
+-- Letters: s setup, w world, t its tables, k their shape or that the world is sound, b their bounds, x a step, i its place, c a copy, r a request or what
+-- is remembered, d client, o object, y value, u latest end, T clock, l ledger, h a history or that a ledger is booked, a that a history is lawful,
+-- g what is staged, v what is asked of the invariant P; the others are proofs.
 use Prim.Native.Nat.{ℕ, _+_, _<_}
 use native.Mathlib.Omega.{arith}
 use mathlib.Core.Bool.{true, false}
 use mathlib.Core.List.{List, [], _∷_, _++_}
 use mathlib.Core.Logic.{⊎-elim}
-use mathlib.Core.Path.{_≡_, refl, sym, ap, _∙_}
-use lib.Dec.{ltb}
-use Rattle.laws.specs.Choice.{cond-keeps, true-or-false, and-true}
+use mathlib.Core.Path.{_≡_, sym, ap, _∙_}
+use Rattle.laws.specs.Choice.{cond-keeps, true-or-false}
 use Rattle.protocol.specs.declared.records.Copy.{Copy}
 use Rattle.protocol.specs.declared.records.Request.{Request}
 use Rattle.protocol.specs.declared.setup.Setup.{Setup}
 use Rattle.protocol.specs.declared.step.Step.{Step}
 use Rattle.protocol.specs.declared.tables.Tables.{Tables}
 use Rattle.protocol.specs.Setup.{inRange}
-use Rattle.protocol.specs.Messages.{messageAt}
 use Rattle.protocol.specs.Tables.{valueAt, standingAt, pendingAt, endAt}
 use Rattle.protocol.specs.Writes.{latestEnd, begun, settled, writeStaged, clockStaged}
 use Rattle.protocol.specs.Client.{showable}
-use Rattle.protocol.specs.Sound.{kindSound}
 use Rattle.protocol.specs.Answers.{reported}
-use Rattle.protocol.specs.Decide.{taken}
 use Rattle.protocol.specs.World.{World, freshWorld, stepped, answerOf, ran, answers}
-use Rattle.protocol.specs.Ledger.{Event, acceptance, clockStep, completions, deliveryStaged, readEvents, happening, accepts, events, none, Ledger}
+use Rattle.protocol.specs.Ledger.{Event, acceptance, clockStep, settlingOf, completions, deliveryStaged, readEvents, happening, accepts, events, none, Ledger}
 use Rattle.protocol.specs.Agreement.{standingWrite}
 use Rattle.protocol.specs.Soundness.Steps.{accepted, Ranges, ranges, setup-in-range, copyOf, requestOf, by-kind, client-exists, object-exists, place-exists, queue-fits, none-stands}
-use Rattle.protocol.specs.Soundness.Shape.{Shape, taken-shape}
-use Rattle.protocol.specs.Soundness.Bounds.{Bounded, named-at}
+use Rattle.protocol.specs.Soundness.Shape.{Shape}
+use Rattle.protocol.specs.Soundness.Bounds.{Bounded}
 use Rattle.protocol.specs.Soundness.Question.{SoundWorld, stepped-sound, fresh-sound}
-use Rattle.protocol.specs.Bookkeeping.Booked.{Booked, same-booked, vacant-opened, begun-booked, fresh-booked}
-use Rattle.protocol.specs.Bookkeeping.Settled.{settlingOf, settle, clock-ended}
-use Rattle.protocol.specs.Bookkeeping.Kept.{objects-same, clock-on, write-on, received-settles, clock-happening, read-happening, ask-happening, write-happening, deliver-happening, lose-happening, double-happening, server-happening, client-happening}
+use Rattle.protocol.specs.Bookkeeping.Booked.{Booked, vacant-closed, begun-booked, fresh-booked}
+use Rattle.protocol.specs.Bookkeeping.Settled.{settle, clock-ended}
+use Rattle.protocol.specs.Bookkeeping.Happening.{clock-happening, read-happening, ask-happening, write-happening, deliver-happening, lose-happening, double-happening, server-happening, client-happening}
+use Rattle.protocol.specs.Bookkeeping.Kept.{clock-on, write-on, deliver-settles}
 use Rattle.protocol.specs.Bookkeeping.Shown.{copy-read}
-use Rattle.protocol.specs.Bookkeeping.Agreed.{Invariant, ReadsCurrent, opened-write, step-booked}
+use Rattle.protocol.specs.Bookkeeping.Agreed.{Invariant, ReadsCurrent, open-stands, step-booked}
 use Rattle.protocol.specs.History.{told, historyFrom, history, lastCompleted, openIn, howOften, isCompletion, reportedIn, AddsUp, HistoryAgrees}
 use Rattle.protocol.specs.History.Showings.{showings-told}
 use Rattle.protocol.specs.History.Lawful.{LawfulAll, ledgerOf, ledger-told, told-append, ledger-open, ledger-posted, ledger-tallies, open-counted, completions-lawful, shows-last, ends-in-time}
@@ -44,31 +44,27 @@ module _ (s : Setup) (rs : Ranges s) (t : Tables) (k : Shape t) (b : Bounded s t
       let q = settle s rs t g (ledgerOf s past) (clock-on s t T k) h in
       let after = told (completions s g) past in
       rw (told-append (completions s g) (clockStep T ∷ []) past) (
-        λ o x e p i.
-            let n = settled s g .tables in
-            let j = opened-write (standingAt n o) (pendingAt n o) (endAt n o) x e
+        λ o y u p i.
+            let left = settled s g .tables in
+            let j = open-stands (standingAt left o) (pendingAt left o) (endAt left o) y u
             (q .booked .writes o p ∙ ap (λ (l : Ledger). l .openWrite o) (ledger-told s (completions s g) past) ∙ ledger-open s after o ∙ i) in
             omega (arith, clock-ended s T t .ends o p (j .0), j .1),
         completions-lawful s (settlingOf s g) past (q .opens) a,
       )
 
-  write-lawful : (o x : ℕ) → o < s .objects → standingAt t o ≡ false
-      → LawfulAll s (told (acceptance o x (latestEnd s t o) ∷ completions s (writeStaged s t o x)) past)
+  write-lawful : (o y : ℕ) → o < s .objects → standingAt t o ≡ false
+      → LawfulAll s (told (acceptance o y (latestEnd s t o) ∷ completions s (writeStaged s t o y)) past)
   unfolding LawfulAll told ledgerOf
-  write-lawful o x p v =
-      let g = writeStaged s t o x in
-      let m = acceptance o x (latestEnd s t o) ∷ past in
-      let q = settle s rs (begun s t o x) g (ledgerOf s m) (write-on s t o x p k) (begun-booked s rs t k (ledgerOf s past) h o x p v) in
-      let free : openIn o past ≡ none = sym (ledger-open s past o) ∙ vacant-opened s rs t k (ledgerOf s past) h o p v in
-      completions-lawful s (settlingOf s g) m (q .opens) ((p, free), a)
+  write-lawful o y p f =
+      let g = writeStaged s t o y in
+      let begins = acceptance o y (latestEnd s t o) ∷ past in
+      let q = settle s rs (begun s t o y) g (ledgerOf s begins) (write-on s t o y p k) (begun-booked s rs t k (ledgerOf s past) h o y p f) in
+      let free : openIn o past ≡ none = sym (ledger-open s past o) ∙ vacant-closed s rs t k (ledgerOf s past) h o p f in
+      completions-lawful s (settlingOf s g) begins (q .opens) ((p, free), a)
 
   deliver-lawful : (c : Copy) (r : Request) (i : ℕ) → i < 64 → LawfulAll s (told (completions s (deliveryStaged s t i)) past)
   deliver-lawful c r i p =
-      let m = messageAt (t .queue) i in
-      let f = and-true (ltb (m .client) (s .clients)) (kindSound s (m .kind)) (named-at s rs t i b) in
-      let q =
-      received-settles s rs (taken t i) (taken-shape t i p k) c r (m .client) (ledgerOf s past) (same-booked s t (taken t i) (ledgerOf s past) (objects-same t _ refl) h) (m .kind) (f .1) in
-      completions-lawful s (settlingOf s (deliveryStaged s t i)) past (q .opens) a
+      completions-lawful s (settlingOf s (deliveryStaged s t i)) past (deliver-settles s rs t k b c r (ledgerOf s past) h i p .opens) a
 
   read-lawful : (c : Copy) (d o : ℕ) → o < s .objects → (showable s t c d o ≡ true → c .value ≡ valueAt t o) → LawfulAll s (told (readEvents s t c d o) past)
   unfolding LawfulAll told

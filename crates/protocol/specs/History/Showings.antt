@@ -1,5 +1,5 @@
 -- What the steps of a run were answered "shown" is what its history tells as shown.
--- Letters: s setup, w world, t its tables, x a step, a its answer, c a copy, r a request, d client, o object, b a test; the others are proofs.
+-- Letters: s setup, w world, t its tables, x a step, y an answer, c a copy, r a request, d client, o object, g a decision or what is staged, b a test; the others are proofs.
 use Prim.Native.Nat.{ℕ}
 use mathlib.Core.Bool.{Bool, true, false, cond}
 use mathlib.Core.List.{List, [], _∷_, _++_, map, append-assoc, append-nil}
@@ -17,10 +17,9 @@ use Rattle.protocol.specs.Writes.{writeStaged, clockStaged}
 use Rattle.protocol.specs.Client.{showable}
 use Rattle.protocol.specs.Decide.{performed, readDecided}
 use Rattle.protocol.specs.World.{World, freshWorld, stepped, answerOf, answers}
-use Rattle.protocol.specs.Ledger.{Event, completion, clockStep, completions, deliveryStaged, readEvents, happening, accepts, events}
+use Rattle.protocol.specs.Ledger.{Event, completion, clockStep, settlingOf, completions, deliveryStaged, readEvents, happening, accepts, events}
 use Rattle.protocol.specs.Soundness.Steps.{Accepted, accepted, copyOf, requestOf, accepted-answer, refused-answer, by-kind, read-performed}
-use Rattle.protocol.specs.Bookkeeping.Settled.{settlingOf}
-use Rattle.protocol.specs.Bookkeeping.Kept.{clock-happening, read-happening, ask-happening, write-happening, deliver-happening, lose-happening, double-happening, server-happening, client-happening}
+use Rattle.protocol.specs.Bookkeeping.Happening.{clock-happening, read-happening, ask-happening, write-happening, deliver-happening, lose-happening, double-happening, server-happening, client-happening}
 use Rattle.protocol.specs.Bookkeeping.Shown.{unread-unshown}
 use Rattle.protocol.specs.History.{told, historyFrom, history, shownBy, shownByAll, shownIn}
 use Rattle.protocol.specs.History.Lawful.{told-append}
@@ -74,7 +73,7 @@ module _ (s : Setup) (w : World) (x : Step) (past : List Event) where
       taken e =
           ap (λ (b : Bool). shownIn (told (cond b (happening s (w .tables) (copyOf s w x) x) []) past)) e
           ∙ performed-told s (w .tables) (copyOf s w x) (requestOf s w x) past _ x (accepted s w x e)
-          ∙ sym (ap (λ (a : Answer). shownIn past ++ shownBy x a) (accepted-answer s w x e))
+          ∙ sym (ap (λ (y : Answer). shownIn past ++ shownBy x y) (accepted-answer s w x e))
 
       refused : accepts s w x ≡ false → shownIn (told (events s w x) past) ≡ shownIn past ++ shownBy x (answerOf s w x)
       refused e = rw (e, refused-answer s w x e) (sym (append-nil (shownIn past)))
