@@ -1,5 +1,5 @@
 -- What a step that is answered "shown" was: a read of a copy that may be shown.
--- Letters: s setup, w world, t its tables, x a step, i its place, c a copy, r a request, g a decision, d client, o object, n a number of writes;
+-- Letters: s setup, w world, t its tables, x a step, i its place, c and z copies, r a request, g a decision, d client, o object, n a number of writes;
 -- the others are proofs.
 use Prim.Native.Nat.{ℕ, _<_}
 use mathlib.Core.Bool.{Bool, true, false}

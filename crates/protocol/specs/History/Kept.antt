@@ -1,7 +1,7 @@
 -- Every step of a run makes lawful history.
--- Letters: s setup, w world, t its tables, k their shape or that the world is sound, b their bounds, x a step, i its place, c a copy, r a request or what
--- is remembered, d client, o object, y value, u latest end, T clock, l ledger, h a history or that a ledger is booked, a that a history is lawful,
--- g what is staged, v what is asked of the invariant P; the others are proofs.
+-- Letters: s setup, w world, t its tables, k their shape or that the world is sound, b their bounds, x a step, i its place or what its kind is, c and z
+-- copies, r a request or what is remembered, d client, o object, y value, u latest end, T clock, l ledger, h a history or that a ledger is booked, a that
+-- a history is lawful, g what is staged, v what is asked of the invariant P; the others are proofs.
 use Prim.Native.Nat.{ℕ, _+_, _<_}
 use native.Mathlib.Omega.{arith}
 use mathlib.Core.Bool.{true, false}
@@ -72,30 +72,30 @@ module _ (s : Setup) (rs : Ranges s) (t : Tables) (k : Shape t) (b : Bounded s t
       cond-keeps (λ (es : List Event). LawfulAll s (told es past)) (showable s t c d o) (λ e. (f e ∙ h .values o p ∙ ledger-posted s past a o, a)) (λ e. a)
 
 -- ---- a step
-module _ (s : Setup) (w : World) (x : Step) (past : List Event) (k : SoundWorld s w) (c : ReadsCurrent s w) (h : Booked s (w .tables) (ledgerOf s past)) (a : LawfulAll s past) where
+module _ (s : Setup) (w : World) (x : Step) (past : List Event) (k : SoundWorld s w) (current : ReadsCurrent s w) (h : Booked s (w .tables) (ledgerOf s past)) (a : LawfulAll s past) where
   accepted-lawful : accepts s w x ≡ true → LawfulAll s (told (happening s (w .tables) (copyOf s w x) x) past)
   unfolding LawfulAll told
   accepted-lawful e =
       let q = accepted s w x e in
       let rs = ranges s (setup-in-range q) in
       let t = w .tables in
-      let y = copyOf s w x in
-      by-kind (LawfulAll s (told (happening s t y x) past)) x (q .passes .knows)
-      (λ i. rw (clock-happening s t y x i) (clock-lawful s rs t (k .shape .tables) (k .bounds .tables) past h a (x .clock)))
-      (λ i. rw (read-happening s t y x i) (read-lawful s rs t (k .shape .tables) (k .bounds .tables) past h a y (x .client) (x .object) (object-exists (q .passes) (rw i)) (current i (client-exists (q .passes) (rw i)) (object-exists (q .passes) (rw i)))))
-      (λ i. rw (ask-happening s t y x i) a)
-      (λ i. rw (write-happening s t y x i) (write-lawful s rs t (k .shape .tables) (k .bounds .tables) past h a (x .object) (x .value) (object-exists (q .passes) (rw i)) (none-stands (q .passes) i)))
-      (λ i. rw (deliver-happening s t y x i) (deliver-lawful s rs t (k .shape .tables) (k .bounds .tables) past h a y (requestOf s w x) (x .place) (omega (arith, place-exists (q .passes) (rw i), queue-fits q))))
-      (λ i. rw (lose-happening s t y x i) a)
-      (λ i. rw (double-happening s t y x i) a)
-      (λ i. rw (server-happening s t y x i) (tt, a))
-      (λ i. rw (client-happening s t y x i) a)
+      let c = copyOf s w x in
+      by-kind (LawfulAll s (told (happening s t c x) past)) x (q .passes .knows)
+      (λ i. rw (clock-happening s t c x i) (clock-lawful s rs t (k .shape .tables) (k .bounds .tables) past h a (x .clock)))
+      (λ i. rw (read-happening s t c x i) (read-lawful s rs t (k .shape .tables) (k .bounds .tables) past h a c (x .client) (x .object) (object-exists (q .passes) (rw i)) (copy-current i (client-exists (q .passes) (rw i)) (object-exists (q .passes) (rw i)))))
+      (λ i. rw (ask-happening s t c x i) a)
+      (λ i. rw (write-happening s t c x i) (write-lawful s rs t (k .shape .tables) (k .bounds .tables) past h a (x .object) (x .value) (object-exists (q .passes) (rw i)) (none-stands (q .passes) i)))
+      (λ i. rw (deliver-happening s t c x i) (deliver-lawful s rs t (k .shape .tables) (k .bounds .tables) past h a c (requestOf s w x) (x .place) (omega (arith, place-exists (q .passes) (rw i), queue-fits q))))
+      (λ i. rw (lose-happening s t c x i) a)
+      (λ i. rw (double-happening s t c x i) a)
+      (λ i. rw (server-happening s t c x i) (tt, a))
+      (λ i. rw (client-happening s t c x i) a)
     where
-      current : x .kind ≡ 2 → x .client < s .clients → x .object < s .objects
+      copy-current : x .kind ≡ 2 → x .client < s .clients → x .object < s .objects
           → showable s (w .tables) (copyOf s w x) (x .client) (x .object) ≡ true → copyOf s w x .value ≡ valueAt (w .tables) (x .object)
-      current i p q f =
-          ap (λ (y : Copy). y .value) (copy-read s w x i)
-          ∙ c (x .client) (x .object) p q (sym (ap (λ (y : Copy). showable s (w .tables) y (x .client) (x .object)) (copy-read s w x i)) ∙ f)
+      copy-current i p q f =
+          ap (λ (z : Copy). z .value) (copy-read s w x i)
+          ∙ current (x .client) (x .object) p q (sym (ap (λ (z : Copy). showable s (w .tables) z (x .client) (x .object)) (copy-read s w x i)) ∙ f)
 
   step-lawful : LawfulAll s (told (events s w x) past)
   unfolding events told
@@ -109,8 +109,8 @@ pub record Remembered (s : Setup) (w : World) (h : List Event) : Type 0 where
 
 module _ (s : Setup) (w : World) (x : Step) (past : List Event) (k : SoundWorld s w) where
   step-remembered : ReadsCurrent s w → Remembered s w past → Remembered s (stepped s w x) (told (events s w x) past)
-  step-remembered c r = record {
-    lawful = step-lawful s w x past k c (r .booked) (r .lawful);
+  step-remembered f r = record {
+    lawful = step-lawful s w x past k f (r .booked) (r .lawful);
     booked = rw (ledger-told s (events s w x) past) at (step-booked s w x (ledgerOf s past) k (r .booked) .keeps);
   }
 
@@ -144,9 +144,7 @@ module _ {κ} (s : Setup) (P : World → Type κ) (v : Invariant s P) where
 -- ---- in the history's words
 module _ (s : Setup) (w : World) (h : List Event) (r : Remembered s w h) where
   adds-up : AddsUp s h
-  adds-up =
-      let t = ledger-tallies s h in
-      omega (arith, r .booked .tallies, t, open-counted s h)
+  adds-up = omega (arith, r .booked .tallies, ledger-tallies s h, open-counted s h)
 
   values-are-last : (o : ℕ) → o < s .objects → valueAt (w .tables) o ≡ lastCompleted o h
   values-are-last o p = r .booked .values o p ∙ ledger-posted s h (r .lawful) o
