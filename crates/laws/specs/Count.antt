@@ -1,12 +1,10 @@
--- Counting the numbers that a test holds at, listing them, and a loop whose invariant says how far it has come.
+-- Counting the numbers that a test holds at, and a loop whose invariant says how far it has come.
 use Prim.Native.Nat.{ℕ, zero, suc, _+_, _<_, _≤_}
 use native.Mathlib.Decide.{ℕ-discrete}
 use native.Mathlib.Omega.{arith}
 use mathlib.Core.Bool.{Bool, true, false, cond}
-use mathlib.Core.List.{_∷_}
 use mathlib.Core.Path.{_≡_, refl}
-use lib.ListN.{length}
-use Rattle.laws.specs.Loop.{foldFrom, listFrom, countFrom}
+use Rattle.laws.specs.Loop.{foldFrom, countFrom}
 
 -- what a turn carries from j to j + 1, the loop carries from its first number to the number after its last
 pub fold-carries {ℓ κ} : {S : Type ℓ} (P : ℕ → S → Type κ) (f : S → ℕ → S) (N : ℕ) → ((s : S) (j : ℕ) → j < N → P j s → P (j + 1) (f s j))
@@ -51,14 +49,3 @@ count-step p q o a b h j (suc n) g i = pick (λ f. count-step p q o a b h (j + 1
 
 pub count-less : (p q : ℕ → Bool) (o n : ℕ) → o < n → p o ≡ true → q o ≡ false → ((k : ℕ) → (k ≡ o → ⊥) → p k ≡ q k) → countFrom p 0 n ≡ suc (countFrom q 0 n)
 count-less p q o n i a b h = count-step p q o a b h 0 n (omega arith) (omega arith)
-
--- a list has as many numbers as are counted
-pub list-count : (p : ℕ → Bool) (j n : ℕ) → length (listFrom p j n) ≡ countFrom p j n
-unfolding listFrom countFrom
-list-count p j zero = refl
-list-count p j (suc n) = go (p j) (list-count p (j + 1) n)
-  where
-    go : (b : Bool) → length (listFrom p (j + 1) n) ≡ countFrom p (j + 1) n
-        → length (cond b (j ∷ listFrom p (j + 1) n) (listFrom p (j + 1) n)) ≡ cond b 1 0 + countFrom p (j + 1) n
-    go true e = omega arith
-    go false e = omega arith

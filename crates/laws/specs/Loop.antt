@@ -5,7 +5,6 @@ use native.Mathlib.Decide.{ℕ-discrete}
 use native.Mathlib.Omega.{arith}
 use mathlib.Core.Bool.{Bool, true, false, cond, _&&_, _||_}
 use mathlib.Core.Path.{_≡_, refl, sym, _∙_}
-use mathlib.Core.List.{List, [], _∷_}
 use Rattle.laws.specs.Choice.{cond-keeps, and-true, or-false}
 
 pub left-more : (N j : ℕ) → j < N → N - j ≡ suc (N - (j + 1))
@@ -33,11 +32,6 @@ allFrom p j (suc n) = p j && allFrom p (j + 1) n
 unfoldable pub firstFrom : (ℕ → Bool) → ℕ → ℕ → ℕ
 firstFrom p j zero = j
 firstFrom p j (suc n) = cond (p j) j (firstFrom p (j + 1) n)
-
--- the numbers from j on, n of them, at which p holds, in order
-unfoldable pub listFrom : (ℕ → Bool) → ℕ → ℕ → List ℕ
-listFrom p j zero = []
-listFrom p j (suc n) = cond (p j) (j ∷ listFrom p (j + 1) n) (listFrom p (j + 1) n)
 
 -- how many of the n numbers from j on p holds at
 unfoldable pub countFrom : (ℕ → Bool) → ℕ → ℕ → ℕ

@@ -31,6 +31,9 @@ answerValue (Refused k) = k
 abbrev pub reported : Answer → ℕ
 reported a = cond (eqb (answerNumber a) 3) (answerValue a) 0
 
+abbrev pub isShown : Answer → Bool
+isShown a = eqb (answerNumber a) 1
+
 abbrev pub isRefused : Answer → Bool
 isRefused a = eqb (answerNumber a) 4
 

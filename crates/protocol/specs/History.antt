@@ -1,9 +1,10 @@
 -- The history of a run is the events of its steps, told newest first. Demand 3 once more, in functions of the history alone.
+-- Letters: s setup, w world, x a step, a its answer, h a history, e an event, p a test of events, d client, o and k objects, v value, u latest end, T clock.
 pub mod Lawful
+pub mod Showings
 pub mod Kept
-pub mod Example
 use Prim.Native.Nat.{ℕ, _+_, _<_, _≤_}
-use mathlib.Core.Bool.{Bool, true, false, cond}
+use mathlib.Core.Bool.{Bool, true, false, cond, _||_}
 use mathlib.Core.List.{List, [], _∷_, _++_}
 use mathlib.Core.Path.{_≡_}
 use lib.Dec.{eqb}
@@ -12,9 +13,9 @@ use Rattle.protocol.specs.declared.setup.Setup.{Setup}
 use Rattle.protocol.specs.declared.step.Answer.{Answer}
 use Rattle.protocol.specs.declared.step.Step.{Step}
 use Rattle.protocol.specs.Tables.{valueAt}
-use Rattle.protocol.specs.Answers.{reported}
+use Rattle.protocol.specs.Answers.{answerValue, reported, isShown}
 use Rattle.protocol.specs.World.{World, freshWorld, stepped, ran, answers}
-use Rattle.protocol.specs.Ledger.{Event, accepted, completed, cutOff, shown, clocked, events, Open, none, write, isOpen}
+use Rattle.protocol.specs.Ledger.{Event, acceptance, completion, serverRestart, showing, clockStep, events, Open, none, write, isOpen}
 use Rattle.protocol.specs.Agreement.{standingWrite}
 
 -- events told on top of those told before
@@ -33,96 +34,121 @@ history s xs = historyFrom s (freshWorld s) [] xs
 -- the value of the write to o that was accepted last, 0 where none was
 unfoldable pub lastAccepted : ℕ → List Event → ℕ
 lastAccepted o [] = 0
-lastAccepted o (accepted k x e ∷ past) = cond (eqb o k) x (lastAccepted o past)
-lastAccepted o (completed k ∷ past) = lastAccepted o past
-lastAccepted o (cutOff k ∷ past) = lastAccepted o past
-lastAccepted o (shown d k x ∷ past) = lastAccepted o past
-lastAccepted o (clocked x ∷ past) = lastAccepted o past
+lastAccepted o (acceptance k v _ ∷ past) = cond (eqb o k) v (lastAccepted o past)
+lastAccepted o (completion _ ∷ past) = lastAccepted o past
+lastAccepted o (serverRestart ∷ past) = lastAccepted o past
+lastAccepted o (showing _ _ _ ∷ past) = lastAccepted o past
+lastAccepted o (clockStep _ ∷ past) = lastAccepted o past
 
 -- the value of the write to o that was completed last, 0 where none was: it is the one that was accepted last before
 unfoldable pub lastCompleted : ℕ → List Event → ℕ
 lastCompleted o [] = 0
-lastCompleted o (accepted k x e ∷ past) = lastCompleted o past
-lastCompleted o (completed k ∷ past) = cond (eqb o k) (lastAccepted o past) (lastCompleted o past)
-lastCompleted o (cutOff k ∷ past) = lastCompleted o past
-lastCompleted o (shown d k x ∷ past) = lastCompleted o past
-lastCompleted o (clocked x ∷ past) = lastCompleted o past
+lastCompleted o (acceptance _ _ _ ∷ past) = lastCompleted o past
+lastCompleted o (completion k ∷ past) = cond (eqb o k) (lastAccepted o past) (lastCompleted o past)
+lastCompleted o (serverRestart ∷ past) = lastCompleted o past
+lastCompleted o (showing _ _ _ ∷ past) = lastCompleted o past
+lastCompleted o (clockStep _ ∷ past) = lastCompleted o past
 
--- the write to o that was accepted and neither completed nor cut off since
+-- the write to o that was accepted and not completed since, with no restart since
 unfoldable pub openIn : ℕ → List Event → Open
 openIn o [] = none
-openIn o (accepted k x e ∷ past) = cond (eqb o k) (write x e) (openIn o past)
-openIn o (completed k ∷ past) = cond (eqb o k) none (openIn o past)
-openIn o (cutOff k ∷ past) = cond (eqb o k) none (openIn o past)
-openIn o (shown d k x ∷ past) = openIn o past
-openIn o (clocked x ∷ past) = openIn o past
+openIn o (acceptance k v u ∷ past) = cond (eqb o k) (write v u) (openIn o past)
+openIn o (completion k ∷ past) = cond (eqb o k) none (openIn o past)
+openIn o (serverRestart ∷ past) = none
+openIn o (showing _ _ _ ∷ past) = openIn o past
+openIn o (clockStep _ ∷ past) = openIn o past
+
+abbrev pub stillOpen : Setup → List Event → ℕ
+stillOpen s h = countFrom (λ (o : ℕ). isOpen (openIn o h)) 0 (s .objects)
+
+-- how many writes were cut off: at each restart those that were open then
+unfoldable pub cutOffs : Setup → List Event → ℕ
+cutOffs s [] = 0
+cutOffs s (acceptance _ _ _ ∷ past) = cutOffs s past
+cutOffs s (completion _ ∷ past) = cutOffs s past
+cutOffs s (serverRestart ∷ past) = stillOpen s past + cutOffs s past
+cutOffs s (showing _ _ _ ∷ past) = cutOffs s past
+cutOffs s (clockStep _ ∷ past) = cutOffs s past
 
 -- how often something happened
-abbrev pub isAcceptance : Event → Bool
-isAcceptance (accepted k x e) = true
-isAcceptance (completed k) = false
-isAcceptance (cutOff k) = false
-isAcceptance (shown d k x) = false
-isAcceptance (clocked x) = false
-
-abbrev pub isCompletion : Event → Bool
-isCompletion (accepted k x e) = false
-isCompletion (completed k) = true
-isCompletion (cutOff k) = false
-isCompletion (shown d k x) = false
-isCompletion (clocked x) = false
-
-abbrev pub isCutOff : Event → Bool
-isCutOff (accepted k x e) = false
-isCutOff (completed k) = false
-isCutOff (cutOff k) = true
-isCutOff (shown d k x) = false
-isCutOff (clocked x) = false
-
-abbrev pub isCompletionOf : ℕ → Event → Bool
-isCompletionOf o (accepted k x e) = false
-isCompletionOf o (completed k) = eqb o k
-isCompletionOf o (cutOff k) = false
-isCompletionOf o (shown d k x) = false
-isCompletionOf o (clocked x) = false
-
-abbrev pub isCutOffOf : ℕ → Event → Bool
-isCutOffOf o (accepted k x e) = false
-isCutOffOf o (completed k) = false
-isCutOffOf o (cutOff k) = eqb o k
-isCutOffOf o (shown d k x) = false
-isCutOffOf o (clocked x) = false
-
 unfoldable pub howOften : (Event → Bool) → List Event → ℕ
 howOften p [] = 0
 howOften p (e ∷ past) = cond (p e) 1 0 + howOften p past
+
+abbrev pub isAcceptance : Event → Bool
+isAcceptance (acceptance _ _ _) = true
+isAcceptance (completion _) = false
+isAcceptance serverRestart = false
+isAcceptance (showing _ _ _) = false
+isAcceptance (clockStep _) = false
+
+abbrev pub isCompletion : Event → Bool
+isCompletion (acceptance _ _ _) = false
+isCompletion (completion _) = true
+isCompletion serverRestart = false
+isCompletion (showing _ _ _) = false
+isCompletion (clockStep _) = false
+
+abbrev pub isCompletionOf : ℕ → Event → Bool
+isCompletionOf o (acceptance _ _ _) = false
+isCompletionOf o (completion k) = eqb o k
+isCompletionOf o serverRestart = false
+isCompletionOf o (showing _ _ _) = false
+isCompletionOf o (clockStep _) = false
+
+-- whether a write to o was cut off since it was accepted: a restart came, and it was not completed before
+unfoldable pub isCutOff : ℕ → List Event → Bool
+isCutOff o [] = false
+isCutOff o (acceptance _ _ _ ∷ past) = isCutOff o past
+isCutOff o (completion _ ∷ past) = isCutOff o past
+isCutOff o (serverRestart ∷ past) = eqb (howOften (isCompletionOf o) past) 0 || isCutOff o past
+isCutOff o (showing _ _ _ ∷ past) = isCutOff o past
+isCutOff o (clockStep _ ∷ past) = isCutOff o past
 
 -- what the steps of a run reported, together
 unfoldable pub reportedIn : List Answer → ℕ
 reportedIn [] = 0
 reportedIn (a ∷ rest) = reported a + reportedIn rest
 
-abbrev pub stillOpen : Setup → List Event → ℕ
-stillOpen s h = countFrom (λ (o : ℕ). isOpen (openIn o h)) 0 (s .objects)
+-- what a step was answered "shown", if it was: client, object and value
+abbrev pub shownBy : Step → Answer → List (ℕ × ℕ × ℕ)
+shownBy x a = cond (isShown a) ((x .client, x .object, answerValue a) ∷ []) []
+
+-- what the steps of a run were answered "shown", in their order
+unfoldable pub shownByAll : List Step → List Answer → List (ℕ × ℕ × ℕ)
+shownByAll [] _ = []
+shownByAll (_ ∷ _) [] = []
+shownByAll (x ∷ xs) (a ∷ rest) = shownBy x a ++ shownByAll xs rest
+
+-- what a history tells as shown, oldest first
+unfoldable pub shownIn : List Event → List (ℕ × ℕ × ℕ)
+shownIn [] = []
+shownIn (acceptance _ _ _ ∷ past) = shownIn past
+shownIn (completion _ ∷ past) = shownIn past
+shownIn (serverRestart ∷ past) = shownIn past
+shownIn (showing d o v ∷ past) = shownIn past ++ ((d, o, v) ∷ [])
+shownIn (clockStep _ ∷ past) = shownIn past
 
 -- ---- what demand 3 says of a history h
 
 -- a value shown is that of the write completed last before
 abbrev pub ShowsLast : List Event → Type 0
-ShowsLast h = (later before : List Event) (d o v : ℕ) → h ≡ later ++ (shown d o v ∷ before) → v ≡ lastCompleted o before
+ShowsLast h = (later before : List Event) (d o v : ℕ) → h ≡ later ++ (showing d o v ∷ before) → v ≡ lastCompleted o before
 
 -- a write that is not cut off is completed before the clock passes its latest end
 abbrev pub EndsInTime : List Event → Type 0
 EndsInTime h =
-    (later between older : List Event) (T o x e : ℕ) → h ≡ later ++ (clocked T ∷ (between ++ (accepted o x e ∷ older))) → e < T
-    → howOften (isCutOffOf o) between ≡ 0 → 1 ≤ howOften (isCompletionOf o) between
+    (later between older : List Event) (T o v u : ℕ) → h ≡ later ++ (clockStep T ∷ (between ++ (acceptance o v u ∷ older))) → u < T
+    → isCutOff o between ≡ false → 1 ≤ howOften (isCompletionOf o) between
 
 -- "accepted = completed + cut off + open"
 abbrev pub AddsUp : Setup → List Event → Type 0
-AddsUp s h = howOften isAcceptance h ≡ howOften isCompletion h + howOften isCutOff h + stillOpen s h
+AddsUp s h = howOften isAcceptance h ≡ howOften isCompletion h + cutOffs s h + stillOpen s h
 
 -- together, of a run from fresh tables
 pub record HistoryAgrees (s : Setup) (xs : List Step) : Type 0 where
+  -- each answer "shown" is told, and nothing else is told as shown
+  pub showings : shownByAll xs (answers s (freshWorld s) xs) ≡ shownIn (history s xs)
   pub shows : ShowsLast (history s xs)
   pub ends : EndsInTime (history s xs)
   pub tallies : AddsUp s (history s xs)

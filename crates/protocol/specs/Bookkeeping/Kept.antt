@@ -1,13 +1,15 @@
 -- Every accepted step keeps the ledger and the tables together.
+-- Letters: s setup, t and u tables, k their shape, b their bounds, c a copy, r a request, g a decision or what is staged, l a ledger, h that it is booked,
+-- m a ledger or a message, q its kind, d client, o object, i place, T clock, y value, n how many, x a step. Of a message: n number, e epoch, w version,
+-- x and y the volume's and the object's expiry, v volume or payload. The others, and e elsewhere, are proofs.
 use Prim.Native.Nat.{ℕ, zero, suc, _+_, _<_}
 use native.Mathlib.Omega.{arith}
-use mathlib.Core.Bool.{Bool, true, false, cond}
-use mathlib.Core.List.{List, [], _∷_, _++_, map}
+use mathlib.Core.Bool.{Bool, true, false}
+use mathlib.Core.List.{List, [], _∷_, _++_}
 use mathlib.Core.Path.{_≡_, refl, _∙_}
-use lib.Dec.{ltb, leb, eqb·suc-zero}
+use lib.Dec.{ltb, eqb·suc-zero}
 use borrow.Author.Tests.{ltb-true}
 use Rattle.laws.specs.Choice.{cond-keeps, and-true, not-both}
-use Rattle.laws.specs.Loop.{listFrom}
 use Rattle.protocol.specs.declared.message.Kind.{Kind}
 use Rattle.protocol.specs.declared.message.Kind.the-variants.{Renew, Grant, Invalidate, Ack, Offer, Dropped}
 use Rattle.protocol.specs.declared.message.Message.{Message}
@@ -15,44 +17,45 @@ use Rattle.protocol.specs.declared.message.Payload.{Payload}
 use Rattle.protocol.specs.declared.records.Copy.{Copy}
 use Rattle.protocol.specs.declared.records.Request.{Request}
 use Rattle.protocol.specs.declared.setup.Setup.{Setup}
-use Rattle.protocol.specs.declared.step.Answer.the-variants.{Done, Shown, AskFirst, Delivered}
+use Rattle.protocol.specs.declared.step.Answer.the-variants.{Done, Delivered}
 use Rattle.protocol.specs.declared.step.Decision.{Decision}
 use Rattle.protocol.specs.declared.step.Step.{Step}
 use Rattle.protocol.specs.declared.tables.Tables.{Tables}
 use Rattle.protocol.specs.Setup.{volumeOf}
 use Rattle.protocol.specs.Messages.{messageAt}
-use Rattle.protocol.specs.Tables.{seenAt, standingAt}
+use Rattle.protocol.specs.Tables.{standingAt}
 use Rattle.protocol.specs.Writes.{unstaged, latestEnd, begun, ready, settled, settling, written, writeStaged, clockStaged}
 use Rattle.protocol.specs.Server.{noted, offered, volumeRenewed, objectRenewed, granted, lowestWaited, mustDrop, renewedBy, renewed, ackTaken, acked, ackStaged, dropTaken, dropped, ofVolume, dropStaged, serverRestarted, stale, beingWritten}
 use Rattle.protocol.specs.Client.{showable, stands, grantTaken}
 use Rattle.protocol.specs.Sound.{kindSound}
 use Rattle.protocol.specs.Answers.{reported, completedAnswer}
 use Rattle.protocol.specs.Decide.{Received, uncounted, kept, answered, counting, received, grantReceived, invalidateReceived, offerReceived, taken, performed, readDecided, askDecided, deliverDecided, restartDecided}
-use Rattle.protocol.specs.Ledger.{Event, accepted, cutOff, shown, clocked, completing, receiptStaged, deliveryStaged, readEvents, happening, Ledger, book, bookAll}
+use Rattle.protocol.specs.Ledger.{Event, acceptance, serverRestart, clockStep, settlingOf, completions, receiptStaged, deliveryStaged, readEvents, happening, Ledger, book, bookAll}
 use Rattle.protocol.specs.Soundness.Steps.{Ranges, Accepted, by-kind, object-exists, place-exists, queue-fits, none-stands, clock-performed, read-performed, ask-performed, write-performed, deliver-performed, lose-performed, double-performed, server-performed, client-performed}
 use Rattle.protocol.specs.Soundness.Shape.{Shape, clock-shape, written-shape, taken-shape, acked-shape, dropped-shape}
 use Rattle.protocol.specs.Soundness.Bounds.{Bounded, named-at}
-use Rattle.protocol.specs.Bookkeeping.Booked.{Booked, SameWrites, same-booked, begun-booked, cut-completes, restarted-booked}
-use Rattle.protocol.specs.Bookkeeping.Settled.{OpenEach, Settlement, StagedOn, settlingOf, settle, done-completes, ready-stands, due-stands}
+use Rattle.protocol.specs.Bookkeeping.Happening.{clock-happening, read-happening, ask-happening, write-happening, deliver-happening, lose-happening, double-happening, server-happening, client-happening}
+use Rattle.protocol.specs.Bookkeeping.Booked.{Booked, SameWrites, same-booked, begun-booked, restarted-booked}
+use Rattle.protocol.specs.Bookkeeping.Settled.{OpenEach, Settlement, StagedOn, settle, completions-counted, ready-stands, due-stands}
 
 -- ---- what an answer reports
-pub reported-completed : (n : ℕ) → reported (completedAnswer n) ≡ n
+reported-completed : (n : ℕ) → reported (completedAnswer n) ≡ n
 reported-completed zero = refl
 reported-completed (suc n) = rw (eqb·suc-zero n, eqb·suc-zero n)
 
-pub reported-delivered : (m : Message) (n : ℕ) → reported (Delivered m n) ≡ n
+reported-delivered : (m : Message) (n : ℕ) → reported (Delivered m n) ≡ n
 reported-delivered m zero = refl
 reported-delivered m (suc n) = rw (eqb·suc-zero n)
 
-pub book-append : (l : Ledger) (es fs : List Event) → bookAll l (es ++ fs) ≡ bookAll (bookAll l es) fs
+book-append : (s : Setup) (l : Ledger) (es fs : List Event) → bookAll s l (es ++ fs) ≡ bookAll s (bookAll s l es) fs
 unfolding bookAll
-book-append l [] fs = refl
-book-append l (e ∷ es) fs = book-append (book l e) es fs
+book-append s l [] fs = refl
+book-append s l (e ∷ es) fs = book-append s (book s l e) es fs
 
 -- a decision, and what the ledger l becomes with it
 pub record Recorded (s : Setup) (l : Ledger) (g : Decision) (m : Ledger) : Type 0 where
   pub booked : Booked s (g .outcome .tables) m
-  pub reports : m .completes ≡ l .completes + reported (g .outcome .answer)
+  pub reports : m .completedCount ≡ l .completedCount + reported (g .outcome .answer)
 
 -- ---- what leaves every write alone
 pub objects-same : (t u : Tables) → u .objects ≡ t .objects → SameWrites t u
@@ -73,12 +76,12 @@ renewed-same s t d o n e w =
 unstaged-on : (s : Setup) (t : Tables) → Shape t → StagedOn s t (unstaged t)
 unstaged-on s t k = record { same = objects-same t t refl; shape = k; stands = λ u o e. not-both e refl; fits = omega arith }
 
-pub clock-on : (s : Setup) (t : Tables) (x : ℕ) → Shape t → StagedOn s t (clockStaged s t x)
-clock-on s t x k = record { same = objects-same t _ refl; shape = clock-shape t x k; stands = due-stands s; fits = omega arith }
+pub clock-on : (s : Setup) (t : Tables) (T : ℕ) → Shape t → StagedOn s t (clockStaged s t T)
+clock-on s t T k = record { same = objects-same t _ refl; shape = clock-shape t T k; stands = due-stands s; fits = omega arith }
 
-pub write-on : (s : Setup) (t : Tables) (o x : ℕ) → o < s .objects → Shape t → StagedOn s (begun s t o x) (writeStaged s t o x)
+pub write-on : (s : Setup) (t : Tables) (o y : ℕ) → o < s .objects → Shape t → StagedOn s (begun s t o y) (writeStaged s t o y)
 unfolding written
-write-on s t o x p k = record { same = objects-same _ _ refl; shape = written-shape s t o x k; stands = ready-stands s; fits = omega arith }
+write-on s t o y p k = record { same = objects-same _ _ refl; shape = written-shape s t o y k; stands = ready-stands s; fits = omega arith }
 
 acked-same : (t : Tables) (d o : ℕ) → SameWrites t (acked t d o)
 unfolding acked
@@ -128,7 +131,7 @@ module _ (s : Setup) (rs : Ranges s) (t : Tables) (k : Shape t) (c : Copy) (r : 
       cond-keeps (λ (g : Received). Settlement s l 0 (g .counted) []) (stands r n)
       (λ _. uncounted-settles s t _ l (objects-same t _ refl) h) (λ _. uncounted-settles s t _ l (objects-same t _ refl) h)
 
-  pub received-settles : (q : Kind) → kindSound s q ≡ true → Settlement s l 0 (received s t c r d q .counted) (settlingOf s (receiptStaged s t d q))
+  received-settles : (q : Kind) → kindSound s q ≡ true → Settlement s l 0 (received s t c r d q .counted) (settlingOf s (receiptStaged s t d q))
   unfolding received settling
   received-settles (Renew o n e w) f = uncounted-settles s t _ l (renewed-same s t d o n e w) h
   received-settles (Grant o n x e w y v) f = grant-settles o n x e w y v
@@ -137,82 +140,48 @@ module _ (s : Setup) (rs : Ranges s) (t : Tables) (k : Shape t) (c : Copy) (r : 
   received-settles (Offer v n e) f = offer-settles v n e
   received-settles (Dropped v n e) f = settle s rs t _ l (drop-on s t d v n e k) h
 
--- ---- the events of an accepted step, by its kind
-module _ (s : Setup) (t : Tables) (c : Copy) (x : Step) where
-  pub clock-happening : x .kind ≡ 1 → happening s t c x ≡ completing s (clockStaged s t (x .clock)) ++ (clocked (x .clock) ∷ [])
-  unfolding happening
-  clock-happening e = rw e
-
-  pub read-happening : x .kind ≡ 2 → happening s t c x ≡ readEvents s t c (x .client) (x .object)
-  unfolding happening
-  read-happening e = rw e
-
-  pub ask-happening : x .kind ≡ 3 → happening s t c x ≡ []
-  unfolding happening
-  ask-happening e = rw e
-
-  pub write-happening : x .kind ≡ 4
-      → happening s t c x ≡ accepted (x .object) (x .value) (latestEnd s t (x .object)) ∷ completing s (writeStaged s t (x .object) (x .value))
-  unfolding happening
-  write-happening e = rw e
-
-  pub deliver-happening : x .kind ≡ 5 → happening s t c x ≡ completing s (deliveryStaged s t (x .place))
-  unfolding happening
-  deliver-happening e = rw e
-
-  pub lose-happening : x .kind ≡ 6 → happening s t c x ≡ []
-  unfolding happening
-  lose-happening e = rw e
-
-  pub double-happening : x .kind ≡ 7 → happening s t c x ≡ []
-  unfolding happening
-  double-happening e = rw e
-
-  pub server-happening : x .kind ≡ 8 → happening s t c x ≡ map cutOff (listFrom (standingAt t) 0 (s .objects))
-  unfolding happening
-  server-happening e = rw e
-
-  pub client-happening : x .kind ≡ 9 → happening s t c x ≡ []
-  unfolding happening
-  client-happening e = rw e
-
-accepted-completes : (l : Ledger) (o x e : ℕ) → book l (accepted o x e) .completes ≡ l .completes
+acceptance-completes : (s : Setup) (l : Ledger) (o y end : ℕ) → book s l (acceptance o y end) .completedCount ≡ l .completedCount
 unfolding book
-accepted-completes l o x e = refl
+acceptance-completes s l o y end = refl
 
 -- ---- an accepted step
 module _ (s : Setup) (rs : Ranges s) (t : Tables) (k : Shape t) (b : Bounded s t) (c : Copy) (r : Request) (l : Ledger) (h : Booked s t l) where
-  clock-recorded : (x : ℕ) → Recorded s l (counting c r (settled s (clockStaged s t x))) (bookAll l (completing s (clockStaged s t x) ++ (clocked x ∷ [])))
+  clock-recorded : (T : ℕ) → Recorded s l (counting c r (settled s (clockStaged s t T))) (bookAll s l (completions s (clockStaged s t T) ++ (clockStep T ∷ [])))
   unfolding bookAll book
-  clock-recorded x =
-      let g = clockStaged s t x in
-      let q = settle s rs t g l (clock-on s t x k) h in
-      rw (book-append l (completing s g) (clocked x ∷ []))
-      (record { booked = q .booked; reports = done-completes l (settlingOf s g) ∙ omega (arith, q .counts, reported-completed (settled s g .count)) })
+  clock-recorded T =
+      let g = clockStaged s t T in
+      let q = settle s rs t g l (clock-on s t T k) h in
+      rw (book-append s l (completions s g) (clockStep T ∷ []))
+      (record { booked = q .booked; reports = completions-counted s l (settlingOf s g) ∙ omega (arith, q .counts, reported-completed (settled s g .count)) })
 
-  write-recorded : (o x : ℕ) → o < s .objects → standingAt t o ≡ false
-      → Recorded s l (counting c r (settled s (writeStaged s t o x))) (bookAll l (accepted o x (latestEnd s t o) ∷ completing s (writeStaged s t o x)))
+  write-recorded : (o y : ℕ) → o < s .objects → standingAt t o ≡ false
+      → Recorded s l (counting c r (settled s (writeStaged s t o y))) (bookAll s l (acceptance o y (latestEnd s t o) ∷ completions s (writeStaged s t o y)))
   unfolding bookAll
-  write-recorded o x p v =
-      let g = writeStaged s t o x in
-      let m = book l (accepted o x (latestEnd s t o)) in
-      let q = settle s rs (begun s t o x) g m (write-on s t o x p k) (begun-booked s rs t k l h o x p v) in
+  write-recorded o y p v =
+      let g = writeStaged s t o y in
+      let m = book s l (acceptance o y (latestEnd s t o)) in
+      let q = settle s rs (begun s t o y) g m (write-on s t o y p k) (begun-booked s rs t k l h o y p v) in
       record {
         booked = q .booked;
-        reports = done-completes m (settlingOf s g) ∙ omega (arith, q .counts, reported-completed (settled s g .count), accepted-completes l o x (latestEnd s t o));
+        reports = completions-counted s m (settlingOf s g) ∙ omega (arith, q .counts, reported-completed (settled s g .count), acceptance-completes s l o y (latestEnd s t o));
       }
 
-  deliver-recorded : (i : ℕ) → i < 64 → Recorded s l (deliverDecided s t c r i) (bookAll l (completing s (deliveryStaged s t i)))
+  pub deliver-settles : (i : ℕ) → i < 64
+      → Settlement s l 0 (received s (taken t i) c r (messageAt (t .queue) i .client) (messageAt (t .queue) i .kind) .counted) (settlingOf s (deliveryStaged s t i))
+  deliver-settles i p =
+      let m = messageAt (t .queue) i in
+      let a = and-true (ltb (m .client) (s .clients)) (kindSound s (m .kind)) (named-at s rs t i b) in
+      received-settles s rs (taken t i) (taken-shape t i p k) c r (m .client) l (same-booked s t (taken t i) l (objects-same t _ refl) h) (m .kind) (a .1)
+
+  deliver-recorded : (i : ℕ) → i < 64 → Recorded s l (deliverDecided s t c r i) (bookAll s l (completions s (deliveryStaged s t i)))
   unfolding deliverDecided
   deliver-recorded i p =
       let m = messageAt (t .queue) i in
-      let a = and-true (ltb (m .client) (s .clients)) (kindSound s (m .kind)) (named-at s rs t i b) in
-      let q =
-      received-settles s rs (taken t i) (taken-shape t i p k) c r (m .client) l (same-booked s t (taken t i) l (objects-same t _ refl) h) (m .kind) (a .1) in
+      let q = deliver-settles i p in
       record {
         booked = q .booked;
         reports =
-            done-completes l (settlingOf s (deliveryStaged s t i))
+            completions-counted s l (settlingOf s (deliveryStaged s t i))
             ∙ omega (arith, q .counts, reported-delivered m (received s (taken t i) c r (m .client) (m .kind) .counted .count));
       }
 
@@ -220,14 +189,15 @@ module _ (s : Setup) (rs : Ranges s) (t : Tables) (k : Shape t) (b : Bounded s t
   quiet : (g : Decision) → SameWrites t (g .outcome .tables) → reported (g .outcome .answer) ≡ 0 → Recorded s l g l
   quiet g e f = record { booked = same-booked s t _ l e h; reports = omega (arith, f) }
 
-  read-recorded : (d o : ℕ) → Recorded s l (readDecided s t c r d o) (bookAll l (readEvents s t c d o))
-  unfolding readDecided bookAll book
-  read-recorded d o = go (showable s t c d o)
-    where
-      go : (f : Bool)
-          → Recorded s l (cond f (answered (kept c r) t (Shown (c .value))) (answered (kept c r) t AskFirst)) (bookAll l (cond f (shown d o (c .value) ∷ []) []))
-      go true = quiet _ (objects-same t _ refl) refl
-      go false = quiet _ (objects-same t _ refl) refl
+  -- what is shown is not booked
+  read-booked : (d o : ℕ) → bookAll s l (readEvents s t c d o) ≡ l
+  unfolding bookAll book
+  read-booked d o = cond-keeps (λ (es : List Event). bookAll s l es ≡ l) (showable s t c d o) (λ e. refl) (λ e. refl)
+
+  read-recorded : (d o : ℕ) → Recorded s l (readDecided s t c r d o) l
+  unfolding readDecided
+  read-recorded d o =
+      cond-keeps (λ (g : Decision). Recorded s l g l) (showable s t c d o) (λ e. quiet _ (objects-same t _ refl) refl) (λ e. quiet _ (objects-same t _ refl) refl)
 
   ask-recorded : (d o : ℕ) → Recorded s l (askDecided s t c r d o) l
   unfolding askDecided
@@ -237,15 +207,16 @@ module _ (s : Setup) (rs : Ranges s) (t : Tables) (k : Shape t) (b : Bounded s t
   unfolding restartDecided
   restart-recorded d = quiet _ (objects-same t _ refl) refl
 
-  server-recorded : Recorded s l (answered (kept c r) (serverRestarted s t) Done) (bookAll l (map cutOff (listFrom (standingAt t) 0 (s .objects))))
-  server-recorded = record { booked = restarted-booked s t l h; reports = cut-completes l (listFrom (standingAt t) 0 (s .objects)) ∙ omega arith }
+  server-recorded : Recorded s l (answered (kept c r) (serverRestarted s t) Done) (book s l serverRestart)
+  unfolding book
+  server-recorded = record { booked = restarted-booked s t l h; reports = omega arith }
 
-  pub performed-recorded : (f : Bool) (x : Step) → Accepted s t f r x → Recorded s l (performed s t c r x) (bookAll l (happening s t c x))
+  pub performed-recorded : (f : Bool) (x : Step) → Accepted s t f r x → Recorded s l (performed s t c r x) (bookAll s l (happening s t c x))
   unfolding bookAll
   performed-recorded f x a =
-      by-kind (Recorded s l (performed s t c r x) (bookAll l (happening s t c x))) x (a .passes .knows)
+      by-kind (Recorded s l (performed s t c r x) (bookAll s l (happening s t c x))) x (a .passes .knows)
       (λ e. rw (clock-performed s t c r x e, clock-happening s t c x e) (clock-recorded (x .clock)))
-      (λ e. rw (read-performed s t c r x e, read-happening s t c x e) (read-recorded (x .client) (x .object)))
+      (λ e. rw (read-performed s t c r x e, read-happening s t c x e, read-booked (x .client) (x .object)) (read-recorded (x .client) (x .object)))
       (λ e. rw (ask-performed s t c r x e, ask-happening s t c x e) (ask-recorded (x .client) (x .object)))
       (λ e. rw (write-performed s t c r x e, write-happening s t c x e) (write-recorded (x .object) (x .value) (object-exists (a .passes) (rw e)) (none-stands (a .passes) e)))
       (λ e. rw (deliver-performed s t c r x e, deliver-happening s t c x e) (deliver-recorded (x .place) (omega (arith, place-exists (a .passes) (rw e), queue-fits a))))

@@ -1,4 +1,6 @@
 -- Whichever step completes writes: the tables that it leaves, the number that it reports and the events that the ledger books go together.
+-- Letters: s setup, t and u tables, k their shape, c and d tables with a count, n a count or how many objects are left, g what is staged, l and m ledgers,
+-- h what holds before, o and j objects, T clock, b a test; the others are proofs.
 use Prim.Native.Nat.{ℕ, zero, suc, _+_, _<_, _≤_}
 use native.Mathlib.Omega.{arith}
 use mathlib.Core.Bool.{Bool, true, false, cond, not, _&&_, _||_}
@@ -19,35 +21,35 @@ use Rattle.protocol.specs.Setup.{volumeOf}
 use Rattle.protocol.specs.Tables.{standingAt, endAt}
 use Rattle.protocol.specs.Leases.{guardPassed, endOver}
 use Rattle.protocol.specs.Writes.{Counted, waited, ready, due, posted, completed, Staged, completeIf, settled, settling, clockStaged}
-use Rattle.protocol.specs.Ledger.{completed as done, isOpen, Ledger, book, bookAll}
+use Rattle.protocol.specs.Ledger.{completion, settlingOf, isOpen, Ledger, book, bookAll}
 use Rattle.protocol.specs.Soundness.Steps.{Ranges}
 use Rattle.protocol.specs.Soundness.Shape.{Shape, completed-shape}
-use Rattle.protocol.specs.Bookkeeping.Booked.{Booked, SameWrites, same-booked, standing-opened, completed-booked}
+use Rattle.protocol.specs.Bookkeeping.Booked.{Booked, SameWrites, same-booked, standing-open, completed-booked}
 
 -- only standing writes pass the test
-abbrev pub Stands : (Tables → ℕ → Bool) → Type 0
-Stands test = (t : Tables) (o : ℕ) → test t o ≡ true → standingAt t o ≡ true
+abbrev pub OnlyStanding : (Tables → ℕ → Bool) → Type 0
+OnlyStanding test = (t : Tables) (o : ℕ) → test t o ≡ true → standingAt t o ≡ true
 
-pub ready-stands : (s : Setup) → Stands (ready s)
+pub ready-stands : (s : Setup) → OnlyStanding (ready s)
 unfolding ready
 ready-stands s t o e = and-true (standingAt t o) (not (waited s t o) && guardPassed t (volumeOf s o)) e .0
 
-pub due-stands : (s : Setup) → Stands (due s)
+pub due-stands : (s : Setup) → OnlyStanding (due s)
 unfolding due
 due-stands s t o e = and-true (standingAt t o) (not (waited s t o) && guardPassed t (volumeOf s o) || endOver (t .clock) (endAt t o)) e .0
 
 -- each write is open when it completes, one after the other
-unfoldable pub OpenEach : Ledger → List ℕ → Type 0
-OpenEach l [] = Unit {0}
-OpenEach l (o ∷ os) = (isOpen (l .opened o) ≡ true) × OpenEach (book l (done o)) os
+unfoldable pub OpenEach : Setup → Ledger → List ℕ → Type 0
+OpenEach s l [] = Unit {0}
+OpenEach s l (o ∷ os) = (isOpen (l .openWrite o) ≡ true) × OpenEach s (book s l (completion o)) os
 
 -- c is what is left after the writes of os completed, n being counted before
 pub record Settlement (s : Setup) (l : Ledger) (n : ℕ) (c : Counted) (os : List ℕ) : Type 0 where
-  pub booked : Booked s (c .tables) (bookAll l (map done os))
+  pub booked : Booked s (c .tables) (bookAll s l (map completion os))
   pub counts : c .count ≡ n + length os
-  pub opens : OpenEach l os
+  pub opens : OpenEach s l os
 
-module _ (s : Setup) (rs : Ranges s) (test : Tables → ℕ → Bool) (stands : Stands test) where
+module _ (s : Setup) (rs : Ranges s) (test : Tables → ℕ → Bool) (stands : OnlyStanding test) where
   abbrev Leads : ℕ → ℕ → Counted → Ledger → Type 0
   Leads j n c l = Settlement s l (c .count) (foldFrom (completeIf test s) c j n) (settling test s (c .tables) j n)
 
@@ -63,11 +65,11 @@ module _ (s : Setup) (rs : Ranges s) (test : Tables → ℕ → Bool) (stands : 
           → Settlement s l (c .count) (foldFrom (completeIf test s) (cond b next c) (j + 1) n)
           (cond b (j ∷ settling test s (completed s (c .tables) j) (j + 1) n) (settling test s (c .tables) (j + 1) n))
       go true e rest =
-          let r = rest next (book l (done j)) (completed-shape s (c .tables) j k) (completed-booked s rs (c .tables) k l h j (omega arith) (stands (c .tables) j e)) in
+          let r = rest next (book s l (completion j)) (completed-shape s (c .tables) j k) (completed-booked s rs (c .tables) k l h j (omega arith) (stands (c .tables) j e)) in
           record {
             booked = r .booked;
             counts = r .counts ∙ omega arith;
-            opens = (ap isOpen (standing-opened s rs (c .tables) k l h j (omega arith) (stands (c .tables) j e)), r .opens);
+            opens = (ap isOpen (standing-open s rs (c .tables) k l h j (omega arith) (stands (c .tables) j e)), r .opens);
           }
       go false e rest = rest c l k h
 
@@ -75,22 +77,18 @@ module _ (s : Setup) (rs : Ranges s) (test : Tables → ℕ → Bool) (stands : 
 pub record StagedOn (s : Setup) (t : Tables) (g : Staged) : Type 0 where
   pub same : SameWrites t (g .tables)
   pub shape : Shape (g .tables)
-  pub stands : Stands (g .test)
+  pub stands : OnlyStanding (g .test)
   pub fits : g .from + g .many ≤ s .objects
-
--- what is booked of the writes that complete
-abbrev pub settlingOf : Setup → Staged → List ℕ
-settlingOf s g = settling (g .test) s (g .tables) (g .from) (g .many)
 
 pub settle : (s : Setup) (rs : Ranges s) (t : Tables) (g : Staged) (l : Ledger) → StagedOn s t g → Booked s t l → Settlement s l 0 (settled s g) (settlingOf s g)
 unfolding settled
 settle s rs t g l a h =
     settle-from s rs (g .test) (a .stands) (g .from) (g .many) (a .fits) (record { count = 0; tables = g .tables }) l (a .shape) (same-booked s t (g .tables) l (a .same) h)
 
-pub done-completes : (l : Ledger) (os : List ℕ) → bookAll l (map done os) .completes ≡ l .completes + length os
+pub completions-counted : (s : Setup) (l : Ledger) (os : List ℕ) → bookAll s l (map completion os) .completedCount ≡ l .completedCount + length os
 unfolding bookAll book
-done-completes l [] = omega arith
-done-completes l (o ∷ os) = done-completes (book l (done o)) os ∙ omega arith
+completions-counted s l [] = omega arith
+completions-counted s l (o ∷ os) = completions-counted s (book s l (completion o)) os ∙ omega arith
 
 -- ---- after a clock step
 pub record Ended (T j : ℕ) (c : Counted) : Type 0 where
@@ -113,17 +111,17 @@ module _ (s : Setup) (T : ℕ) where
 
   not-due : (c : Counted) (j : ℕ) → c .tables .clock ≡ T → due s (c .tables) j ≡ false → standingAt (c .tables) j ≡ true → T ≤ endAt (c .tables) j
   unfolding due endOver
-  not-due c j e d v = go (standingAt (c .tables) j) (not (waited s (c .tables) j) && guardPassed (c .tables) (volumeOf s j)) v d
+  not-due c j e f p = go (standingAt (c .tables) j) (not (waited s (c .tables) j) && guardPassed (c .tables) (volumeOf s j)) p f
     where
-      go : (a b : Bool) → a ≡ true → (a && (b || ltb (endAt (c .tables) j) (c .tables .clock))) ≡ false → T ≤ endAt (c .tables) j
-      go true true v d = not-both refl d
-      go true false v d = omega (arith, ltb-false (endAt (c .tables) j) (c .tables .clock) d, e)
-      go false b v d = not-both v refl
+      go : (stands b : Bool) → stands ≡ true → (stands && (b || ltb (endAt (c .tables) j) (c .tables .clock))) ≡ false → T ≤ endAt (c .tables) j
+      go true true p f = not-both refl f
+      go true false p f = omega (arith, ltb-false (endAt (c .tables) j) (c .tables .clock) f, e)
+      go false b p f = not-both p refl
 
   kept-ended : (c : Counted) (j : ℕ) → due s (c .tables) j ≡ false → Ended T j c → Ended T (j + 1) c
-  kept-ended c j d h = record {
+  kept-ended c j f h = record {
     clock = h .clock;
-    ends = λ o p e. ⊎-elim (λ f. rw f (not-due c j (h .clock) d (rw f at e))) (λ f. h .ends o (omega arith) e) (same? o j);
+    ends = λ o p e. ⊎-elim (λ q. rw q (not-due c j (h .clock) f (rw q at e))) (λ q. h .ends o (omega arith) e) (same? o j);
   }
 
   turn-ended : (c : Counted) (j : ℕ) → j < s .objects → Ended T j c → Ended T (j + 1) (completeIf (due s) s c j)

@@ -9,6 +9,7 @@ use lib.Dec.{eqb}
 use lib.ListN.{getD, set}
 use borrow.Author.Tests.{eqb-true}
 use Rattle.laws.specs.Choice.{not-both, and-true}
+use Rattle.laws.specs.Updated.{updated, updated-other}
 use Rattle.protocol.specs.declared.message.Payload.{Payload}
 use Rattle.protocol.specs.declared.message.Kind.the-variants.{Grant}
 use Rattle.protocol.specs.declared.setup.Setup.{Setup}
@@ -17,12 +18,11 @@ use Rattle.protocol.specs.Setup.{volumeOf}
 use Rattle.protocol.specs.Tables.{byVolume, byObject, epochAt, versionAt, standingAt}
 use Rattle.protocol.specs.Leases.{serverAlive}
 use Rattle.protocol.specs.Server.{ackTaken, acked}
-use Rattle.protocol.specs.Ledger.{updated}
 use Rattle.protocol.specs.World.{World}
 use Rattle.protocol.specs.Soundness.Steps.{Ranges}
 use Rattle.protocol.specs.Soundness.Shape.{Shape}
 use Rattle.protocol.specs.Safety.Invariant.{Inv, Sent, Stands, from, copyAt, Covered, Acknowledges}
-use Rattle.protocol.specs.Safety.Tools.{object-set, updated-other, zero-dead, client-fits, object-fits}
+use Rattle.protocol.specs.Safety.Tools.{object-set, zero-dead, client-fits, object-fits}
 use Rattle.protocol.specs.Safety.Replaced.{withTables}
 
 pub ack-taken : (s : Setup) (t : Tables) (o e w : ℕ) → ackTaken s t o e w ≡ true → Acknowledges s (t .volumes .epoch) (t .objects .version) (t .objects .standing) o e w

@@ -7,6 +7,7 @@ use mathlib.Core.Logic.{_⊎_, ⊎-elim}
 use mathlib.Core.Path.{_≡_, refl, sym, ap, _∙_}
 use lib.ListN.{length, getD, set}
 use Rattle.laws.specs.Choice.{same?}
+use Rattle.laws.specs.Updated.{updated-same, updated-other}
 use Rattle.protocol.specs.declared.message.Kind.the-variants.{Ack}
 use Rattle.protocol.specs.declared.message.Payload.{Payload}
 use Rattle.protocol.specs.declared.message.Payload.the-variants.{Same, Value}
@@ -15,12 +16,11 @@ use Rattle.protocol.specs.declared.setup.Setup.{Setup}
 use Rattle.protocol.specs.Setup.{volumeOf}
 use Rattle.protocol.specs.Tables.{byVolume, withViews}
 use Rattle.protocol.specs.Client.{ended, viewed, filled, payloadOr}
-use Rattle.protocol.specs.Ledger.{updated}
 use Rattle.protocol.specs.World.{World}
 use Rattle.protocol.specs.Soundness.Steps.{Ranges}
 use Rattle.protocol.specs.Soundness.Shape.{WorldShape}
 use Rattle.protocol.specs.Safety.Invariant.{Inv, Sent, Stands, from, copyAt, requestAt, Answers, Acknowledges, NamesHeld, PayloadOk}
-use Rattle.protocol.specs.Safety.Tools.{volume-at, volume-off, copy-at, copy-off, updated-same, updated-other, client-fits, volume-fits}
+use Rattle.protocol.specs.Safety.Tools.{volume-at, volume-off, copy-at, copy-off, client-fits, volume-fits}
 use Rattle.protocol.specs.Safety.Sending.{GrantClause}
 use Rattle.protocol.specs.Safety.Requests.{requesting, request-ends, ended-idle}
 use Rattle.protocol.specs.Safety.Taking.{Others, Own, covered-same, taken}

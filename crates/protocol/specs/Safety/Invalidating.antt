@@ -7,6 +7,7 @@ use mathlib.Core.Logic.{_⊎_, inl, inr, ⊎-elim}
 use mathlib.Core.Path.{_≡_, refl, sym, ap, _∙_}
 use lib.ListN.{length, set}
 use Rattle.laws.specs.Choice.{same?}
+use Rattle.laws.specs.Updated.{updated, updated-same, updated-other}
 use Rattle.protocol.specs.declared.message.Kind.the-variants.{Ack}
 use Rattle.protocol.specs.declared.records.Copy.{Copy}
 use Rattle.protocol.specs.declared.records.Request.{Request}
@@ -17,11 +18,10 @@ use Rattle.protocol.specs.Tables.{noCopy}
 use Rattle.protocol.specs.Leases.{clientAlive}
 use Rattle.protocol.specs.Server.{sent}
 use Rattle.protocol.specs.Client.{forgotten}
-use Rattle.protocol.specs.Ledger.{updated}
 use Rattle.protocol.specs.World.{World}
 use Rattle.protocol.specs.Soundness.Shape.{WorldShape}
 use Rattle.protocol.specs.Safety.Invariant.{Inv, Stands, copyAt, requestAt, Covered}
-use Rattle.protocol.specs.Safety.Tools.{copy-at, copy-off, updated-same, updated-other, sent-pushed}
+use Rattle.protocol.specs.Safety.Tools.{copy-at, copy-off, sent-pushed}
 use Rattle.protocol.specs.Safety.Sending.{InvalidateClause, send-ack}
 use Rattle.protocol.specs.Safety.Requests.{requesting, request-forgotten, forgotten-gone}
 use Rattle.protocol.specs.Safety.Taking.{names-same}

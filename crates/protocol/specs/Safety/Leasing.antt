@@ -11,18 +11,18 @@ use lib.ListN.{getD, set}
 use borrow.Author.Tests.{eqb-true}
 use Rattle.laws.specs.Choice.{same?, not-both, cond-keeps}
 use Rattle.laws.specs.Store.{set-at}
+use Rattle.laws.specs.Updated.{updated, updated-same, updated-other}
 use Rattle.protocol.specs.declared.setup.Setup.{Setup}
 use Rattle.protocol.specs.Setup.{volumeOf}
 use Rattle.protocol.specs.Messages.{pushed}
 use Rattle.protocol.specs.Tables.{byVolume, byObject, epochAt, seenAt, unreachableAt, offerAt, versionAt, standingAt, waitingAt}
 use Rattle.protocol.specs.Leases.{serverAlive, clientAlive}
 use Rattle.protocol.specs.Server.{volumeRenewed, objectRenewed, payloadFor, granting, granted}
-use Rattle.protocol.specs.Ledger.{updated}
 use Rattle.protocol.specs.World.{World}
 use Rattle.protocol.specs.Soundness.Steps.{Ranges}
 use Rattle.protocol.specs.Soundness.Shape.{Shape}
 use Rattle.protocol.specs.Safety.Invariant.{Inv, Stands, copyAt, Covered, PayloadOk, NamesHeld}
-use Rattle.protocol.specs.Safety.Tools.{volume-set, object-set, volume-at, object-at, object-off, updated-same, updated-other, sent-pushed, client-fits, object-fits, volume-fits}
+use Rattle.protocol.specs.Safety.Tools.{volume-set, object-set, volume-at, object-at, object-off, sent-pushed, client-fits, object-fits, volume-fits}
 use Rattle.protocol.specs.Safety.Replaced.{withTables}
 use Rattle.protocol.specs.Safety.Sending.{RenewClause, send-grant}
 

@@ -7,6 +7,7 @@ use mathlib.Core.Logic.{_⊎_, ⊎-elim}
 use mathlib.Core.Path.{_≡_, refl, sym, ap, _∙_}
 use lib.ListN.{getD}
 use Rattle.laws.specs.Choice.{same?}
+use Rattle.laws.specs.Updated.{updated}
 use Rattle.protocol.specs.declared.message.Kind.the-variants.{Ack, Dropped}
 use Rattle.protocol.specs.declared.message.Payload.{Payload}
 use Rattle.protocol.specs.declared.message.Payload.the-variants.{Same, Value}
@@ -15,7 +16,6 @@ use Rattle.protocol.specs.declared.setup.Setup.{Setup}
 use Rattle.protocol.specs.Setup.{volumeOf}
 use Rattle.protocol.specs.Tables.{byVolume, withViews}
 use Rattle.protocol.specs.Leases.{clientAlive}
-use Rattle.protocol.specs.Ledger.{updated}
 use Rattle.protocol.specs.World.{World}
 use Rattle.protocol.specs.Soundness.Steps.{Ranges}
 use Rattle.protocol.specs.Safety.Invariant.{Inv, Sent, Stands, from, copyAt, Covered, ViewOk, Empty, Answers, Acknowledges, NamesHeld}

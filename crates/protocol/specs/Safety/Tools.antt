@@ -10,7 +10,7 @@ use mathlib.Core.Path.{_≡_, refl, sym, _∙_}
 use lib.Dec.{ltb, eqb}
 use lib.ListN.{length, getD, set, replicate, getD-replicate, List·getD-append}
 use lib.Seq.{getD-set-same, getD-set-other}
-use borrow.Author.Tests.{ltb-true, ltb-false, lt-ltb, le-ltb, eqb-true, eq-eqb, ne-eqb}
+use borrow.Author.Tests.{ltb-true, ltb-false, lt-ltb, le-ltb, eqb-true}
 use Rattle.laws.specs.Choice.{cond-keeps, not-both, and-true}
 use Rattle.laws.specs.Store.{set-at}
 use Rattle.laws.specs.Lists.{removeAt, length-removed}
@@ -23,7 +23,6 @@ use Rattle.protocol.specs.Messages.{blank, messageAt, pushed, removed, h
 use Rattle.protocol.specs.Tables.{byVolume, byObject, noCopy}
 use Rattle.protocol.specs.Leases.{serverAlive, clientAlive, endOver}
 use Rattle.protocol.specs.Client.{stands}
-use Rattle.protocol.specs.Ledger.{updated}
 use Rattle.protocol.specs.Soundness.Steps.{Ranges}
 use Rattle.protocol.specs.Safety.Invariant.{Sent, Stands, requestAt, copyAt}
 
@@ -165,14 +164,6 @@ unfolding stands
 stands-true requests d n e =
     let w = and-true (requestAt requests d .standing) (eqb (requestAt requests d .number) n) e in
     record { there = w .0; same = eqb-true _ _ (w .1) }
-
--- ---- a function after an update
-
-pub updated-same : {A : Type 0} (f : ℕ → A) (o : ℕ) (x : A) → updated f o x o ≡ x
-updated-same f o x = rw (eq-eqb o o refl)
-
-pub updated-other : {A : Type 0} (f : ℕ → A) (o k : ℕ) (x : A) → (k ≡ o → ⊥) → updated f o x k ≡ f k
-updated-other f o k x h = rw (ne-eqb k o h)
 
 -- ---- the message list
 
