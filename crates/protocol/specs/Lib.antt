@@ -1,4 +1,5 @@
 pub mod Setup
+pub mod Ranges
 pub mod Messages
 pub mod Tables
 pub mod Leases

@@ -20,7 +20,7 @@ use Rattle.protocol.specs.Writes.{latestEnd, opened, begun, posted, comp
 use Rattle.protocol.specs.Server.{serverRestarted}
 use Rattle.protocol.specs.Ledger.{accepted, completed as done, cutOff, none, write, isOpen, Ledger, emptyLedger, updated, book, bookAll, openCount}
 use Rattle.protocol.specs.Agreement.{standingWrite}
-use Rattle.protocol.specs.Soundness.Steps.{Ranges}
+use Rattle.protocol.specs.Ranges.{Ranges}
 use Rattle.protocol.specs.Soundness.Shape.{Shape}
 
 -- the ledger has what the tables have, and its tallies add up

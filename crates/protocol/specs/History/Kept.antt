@@ -25,7 +25,8 @@ use Rattle.protocol.specs.Decide.{taken}
 use Rattle.protocol.specs.World.{World, freshWorld, stepped, answerOf, ran, answers}
 use Rattle.protocol.specs.Ledger.{Event, accepted, shown, clocked, completing, deliveryStaged, readEvents, happening, accepts, events, none, isOpen, Ledger, openCount}
 use Rattle.protocol.specs.Agreement.{standingWrite}
-use Rattle.protocol.specs.Soundness.Steps.{accepted as answered-yes, Ranges, ranges, setup-in-range, copyOf, requestOf, by-kind, client-exists, object-exists, place-exists, queue-fits, none-stands}
+use Rattle.protocol.specs.Ranges.{Ranges, ranges}
+use Rattle.protocol.specs.Soundness.Steps.{accepted as answered-yes, setup-in-range, copyOf, requestOf, by-kind, client-exists, object-exists, place-exists, queue-fits, none-stands}
 use Rattle.protocol.specs.Soundness.Shape.{Shape, taken-shape}
 use Rattle.protocol.specs.Soundness.Bounds.{Bounded, named-at}
 use Rattle.protocol.specs.Soundness.Question.{SoundWorld, stepped-sound, fresh-sound}

@@ -24,7 +24,7 @@ use Rattle.protocol.specs.Tables.{byVolume, byObject, noCopy}
 use Rattle.protocol.specs.Leases.{serverAlive, clientAlive, endOver}
 use Rattle.protocol.specs.Client.{stands}
 use Rattle.protocol.specs.Ledger.{updated}
-use Rattle.protocol.specs.Soundness.Steps.{Ranges}
+use Rattle.protocol.specs.Ranges.{Ranges}
 use Rattle.protocol.specs.Safety.Invariant.{Sent, Stands, requestAt, copyAt}
 
 -- ---- an element of a table after a store: the new one at its place, the old ones elsewhere

@@ -32,7 +32,7 @@ use Rattle.protocol.specs.Server.{sent}
 use Rattle.protocol.specs.Sound.{clockLimit, messageSound}
 use Rattle.protocol.specs.Decide.{taken}
 use Rattle.protocol.specs.World.{World}
-use Rattle.protocol.specs.Soundness.Steps.{Ranges}
+use Rattle.protocol.specs.Ranges.{Ranges}
 
 -- "expiries, guards and latest ends at most 2,148,483,647"
 abbrev pub Timed : ℕ → Type 0

@@ -27,7 +27,8 @@ use Rattle.protocol.specs.Sound.{kindSound}
 use Rattle.protocol.specs.Decide.{performed, readDecided, askDecided, deliverDecided, restartDecided}
 use Rattle.protocol.specs.World.{World, freshWorld, stepped}
 use Rattle.protocol.specs.Ledger.{accepts}
-use Rattle.protocol.specs.Soundness.Steps.{Accepted, accepted, Ranges, ranges, setup-in-range, copyOf, requestOf, tables-after, copies-after, requests-after, refused-keeps, by-kind, client-exists, object-exists, clock-grows, version-grows, clock-performed, read-performed, ask-performed, write-performed, deliver-performed, lose-performed, double-performed, server-performed, client-performed}
+use Rattle.protocol.specs.Ranges.{Ranges, ranges}
+use Rattle.protocol.specs.Soundness.Steps.{Accepted, accepted, setup-in-range, copyOf, requestOf, tables-after, copies-after, requests-after, refused-keeps, by-kind, client-exists, object-exists, clock-grows, version-grows, clock-performed, read-performed, ask-performed, write-performed, deliver-performed, lose-performed, double-performed, server-performed, client-performed}
 use Rattle.protocol.specs.Soundness.Bounds.{Timed, Named, Bounded, CopyBounded, RequestBounded, WorldBounded, blank-named, sent-bounded, taken-bounded, named-at, clock-bounded, views-bounded, written-bounded, settled-bounded}
 use Rattle.protocol.specs.Soundness.Received.{received-bounded, server-bounded, client-bounded, ended-bounded}
 

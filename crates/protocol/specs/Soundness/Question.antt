@@ -24,7 +24,8 @@ use Rattle.protocol.specs.Answers.{isRefused}
 use Rattle.protocol.specs.Gate.{known, exists, timely, vacant, growable, refusalOfStep, refusal}
 use Rattle.protocol.specs.World.{World, freshWorld, stepped, answerOf, answers}
 use Rattle.protocol.specs.Ledger.{accepts}
-use Rattle.protocol.specs.Soundness.Steps.{Ranges, ranges, requestOf, recordsOf, refused-answer}
+use Rattle.protocol.specs.Ranges.{Ranges, ranges}
+use Rattle.protocol.specs.Soundness.Steps.{requestOf, recordsOf, refused-answer}
 use Rattle.protocol.specs.Soundness.Shape.{Shape, WorldShape, stepped-shape, fresh-shape}
 use Rattle.protocol.specs.Soundness.Bounds.{Timed, Started, Named, Bounded, CopyBounded, RequestBounded, WorldBounded}
 use Rattle.protocol.specs.Soundness.Kept.{stepped-bounded, fresh-bounded}

@@ -22,7 +22,7 @@ use Rattle.protocol.specs.Server.{noted, offered, volumeRenewed, objectR
 use Rattle.protocol.specs.Client.{viewed, ended, stands, grantTaken, forgotten, clientRestarted, asksFor}
 use Rattle.protocol.specs.Sound.{timeFits, kindSound}
 use Rattle.protocol.specs.Decide.{Received, grantReceived, invalidateReceived, offerReceived, received}
-use Rattle.protocol.specs.Soundness.Steps.{Ranges}
+use Rattle.protocol.specs.Ranges.{Ranges}
 use Rattle.protocol.specs.Soundness.Bounds.{Timed, Started, Named, ViewsBounded, Bounded, CopyBounded, RequestBounded, sent-bounded, views-bounded, settled-bounded, invalidation-named}
 
 module _ (s : Setup) (rs : Ranges s) where
