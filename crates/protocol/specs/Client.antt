@@ -1,6 +1,6 @@
 -- 01, "Steps" and "Messages received" of a client, and its restart.
 use Prim.Native.Nat.{ℕ, _+_, _-_}
-use mathlib.Core.Bool.{Bool, true, false, cond, not, _&&_, _||_}
+use mathlib.Core.Bool.{Bool, true, false, cond, not, _&&_}
 use mathlib.Core.List.{List}
 use lib.Dec.{eqb}
 use lib.ListN.{getD, set}
@@ -20,6 +20,7 @@ use Rattle.protocol.specs.declared.tables.Tables.{Tables}
 use Rattle.protocol.specs.Setup.{volumeOf}
 use Rattle.protocol.specs.Messages.{message}
 use Rattle.protocol.specs.Tables.{byVolume, viewEpochAt, viewExpiryAt, noCopy}
+use Rattle.protocol.specs.Updates.{withViewEpoch, withViewExpiry, setViewEpoch, setViewExpiry}
 use Rattle.protocol.specs.Leases.{clientAlive, clientClock}
 
 -- Step 2: "copy present and both leases alive"
@@ -46,7 +47,7 @@ stands r n = r .standing && eqb (r .number) n
 
 -- what the client knows of a volume
 abbrev pub viewed : Views → ℕ → ℕ → ℕ → ℕ → Views
-viewed w d v e x = record { epoch = set (w .epoch) (byVolume d v) e; expiry = set (w .expiry) (byVolume d v) x }
+viewed w d v e x = setViewExpiry (setViewEpoch w d v e) d v x
 
 -- ---- GRANT (number n, version w)
 
@@ -95,7 +96,7 @@ sweptAll s g first l = foldFrom (sweepAt s g first) l first (sweeps g (s .object
 
 -- Step 9: "only its next request number remains": what the client knows of each volume goes
 unfoldable pub clientRestarted : Setup → Views → ℕ → Views
-clientRestarted s w d = record {
-  epoch = storeEach always (byVolume d) (λ (v : ℕ). 0) (w .epoch) (s .volumes);
-  expiry = storeEach always (byVolume d) (λ (v : ℕ). 0) (w .expiry) (s .volumes);
-}
+clientRestarted s w d =
+    withViewExpiry
+    (withViewEpoch w (storeEach always (byVolume d) (λ (v : ℕ). 0) (w .epoch) (s .volumes)))
+    (storeEach always (byVolume d) (λ (v : ℕ). 0) (w .expiry) (s .volumes))

@@ -31,7 +31,8 @@ use Rattle.protocol.specs.Decide.{Received, uncounted, kept, answered, c
 use Rattle.protocol.specs.Ledger.{Event, accepted, cutOff, shown, clocked, completing, receiptStaged, deliveryStaged, readEvents, happening, Ledger, book, bookAll}
 use Rattle.protocol.specs.Ranges.{Ranges}
 use Rattle.protocol.specs.Soundness.Steps.{Accepted, by-kind, object-exists, place-exists, queue-fits, none-stands, clock-performed, read-performed, ask-performed, write-performed, deliver-performed, lose-performed, double-performed, server-performed, client-performed}
-use Rattle.protocol.specs.Soundness.Shape.{Shape, clock-shape, written-shape, taken-shape, acked-shape, dropped-shape}
+use Rattle.protocol.specs.Soundness.Shape.{Shape, clock-shape, taken-shape}
+use Rattle.protocol.specs.Soundness.ShapeKept.{written-shape, acked-shape, dropped-shape}
 use Rattle.protocol.specs.Soundness.Bounds.{Bounded, named-at}
 use Rattle.protocol.specs.Bookkeeping.Booked.{Booked, SameWrites, same-booked, begun-booked, cut-completes, restarted-booked}
 use Rattle.protocol.specs.Bookkeeping.Settled.{OpenEach, Settlement, StagedOn, settlingOf, settle, done-completes, ready-stands, due-stands}

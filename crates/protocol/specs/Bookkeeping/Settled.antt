@@ -21,7 +21,8 @@ use Rattle.protocol.specs.Leases.{guardPassed, endOver}
 use Rattle.protocol.specs.Writes.{Counted, waited, ready, due, posted, completed, Staged, completeIf, settled, settling, clockStaged}
 use Rattle.protocol.specs.Ledger.{completed as done, isOpen, Ledger, book, bookAll}
 use Rattle.protocol.specs.Ranges.{Ranges}
-use Rattle.protocol.specs.Soundness.Shape.{Shape, completed-shape}
+use Rattle.protocol.specs.Soundness.Shape.{Shape}
+use Rattle.protocol.specs.Soundness.ShapeKept.{completed-shape}
 use Rattle.protocol.specs.Bookkeeping.Booked.{Booked, SameWrites, same-booked, standing-opened, completed-booked}
 
 -- only standing writes pass the test
