@@ -46,10 +46,10 @@ module _ (s : Setup) (t : Tables) (e : tablesSound s t ≡ true) where
 
   -- "a version with a standing write below 4,294,967,295"
   sound-version : (o : ℕ) → o < s .objects → standingAt t o ≡ true → versionAt t o < 4294967295
-  sound-version o h k =
+  sound-version o h stands =
       let f = all-each (objectSound t) (s .objects) (asked .1) o h in
       let g = and-true (leb 1 (versionAt t o) && timeFits (objectExpiryAt t o)) (not (standingAt t o) || (timeFits (endAt t o) && canGrow (versionAt t o))) f .1 in
-      ltb-true (versionAt t o) 4294967295 (and-true (timeFits (endAt t o)) (canGrow (versionAt t o)) (rw k at g) .1)
+      ltb-true (versionAt t o) 4294967295 (and-true (timeFits (endAt t o)) (canGrow (versionAt t o)) (rw stands at g) .1)
 
   pub growing : Growing s (t .objects)
   growing = record { below = sound-version }

@@ -127,4 +127,4 @@ writeStaged s t o x = record { tables = written s t o x; test = ready s; from = 
 
 -- Step 1: "In object order, complete each standing write .."
 abbrev pub clockStaged : Setup → Tables → ℕ → Staged
-clockStaged s t x = record { tables = withClock t x; test = due s; from = 0; many = s .objects }
+clockStaged s t clock = record { tables = withClock t clock; test = due s; from = 0; many = s .objects }

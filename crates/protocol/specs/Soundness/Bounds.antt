@@ -1,5 +1,6 @@
 -- The bounds of question 1 as an invariant, in every slot of the tables, also those past the counts, and that each update of the tables keeps it. Each
 -- clause speaks of the part that it reads.
+-- x is a part of the tables, or a new clock; l is a new field, h and k say that bounds hold.
 use Prim.Native.Nat.{ℕ, _<_, _≤_, _*_}
 use native.Mathlib.Omega.{arith}
 use mathlib.Core.Bool.{Bool, true, false}

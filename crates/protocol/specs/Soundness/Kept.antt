@@ -33,7 +33,7 @@ use Rattle.protocol.specs.Soundness.Bounds.{Bounded, CopyBounded, Reques
 use Rattle.protocol.specs.Soundness.Written.{written-bounded, settled-bounded}
 use Rattle.protocol.specs.Soundness.Received.{Leaves, unchanged, received-bounded, server-bounded, client-bounded, ended-bounded}
 
-abbrev pub Decided : Setup → Copy → Request → Decision → Type 0
+abbrev Decided : Setup → Copy → Request → Decision → Type 0
 Decided s c r g = Leaves s c r (g .outcome .tables) (g .change)
 
 module _ (s : Setup) (rs : Ranges s) (t : Tables) (c : Copy) (r : Request) (h : Bounded s t) where

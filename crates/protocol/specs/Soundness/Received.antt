@@ -1,4 +1,6 @@
 -- The bounds of question 1 are kept by every message received and by the restarts.
+-- h says that tables, or a part of them, are within the bounds; d, v and o are client, volume and object, p and q say that these exist; n, e, w, x, y and a
+-- are a message's number, epoch, version, volume expiry, object expiry and payload; c and r are the copy and the request.
 use Prim.Native.Nat.{ℕ, _+_, _<_}
 use native.Mathlib.Omega.{arith}
 use mathlib.Core.Bool.{true, false, _&&_}
@@ -65,14 +67,14 @@ module _ (s : Setup) (rs : Ranges s) where
   unfolding renewed renewedBy
   renewed-bounded t d o n e w p q h =
       let v = volumeOf s o in
-      let u = noted t d n in
+      let t′ = noted t d n in
       let k = noted-bounded t d n h in
       cond-keeps (Bounded s) (stale t d n) (λ _. h) (λ _.
-      cond-keeps (Bounded s) (mustDrop u d v e)
-      (λ _. sent-bounded _ _ (both-true (lt-ltb d (s .clients) p) (lt-ltb v (s .volumes) (rs .within o q))) (offered-bounded u d v n k)) (λ _.
-      cond-keeps (Bounded s) (ltb (lowestWaited s u d v) (s .objects))
-      (λ b. sent-bounded _ _ (invalidation-named s u (lowestWaited s u d v) d (ltb-true _ _ b) p) k) (λ _.
-      cond-keeps (Bounded s) (beingWritten u o) (λ _. k) (λ _. granted-bounded u d o n w p q k))))
+      cond-keeps (Bounded s) (mustDrop t′ d v e)
+      (λ _. sent-bounded _ _ (both-true (lt-ltb d (s .clients) p) (lt-ltb v (s .volumes) (rs .within o q))) (offered-bounded t′ d v n k)) (λ _.
+      cond-keeps (Bounded s) (ltb (lowestWaited s t′ d v) (s .objects))
+      (λ b. sent-bounded _ _ (invalidation-named s t′ (lowestWaited s t′ d v) d (ltb-true _ _ b) p) k) (λ _.
+      cond-keeps (Bounded s) (beingWritten t′ o) (λ _. k) (λ _. granted-bounded t′ d o n w p q k))))
 
 -- ---- ACK and DROPPED
 acked-bounded : {s : Setup} (t : Tables) (d o : ℕ) → Bounded s t → Bounded s (acked t d o)
@@ -108,13 +110,13 @@ server-bounded s t h =
     (guard-bounded _ (search h)
     (epoch-bounded _ (each-store Started _ _ _ (t .volumes .epoch) _ (h .volumes .epoch) (λ v b. omega arith)) (h .volumes))) h)))
 
-pub client-bounded : (s : Setup) (w : Views) (d : ℕ) → ViewsBounded w → ViewsBounded (clientRestarted s w d)
+pub client-bounded : (s : Setup) (u : Views) (d : ℕ) → ViewsBounded u → ViewsBounded (clientRestarted s u d)
 unfolding clientRestarted
-client-bounded s w d h = view-expiry-bounded _ (each-store Timed _ _ _ (w .expiry) (s .volumes) (h .expiry) (λ v b. omega arith)) (view-epoch-bounded _ h)
+client-bounded s u d h = view-expiry-bounded _ (each-store Timed _ _ _ (u .expiry) (s .volumes) (h .expiry) (λ v b. omega arith)) (view-epoch-bounded _ h)
 
 -- ---- a client's receipts
-viewed-bounded : (w : Views) (d v e x : ℕ) → Timed x → ViewsBounded w → ViewsBounded (viewed w d v e x)
-viewed-bounded w d v e x k h = view-expiry-bounded _ (each-set Timed (w .expiry) (byVolume d v) x (h .expiry) k) (view-epoch-bounded _ h)
+viewed-bounded : (u : Views) (d v e x : ℕ) → Timed x → ViewsBounded u → ViewsBounded (viewed u d v e x)
+viewed-bounded u d v e x k h = view-expiry-bounded _ (each-set Timed (u .expiry) (byVolume d v) x (h .expiry) k) (view-epoch-bounded _ h)
 
 pub ended-bounded : {s : Setup} (r : Request) → RequestBounded s r → RequestBounded s (ended r)
 ended-bounded r h = record { next = h .next; object = λ e. not-both e refl }
@@ -123,7 +125,7 @@ forgotten-bounded : {s : Setup} (r : Request) (o : ℕ) → RequestBounded s r �
 unfolding forgotten
 forgotten-bounded {s} r o h = cond-keeps (RequestBounded s) (asksFor r o) (λ _. ended-bounded r h) (λ _. h)
 
--- the tables t and the change g that a receipt, or a step, makes of tables within the bounds, the copy c and the request r
+-- what a receipt or a step leaves: tables t within the bounds, and a change g that keeps the bounds of the copy c and the request r
 pub record Leaves (s : Setup) (c : Copy) (r : Request) (t : Tables) (g : Change) : Type 0 where
   pub tables : Bounded s t
   pub copy : CopyBounded c → CopyBounded (g .copy)
@@ -137,10 +139,10 @@ pub unchanged : {s : Setup} {c : Copy} {r : Request} {t : Tables} → Bounded s 
 unchanged h = record { tables = h; copy = λ b. b; request = λ b. b }
 
 module _ (s : Setup) (rs : Ranges s) (t : Tables) (c : Copy) (r : Request) (d : ℕ) (p : d < s .clients) (h : Bounded s t) where
-  grant-received : (o n x e w y : ℕ) (v : Payload) → Timed x → Timed y → Receipt s c r (grantReceived s t c r d o n x e w y v)
+  grant-received : (o n x e w y : ℕ) (a : Payload) → Timed x → Timed y → Receipt s c r (grantReceived s t c r d o n x e w y a)
   unfolding grantReceived
-  grant-received o n x e w y v j k =
-      cond-keeps (Receipt s c r) (grantTaken c r n w v)
+  grant-received o n x e w y a j k =
+      cond-keeps (Receipt s c r) (grantTaken c r n w a)
       (λ _. record {
         tables = views-bounded (viewed-bounded (t .views) d (volumeOf s o) e x j (h .views)) h;
         copy = λ _. k;
@@ -169,13 +171,13 @@ module _ (s : Setup) (rs : Ranges s) (t : Tables) (c : Copy) (r : Request) (d : 
       })
       (λ _. unchanged h)
 
-  pub received-bounded : (k : Kind) → kindSound s k ≡ true → Receipt s c r (received s t c r d k)
+  pub received-bounded : (kind : Kind) → kindSound s kind ≡ true → Receipt s c r (received s t c r d kind)
   unfolding received
   received-bounded (Renew o n e w) q = unchanged (renewed-bounded s rs t d o n e w p (ltb-true _ _ q) h)
-  received-bounded (Grant o n x e w y v) q =
-      let a = and-true (ltb o (s .objects) && timeFits x) (timeFits y) q in
-      let b = and-true (ltb o (s .objects)) (timeFits x) (a .0) in
-      grant-received o n x e w y v (leb-true _ _ (b .1)) (leb-true _ _ (a .1))
+  received-bounded (Grant o n x e w y a) q =
+      let f = and-true (ltb o (s .objects) && timeFits x) (timeFits y) q in
+      let g = and-true (ltb o (s .objects)) (timeFits x) (f .0) in
+      grant-received o n x e w y a (leb-true _ _ (g .1)) (leb-true _ _ (f .1))
   received-bounded (Invalidate o e w) q = invalidate-received o e w (ltb-true _ _ q)
   received-bounded (Ack o e w) q = unchanged (settled-bounded s _ (ack-bounded s t d o e w h))
   received-bounded (Offer v n e) q = offer-received v n e (ltb-true _ _ q)

@@ -1,4 +1,5 @@
 -- The lengths of all lists, and that each update of the tables keeps them. Each clause speaks of the part of the tables that it reads.
+-- x is a part of the tables, or a new clock; l is a new field, h and k say that lengths are right.
 use Prim.Native.Nat.{ℕ, _*_, _<_}
 use native.Mathlib.Omega.{arith}
 use mathlib.Core.Bool.{Bool}

@@ -1,10 +1,12 @@
 -- Every step keeps all lengths.
+-- h and k say that lengths are right; d, v and o are client, volume and object. In a rule, n, e, w and x are a message's number, epoch, version and expiry,
+-- or x is a value; for a step, c and r are the copy and the request, w is the world and x the step.
 use Prim.Native.Nat.{ℕ, _<_}
 use native.Mathlib.Omega.{arith}
 use mathlib.Core.Bool.{Bool, true, false}
 use mathlib.Core.List.{List}
 use mathlib.Core.Logic.{⊎-elim}
-use mathlib.Core.Path.{_≡_, refl, sym, _∙_}
+use mathlib.Core.Path.{_≡_, refl, _∙_}
 use lib.Dec.{ltb}
 use lib.ListN.{length, length-set}
 use Rattle.laws.specs.Choice.{cond-keeps, true-or-false}
@@ -61,7 +63,7 @@ completed-shape s t o h =
     (holders-shape (waiting-shape _ (simp length-store) (lease-shape _ (simp length-store) (h .holders)))
     (objects-shape (version-shape _ (simp length-set) (value-shape _ (simp length-set) (write-shape o false 0 0 (h .objects)))) h))
 
-pub settled-shape : (s : Setup) (g : Staged) → Shape (g .tables) → Shape (settled s g .tables)
+settled-shape : (s : Setup) (g : Staged) → Shape (g .tables) → Shape (settled s g .tables)
 unfolding settled
 settled-shape s g h =
     fold-keeps (λ (c : Counted). Shape (c .tables)) (completeIf (g .test) s)
@@ -87,16 +89,16 @@ unfolding objectRenewed
 object-renewed-shape s t d o h =
     objects-shape (object-expiry-shape _ (simp length-set) (h .objects)) (holders-shape (lease-shape _ (simp length-set) (h .holders)) h)
 
-pub renewed-shape : (s : Setup) (t : Tables) (d o n e w : ℕ) → Shape t → Shape (renewed s t d o n e w)
+renewed-shape : (s : Setup) (t : Tables) (d o n e w : ℕ) → Shape t → Shape (renewed s t d o n e w)
 unfolding renewed renewedBy granted
 renewed-shape s t d o n e w h =
     let v = volumeOf s o in
-    let u = noted t d n in
+    let t′ = noted t d n in
     let k = noted-shape t d n h in
     cond-keeps Shape (stale t d n) (λ _. h) (λ _.
-    cond-keeps Shape (mustDrop u d v e) (λ _. sent-shape _ _ (offered-shape u d v n k)) (λ _.
-    cond-keeps Shape (ltb (lowestWaited s u d v) (s .objects)) (λ _. sent-shape _ _ k) (λ _.
-    cond-keeps Shape (beingWritten u o) (λ _. k) (λ _. sent-shape _ _ (object-renewed-shape s _ d o (volume-renewed-shape s u d v k))))))
+    cond-keeps Shape (mustDrop t′ d v e) (λ _. sent-shape _ _ (offered-shape t′ d v n k)) (λ _.
+    cond-keeps Shape (ltb (lowestWaited s t′ d v) (s .objects)) (λ _. sent-shape _ _ k) (λ _.
+    cond-keeps Shape (beingWritten t′ o) (λ _. k) (λ _. sent-shape _ _ (object-renewed-shape s _ d o (volume-renewed-shape s t′ d v k))))))
 
 pub acked-shape : (t : Tables) (d o : ℕ) → Shape t → Shape (acked t d o)
 unfolding acked
@@ -128,10 +130,10 @@ server-shape s t h =
     (volumes-shape (guard-shape _ (cc) (epoch-shape _ (simp length-store) (h .volumes))) h)))
 
 -- ---- messages received by a client, and its restart
-viewed-shape : (w : Views) (d v e x : ℕ) → ViewsShape w → ViewsShape (viewed w d v e x)
-viewed-shape w d v e x h = view-expiry-shape _ (simp length-set) (view-epoch-shape _ (simp length-set) h)
+viewed-shape : (u : Views) (d v e x : ℕ) → ViewsShape u → ViewsShape (viewed u d v e x)
+viewed-shape u d v e x h = view-expiry-shape _ (simp length-set) (view-epoch-shape _ (simp length-set) h)
 
-pub received-shape : (s : Setup) (t : Tables) (c : Copy) (r : Request) (d : ℕ) (k : Kind) → Shape t → Shape (received s t c r d k .counted .tables)
+received-shape : (s : Setup) (t : Tables) (c : Copy) (r : Request) (d : ℕ) (kind : Kind) → Shape t → Shape (received s t c r d kind .counted .tables)
 unfolding received grantReceived invalidateReceived offerReceived
 received-shape s t c r d (Renew o n e w) h = renewed-shape s t d o n e w h
 received-shape s t c r d (Grant o n x e w y p) h =
@@ -144,9 +146,9 @@ received-shape s t c r d (Offer v n e) h =
     (λ _. sent-shape _ _ (views-shape (viewed-shape (t .views) d v e 0 (h .views)) h)) (λ _. h)
 received-shape s t c r d (Dropped v n e) h = settled-shape s _ (drop-shape s t d v n e h)
 
-client-shape : (s : Setup) (w : Views) (d : ℕ) → ViewsShape w → ViewsShape (clientRestarted s w d)
+client-shape : (s : Setup) (u : Views) (d : ℕ) → ViewsShape u → ViewsShape (clientRestarted s u d)
 unfolding clientRestarted
-client-shape s w d h = view-expiry-shape _ (simp length-store) (view-epoch-shape _ (simp length-store) h)
+client-shape s u d h = view-expiry-shape _ (simp length-store) (view-epoch-shape _ (simp length-store) h)
 
 -- ---- a step
 read-shape : (s : Setup) (t : Tables) (c : Copy) (r : Request) (d o : ℕ) → Shape t → Shape (readDecided s t c r d o .outcome .tables)
@@ -165,7 +167,7 @@ restart-shape : (s : Setup) (t : Tables) (c : Copy) (r : Request) (d : ℕ) → 
 unfolding restartDecided
 restart-shape s t c r d h = views-shape (client-shape s (t .views) d (h .views)) h
 
-pub performed-shape : (s : Setup) (t : Tables) (b : Bool) (c : Copy) (r : Request) (x : Step) → Accepted s t b r x → Shape t → Shape (performed s t c r x .outcome .tables)
+performed-shape : (s : Setup) (t : Tables) (b : Bool) (c : Copy) (r : Request) (x : Step) → Accepted s t b r x → Shape t → Shape (performed s t c r x .outcome .tables)
 performed-shape s t b c r x a h =
     by-kind (Shape (performed s t c r x .outcome .tables)) x (a .passes .knows)
     (λ e. rw (clock-performed s t c r x e) (settled-shape s _ (clock-shape t (x .clock) h)))

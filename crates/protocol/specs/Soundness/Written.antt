@@ -1,4 +1,5 @@
 -- Accepting a write and completing one keep the bounds of question 1.
+-- h says that they hold; o is the object of the write, k another one, d a client; x is the value, v says that the version can grow.
 use Prim.Native.Nat.{ℕ, _+_, _<_}
 use native.Mathlib.Omega.{arith}
 use mathlib.Core.Bool.{true, false}
