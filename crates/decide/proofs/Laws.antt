@@ -29,7 +29,7 @@ use Rattle.protocol.specs.Tables.{withViews, withQueue}
 use Rattle.protocol.specs.Writes.{Counted, settled, writeStaged, clockStaged}
 use Rattle.protocol.specs.Server.{renewed, ackStaged, dropStaged, serverRestarted}
 use Rattle.protocol.specs.Sound.{kindSound, timeFits, tablesSound}
-use Rattle.protocol.specs.SoundLaws.{ranged, volume-in}
+use Rattle.protocol.specs.Ranges.{ranges}
 use Rattle.protocol.specs.Soundness.Steps.{passed, step-passes, accepted-all, setup-in-range, tables-sound, client-exists, object-exists, place-exists, by-kind, clock-performed, read-performed, ask-performed, write-performed, deliver-performed, lose-performed, double-performed, server-performed, client-performed}
 use Rattle.protocol.specs.Gate.{isClock, isWrite, isRestartServer, refusalOfStep, refusal}
 use Rattle.protocol.specs.Answers.{completedAnswer}
@@ -57,19 +57,19 @@ module _ (s : Setup) (t : Tables) (x : Step) (g : Target) where
 -- bounds of a setup in range
 module _ (s : Setup) (e : inRange s ≡ true) where
   pub client-16 : (d : ℕ) → d < s .clients → d < 16
-  client-16 d h = let r = ranged s e in omega arith
+  client-16 d h = let r = ranges s e in omega arith
 
   pub object-32 : (o : ℕ) → o < s .objects → o < 32
-  object-32 o h = let r = ranged s e in omega arith
+  object-32 o h = let r = ranges s e in omega arith
 
   pub volume-8 : (v : ℕ) → v < s .volumes → v < 8
-  volume-8 v h = let r = ranged s e in omega arith
+  volume-8 v h = let r = ranges s e in omega arith
 
   pub volume-of-8 : (o : ℕ) → o < s .objects → volumeOf s o < 8
-  volume-of-8 o h = let r = ranged s e in let k = volume-in s e o h in omega arith
+  volume-of-8 o h = let r = ranges s e in let k = r .within o h in omega arith
 
   pub volumes-8 : s .volumes ≤ 8
-  volumes-8 = ranged s e .volumes
+  volumes-8 = ranges s e .volumes .1
 
 pub ruleset bounds = (client-16, object-32, volume-8, volume-of-8, volumes-8)
 

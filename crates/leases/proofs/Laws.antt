@@ -13,15 +13,15 @@ use Rattle.protocol.specs.declared.message.Queue.{Queue}
 use Rattle.protocol.specs.declared.message.Kind.the-variants.{Invalidate}
 use Rattle.protocol.specs.declared.setup.Setup.{Setup}
 use Rattle.protocol.specs.Setup.{inRange, volumeOf}
-use Rattle.protocol.specs.SoundLaws.{ranged, volume-in}
+use Rattle.protocol.specs.Ranges.{ranges}
 use Rattle.protocol.specs.Messages.{message, pushed}
 use Rattle.leases.specs.Parts.{Placed, waitingFor, notifyOne}
 
 pub placed : (s : Setup) (o : ℕ) → inRange s ≡ true → o < s .objects → Placed s o (volumeOf s o)
 placed s o e h =
-    let r = ranged s e in
-    let v = volume-in s e o h in
-    record { is = refl; exists = v; volume = omega arith; object = omega arith; clients = r .clients; objects = r .objects }
+    let r = ranges s e in
+    let v = r .within o h in
+    record { is = refl; exists = v; volume = omega arith; object = omega arith; clients = r .clients .1; objects = r .objects .1 }
 
 -- ---- INVALIDATEs sent
 

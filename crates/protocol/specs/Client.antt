@@ -1,6 +1,8 @@
 -- 01, "Steps" and "Messages received" of a client, and its restart.
+-- c is a copy, r the request and u the views of the client d; in a message n is the number, e the epoch, w the version, x the volume expiry, y the
+-- object expiry and p the payload.
 use Prim.Native.Nat.{ℕ, _+_, _-_}
-use mathlib.Core.Bool.{Bool, true, false, cond, not, _&&_, _||_}
+use mathlib.Core.Bool.{Bool, true, false, cond, not, _&&_}
 use mathlib.Core.List.{List}
 use lib.Dec.{eqb}
 use lib.ListN.{getD, set}
@@ -20,6 +22,7 @@ use Rattle.protocol.specs.declared.tables.Tables.{Tables}
 use Rattle.protocol.specs.Setup.{volumeOf}
 use Rattle.protocol.specs.Messages.{message}
 use Rattle.protocol.specs.Tables.{byVolume, viewEpochAt, viewExpiryAt, noCopy}
+use Rattle.protocol.specs.Updates.{withViewEpoch, withViewExpiry, setViewEpoch, setViewExpiry}
 use Rattle.protocol.specs.Leases.{clientAlive, clientClock}
 
 -- Step 2: "copy present and both leases alive"
@@ -46,14 +49,14 @@ stands r n = r .standing && eqb (r .number) n
 
 -- what the client knows of a volume
 abbrev pub viewed : Views → ℕ → ℕ → ℕ → ℕ → Views
-viewed w d v e x = record { epoch = set (w .epoch) (byVolume d v) e; expiry = set (w .expiry) (byVolume d v) x }
+viewed u d v e x = setViewExpiry (setViewEpoch u d v e) d v x
 
--- ---- GRANT (number n, version w)
+-- ---- GRANT
 
 -- whether what it says of the value can be stored: "Without a value and with another version held: nothing."
 abbrev pub storable : Copy → ℕ → Payload → Bool
 storable c w Same = eqb (c .version) w
-storable c w (Value x) = true
+storable c w (Value a) = true
 
 -- which GRANT is taken: "needs the standing number"
 unfoldable pub grantTaken : Copy → Request → ℕ → ℕ → Payload → Bool
@@ -61,7 +64,7 @@ grantTaken c r n w p = stands r n && storable c w p
 
 abbrev pub payloadOr : ℕ → Payload → ℕ
 payloadOr held Same = held
-payloadOr held (Value x) = x
+payloadOr held (Value a) = a
 
 -- "store its fields": version w and object expiry y
 abbrev pub filled : Copy → ℕ → ℕ → Payload → Copy
@@ -95,7 +98,7 @@ sweptAll s g first l = foldFrom (sweepAt s g first) l first (sweeps g (s .object
 
 -- Step 9: "only its next request number remains": what the client knows of each volume goes
 unfoldable pub clientRestarted : Setup → Views → ℕ → Views
-clientRestarted s w d = record {
-  epoch = storeEach always (byVolume d) (λ (v : ℕ). 0) (w .epoch) (s .volumes);
-  expiry = storeEach always (byVolume d) (λ (v : ℕ). 0) (w .expiry) (s .volumes);
-}
+clientRestarted s u d =
+    withViewExpiry
+    (withViewEpoch u (storeEach always (byVolume d) (λ (v : ℕ). 0) (u .epoch) (s .volumes)))
+    (storeEach always (byVolume d) (λ (v : ℕ). 0) (u .expiry) (s .volumes))

@@ -11,7 +11,7 @@ use Rattle.protocol.specs.World.{freshWorld, answers}
 use Rattle.protocol.specs.Agreement.{AgreesThroughout}
 use Rattle.protocol.specs.History.{HistoryAgrees}
 use Rattle.protocol.specs.History.Kept.{history-agrees}
-use Rattle.protocol.specs.Soundness.Steps.{ranges}
+use Rattle.protocol.specs.Ranges.{ranges}
 use Rattle.protocol.specs.Soundness.Question.{RefusedOne, question-one-never, question-one-always}
 use Rattle.protocol.specs.Bookkeeping.Agreed.{Invariant, agrees-throughout}
 use Rattle.protocol.specs.Safety.Invariant.{Inv}

@@ -1,6 +1,8 @@
 pub mod Setup
+pub mod Ranges
 pub mod Messages
 pub mod Tables
+pub mod Updates
 pub mod Leases
 pub mod Writes
 pub mod Server

@@ -2,7 +2,6 @@
 use Prim.Native.Nat.{ℕ, _+_}
 use mathlib.Core.Bool.{Bool, true, false, cond, not, _&&_, _||_}
 use lib.Dec.{ltb, leb, eqb}
-use lib.ListN.{set, replicate}
 use Rattle.laws.specs.Loop.{firstFrom}
 use Rattle.laws.specs.Store.{storeEach, always}
 use Rattle.protocol.specs.declared.message.Message.{Message}
@@ -12,12 +11,15 @@ use Rattle.protocol.specs.declared.message.Payload.{Payload}
 use Rattle.protocol.specs.declared.message.Payload.the-variants.{Same, Value}
 use Rattle.protocol.specs.declared.message.Kind.the-variants.{Grant, Offer}
 use Rattle.protocol.specs.declared.setup.Setup.{Setup}
+use Rattle.protocol.specs.declared.tables.Volumes.{Volumes}
+use Rattle.protocol.specs.declared.tables.Objects.{Objects}
 use Rattle.protocol.specs.declared.tables.Holders.{Holders}
 use Rattle.protocol.specs.declared.tables.Tables.{Tables}
 use Rattle.protocol.specs.Setup.{volumeOf}
 use Rattle.protocol.specs.Messages.{message, pushed}
-use Rattle.protocol.specs.Tables.{byVolume, byObject, epochAt, seenAt, unreachableAt, offerAt, valueAt, versionAt, standingAt, waitingAt, withVolumes, withSessions, withObjects, withHolders, withQueue, freshSessions, freshHolders}
-use Rattle.protocol.specs.Writes.{Staged, unstaged, invalidation, ready, marked}
+use Rattle.protocol.specs.Tables.{byObject, epochAt, seenAt, unreachableAt, offerAt, valueAt, versionAt, standingAt, waitingAt, withVolumes, withSessions, withObjects, withHolders, withQueue, freshSessions, freshObjects, freshHolders}
+use Rattle.protocol.specs.Updates.{withEpoch, withGuard, setVolumeExpiry, setSeen, setSessionExpiry, setUnreachable, setOffer, withValue, withVersion, setObjectExpiry, withLease, withWaiting, setLease, setWaiting}
+use Rattle.protocol.specs.Writes.{Staged, unstaged, invalidation, ready}
 
 -- one message sent
 abbrev pub sent : Tables → Message → Tables
@@ -32,21 +34,11 @@ replied t (Send m) = sent t m
 
 -- "Otherwise note it"
 unfoldable pub noted : Tables → ℕ → ℕ → Tables
-noted t d n = withSessions t (record {
-  seen = set (t .sessions .seen) d n;
-  expiry = t .sessions .expiry;
-  unreachable = t .sessions .unreachable;
-  offer = t .sessions .offer;
-})
+noted t d n = withSessions t (setSeen (t .sessions) d n)
 
 -- "mark unreachable, offer number := number"
 unfoldable pub offered : Tables → ℕ → ℕ → ℕ → Tables
-offered t d v n = withSessions t (record {
-  seen = t .sessions .seen;
-  expiry = t .sessions .expiry;
-  unreachable = marked (t .sessions .unreachable) d v;
-  offer = set (t .sessions .offer) (byVolume d v) n;
-})
+offered t d v n = withSessions t (setOffer (setUnreachable (t .sessions) d v true) d v n)
 
 -- ".. send OFFER"
 abbrev pub offering : Tables → ℕ → ℕ → ℕ → Message
@@ -63,28 +55,12 @@ lowestWaited s t d v = firstFrom (waitedIn s t d v) 0 (s .objects)
 -- "volume expiry and VE := clock + tv"
 unfoldable pub volumeRenewed : Setup → Tables → ℕ → ℕ → Tables
 volumeRenewed s t d v =
-    withVolumes
-    (withSessions t (record {
-      seen = t .sessions .seen;
-      expiry = set (t .sessions .expiry) (byVolume d v) (t .clock + s .tv);
-      unreachable = t .sessions .unreachable;
-      offer = t .sessions .offer;
-    }))
-    (record { epoch = t .volumes .epoch; expiry = set (t .volumes .expiry) v (t .clock + s .tv); guard = t .volumes .guard })
+    withVolumes (withSessions t (setSessionExpiry (t .sessions) d v (t .clock + s .tv))) (setVolumeExpiry (t .volumes) v (t .clock + s .tv))
 
 -- "object expiry and OE := clock + t"
 unfoldable pub objectRenewed : Setup → Tables → ℕ → ℕ → Tables
 objectRenewed s t d o =
-    withObjects
-    (withHolders t (record { lease = set (t .holders .lease) (byObject d o) (t .clock + s .t); waiting = t .holders .waiting }))
-    (record {
-      value = t .objects .value;
-      version = t .objects .version;
-      expiry = set (t .objects .expiry) o (t .clock + s .t);
-      standing = t .objects .standing;
-      pending = t .objects .pending;
-      end = t .objects .end;
-    })
+    withObjects (withHolders t (setLease (t .holders) d o (t .clock + s .t))) (setObjectExpiry (t .objects) o (t .clock + s .t))
 
 -- "with value unless versions are equal"
 abbrev pub payloadFor : Tables → ℕ → ℕ → Payload
@@ -129,7 +105,7 @@ ackTaken s t o e w = standingAt t o && (eqb e (epochAt t (volumeOf s o)) && eqb 
 
 -- "Clear that dash's object lease and its waiting"
 unfoldable pub acked : Tables → ℕ → ℕ → Tables
-acked t d o = withHolders t (record { lease = set (t .holders .lease) (byObject d o) 0; waiting = set (t .holders .waiting) (byObject d o) false })
+acked t d o = withHolders t (setWaiting (setLease (t .holders) d o 0) d o false)
 
 -- "complete if none waits and the clock is at or past guard"
 unfoldable pub ackStaged : Setup → Tables → ℕ → ℕ → ℕ → ℕ → Staged
@@ -146,22 +122,15 @@ ofVolume s v o = eqb (volumeOf s o) v
 
 -- what a DROPPED leaves of the client's object leases in the volume, and of its waiting there: none
 unfoldable pub disowned : Setup → Tables → ℕ → ℕ → Holders
-disowned s t d v = record {
-  lease = storeEach (ofVolume s v) (byObject d) (λ (o : ℕ). 0) (t .holders .lease) (s .objects);
-  waiting = storeEach (ofVolume s v) (byObject d) (λ (o : ℕ). false) (t .holders .waiting) (s .objects);
-}
+disowned s t d v =
+    withWaiting
+    (withLease (t .holders) (storeEach (ofVolume s v) (byObject d) (λ (o : ℕ). 0) (t .holders .lease) (s .objects)))
+    (storeEach (ofVolume s v) (byObject d) (λ (o : ℕ). false) (t .holders .waiting) (s .objects))
 
 -- "Clear the dash's leases in the volume, mark, offer and waiting there"
 unfoldable pub dropped : Setup → Tables → ℕ → ℕ → Tables
 dropped s t d v =
-    withHolders
-    (withSessions t (record {
-      seen = t .sessions .seen;
-      expiry = set (t .sessions .expiry) (byVolume d v) 0;
-      unreachable = set (t .sessions .unreachable) (byVolume d v) false;
-      offer = set (t .sessions .offer) (byVolume d v) 0;
-    }))
-    (disowned s t d v)
+    withHolders (withSessions t (setOffer (setUnreachable (setSessionExpiry (t .sessions) d v 0) d v false) d v 0)) (disowned s t d v)
 
 abbrev pub readyIn : Setup → ℕ → Tables → ℕ → Bool
 readyIn s v t o = ofVolume s v o && ready s t o
@@ -172,24 +141,16 @@ dropStaged s t d v n e =
     cond (dropTaken t d v n e) (record { tables = dropped s t d v; test = readyIn s v; from = 0; many = s .objects }) (unstaged t)
 
 -- ---- Step 8: "values, versions, VE remain; every epoch grows by 1; guard becomes VE; its other fields become fresh. Messages remain."
--- The slots past the counts: guard becomes VE there too, and epochs stay
+
+-- of the volumes: VE remains, "every epoch grows by 1; guard becomes VE". The slots past the counts: guard becomes VE there too, and epochs stay
+abbrev pub volumesRestarted : Setup → Tables → Volumes
+volumesRestarted s t =
+    withGuard (withEpoch (t .volumes) (storeEach always (λ (v : ℕ). v) (λ (v : ℕ). epochAt t v + 1) (t .volumes .epoch) (s .volumes))) (t .volumes .expiry)
+
+-- of the objects: "values, versions .. remain"
+abbrev pub objectsRestarted : Tables → Objects
+objectsRestarted t = withVersion (withValue freshObjects (t .objects .value)) (t .objects .version)
+
 unfoldable pub serverRestarted : Setup → Tables → Tables
 serverRestarted s t =
-    withHolders
-    (withObjects
-    (withSessions
-    (withVolumes t (record {
-      epoch = storeEach always (λ (v : ℕ). v) (λ (v : ℕ). epochAt t v + 1) (t .volumes .epoch) (s .volumes);
-      expiry = t .volumes .expiry;
-      guard = t .volumes .expiry;
-    }))
-    freshSessions)
-    (record {
-      value = t .objects .value;
-      version = t .objects .version;
-      expiry = replicate 32 0;
-      standing = replicate 32 false;
-      pending = replicate 32 0;
-      end = replicate 32 0;
-    }))
-    freshHolders
+    withHolders (withObjects (withSessions (withVolumes t (volumesRestarted s t)) freshSessions) (objectsRestarted t)) freshHolders

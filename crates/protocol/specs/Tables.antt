@@ -1,7 +1,7 @@
 -- 01, "Tables": where each field stands, one part of the tables replaced, and fresh tables.
 use Prim.Native.Nat.{ℕ, _+_, _*_}
-use mathlib.Core.Bool.{Bool, true, false}
-use lib.ListN.{getD, set, replicate}
+use mathlib.Core.Bool.{Bool, false}
+use lib.ListN.{getD, replicate}
 use Rattle.protocol.specs.declared.message.Queue.{Queue}
 use Rattle.protocol.specs.declared.records.Copy.{Copy}
 use Rattle.protocol.specs.declared.records.Request.{Request}

@@ -16,6 +16,7 @@ use Rattle.protocol.specs.declared.tables.Tables.{Tables}
 use Rattle.protocol.specs.Setup.{volumeOf}
 use Rattle.protocol.specs.Messages.{message, pushed}
 use Rattle.protocol.specs.Tables.{byVolume, byObject, epochAt, volumeExpiryAt, guardAt, sessionExpiryAt, unreachableAt, versionAt, objectExpiryAt, standingAt, pendingAt, endAt, leaseAt, waitingAt, withClock, withSessions, withObjects, withHolders, withQueue}
+use Rattle.protocol.specs.Updates.{withUnreachable, setValue, setVersion, setWrite, withLease, withWaiting}
 use Rattle.protocol.specs.Leases.{serverAlive, guardPassed, endOver}
 
 -- Step 4: "Waiting are the dashes whose object lease is alive and which either are not marked unreachable or have a live volume lease."
@@ -30,20 +31,10 @@ latestEnd s t o = max (max (t .clock + s .m) (min (volumeExpiryAt t (volumeOf s 
 
 -- the write of x stands, with its latest end and its waiting clients
 unfoldable pub opened : Setup → Tables → ℕ → ℕ → Objects
-opened s t o x = record {
-  value = t .objects .value;
-  version = t .objects .version;
-  expiry = t .objects .expiry;
-  standing = set (t .objects .standing) o true;
-  pending = set (t .objects .pending) o x;
-  end = set (t .objects .end) o (latestEnd s t o);
-}
+opened s t o x = setWrite (t .objects) o true x (latestEnd s t o)
 
 unfoldable pub awaited : Setup → Tables → ℕ → Holders
-awaited s t o = record {
-  lease = t .holders .lease;
-  waiting = storeEach always (λ (d : ℕ). byObject d o) (waits s t o) (t .holders .waiting) (s .clients);
-}
+awaited s t o = withWaiting (t .holders) (storeEach always (λ (d : ℕ). byObject d o) (waits s t o) (t .holders .waiting) (s .clients))
 
 abbrev pub begun : Setup → Tables → ℕ → ℕ → Tables
 begun s t o x = withHolders (withObjects t (opened s t o x)) (awaited s t o)
@@ -80,30 +71,18 @@ abbrev pub markIfWaiting : Setup → Tables → ℕ → List Bool → ℕ → Li
 markIfWaiting s t o l d = cond (waitingAt t d o) (marked l d (volumeOf s o)) l
 
 unfoldable pub deserted : Setup → Tables → ℕ → Sessions
-deserted s t o = record {
-  seen = t .sessions .seen;
-  expiry = t .sessions .expiry;
-  unreachable = foldFrom (markIfWaiting s t o) (t .sessions .unreachable) 0 (s .clients);
-  offer = t .sessions .offer;
-}
+deserted s t o = withUnreachable (t .sessions) (foldFrom (markIfWaiting s t o) (t .sessions .unreachable) 0 (s .clients))
 
 -- "stores the value, adds 1 to the version, .. and ends the standing write"; OE stays
 unfoldable pub posted : Tables → ℕ → Objects
-posted t o = record {
-  value = set (t .objects .value) o (pendingAt t o);
-  version = set (t .objects .version) o (versionAt t o + 1);
-  expiry = t .objects .expiry;
-  standing = set (t .objects .standing) o false;
-  pending = set (t .objects .pending) o 0;
-  end = set (t .objects .end) o 0;
-}
+posted t o = setVersion (setValue (setWrite (t .objects) o false 0 0) o (pendingAt t o)) o (versionAt t o + 1)
 
 -- "clears every dash's server lease on that object"; nobody is waited for any more
 unfoldable pub released : Setup → Tables → ℕ → Holders
-released s t o = record {
-  lease = storeEach always (λ (d : ℕ). byObject d o) (λ (d : ℕ). 0) (t .holders .lease) (s .clients);
-  waiting = storeEach always (λ (d : ℕ). byObject d o) (λ (d : ℕ). false) (t .holders .waiting) (s .clients);
-}
+released s t o =
+    withWaiting
+    (withLease (t .holders) (storeEach always (λ (d : ℕ). byObject d o) (λ (d : ℕ). 0) (t .holders .lease) (s .clients)))
+    (storeEach always (λ (d : ℕ). byObject d o) (λ (d : ℕ). false) (t .holders .waiting) (s .clients))
 
 -- "Completing stores the value, adds 1 to the version, marks still waiting dashes unreachable, clears every dash's server lease on that object and ends the standing write."
 unfoldable pub completed : Setup → Tables → ℕ → Tables
@@ -148,4 +127,4 @@ writeStaged s t o x = record { tables = written s t o x; test = ready s; from = 
 
 -- Step 1: "In object order, complete each standing write .."
 abbrev pub clockStaged : Setup → Tables → ℕ → Staged
-clockStaged s t x = record { tables = withClock t x; test = due s; from = 0; many = s .objects }
+clockStaged s t clock = record { tables = withClock t clock; test = due s; from = 0; many = s .objects }

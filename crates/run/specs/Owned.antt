@@ -27,7 +27,7 @@ use Rattle.protocol.specs.Client.{sweeps, sweepAt, sweptAll}
 use Rattle.protocol.specs.Gate.{isDeliver, refusalOfStep, refusal}
 use Rattle.protocol.specs.Decide.{kept, answered, decidedBy, decided}
 use Rattle.protocol.specs.World.{World, target, decision, copiesAfter, requestsAfter, stepped, answerOf}
-use Rattle.protocol.specs.Soundness.Steps.{Ranges, ranges}
+use Rattle.protocol.specs.Ranges.{Ranges, ranges}
 use Rattle.protocol.specs.Soundness.Question.{SoundWorld, sounds, stepped-sound}
 
 -- how many copies there are

@@ -22,7 +22,7 @@ use Rattle.protocol.specs.Tables.{noCopy, noRequest, freshRequest, freshTables}
 use Rattle.protocol.specs.Answers.{answerValue}
 use Rattle.protocol.specs.Decide.{kept, answered}
 use Rattle.protocol.specs.World.{World, freshWorld, target, ran, answers}
-use Rattle.protocol.specs.Soundness.Steps.{ranges}
+use Rattle.protocol.specs.Ranges.{ranges}
 use Rattle.protocol.specs.Soundness.Question.{fresh-sound}
 use Rattle.runfile.specs.File.{placeOf, stepIn, stepAt}
 use Rattle.runfile.specs.Steps.{stepsFrom}

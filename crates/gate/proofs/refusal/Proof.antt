@@ -1,6 +1,6 @@
 use borrow.Author.Needs.{needs}
 use Rattle.gate.proofs.Laws.{refusal-ranged, refusal-unranged}
-use Rattle.protocol.specs.SoundLaws.{ranged}
+use Rattle.protocol.specs.Ranges.{ranges}
 use mathlib.Core.Path.{sym, _∙_}
 use Rattle.gate.proofs.refusal.Statement.{statement}
 use Rattle.gate.proofs.refusal.Tie as tie
@@ -9,10 +9,10 @@ in-range-requires : tie.Need-in-range-requires
 in-range-requires c κs = search needs
 
 tables-sound-requires : tie.Need-tables-sound-requires
-tables-sound-requires c κs = let k = ranged _ (sym (c .before .in-range .ensures) ∙ c .if1 .taken) in search needs
+tables-sound-requires c κs = let k = ranges _ (sym (c .before .in-range .ensures) ∙ c .if1 .taken) in search needs
 
 refusal-of-step-requires : tie.Need-refusal-of-step-requires
-refusal-of-step-requires c κs = let k = ranged _ (sym (c .before .before .before .before .before .in-range .ensures) ∙ c .before .before .before .before .if1 .taken) in search needs
+refusal-of-step-requires c κs = let k = ranges _ (sym (c .before .before .before .before .before .in-range .ensures) ∙ c .before .before .before .before .if1 .taken) in search needs
 
 or-refuse-requires : tie.Need-or-refuse-requires
 or-refuse-requires c κs = search needs

@@ -22,9 +22,10 @@ use Rattle.protocol.specs.Tables.{standingAt, endAt}
 use Rattle.protocol.specs.Leases.{guardPassed, endOver}
 use Rattle.protocol.specs.Writes.{Counted, waited, ready, due, posted, completed, Staged, completeIf, settled, settling, clockStaged}
 use Rattle.protocol.specs.Ledger.{completion, settlingOf, isOpen, Ledger, book, bookAll}
-use Rattle.protocol.specs.Soundness.Steps.{Ranges}
-use Rattle.protocol.specs.Soundness.Shape.{Shape, completed-shape}
+use Rattle.protocol.specs.Soundness.Shape.{Shape}
 use Rattle.protocol.specs.Bookkeeping.Booked.{Booked, SameWrites, same-booked, standing-open, completed-booked}
+use Rattle.protocol.specs.Ranges.{Ranges}
+use Rattle.protocol.specs.Soundness.ShapeKept.{completed-shape}
 
 -- only standing writes pass the test
 abbrev pub OnlyStanding : (Tables → ℕ → Bool) → Type 0

@@ -22,7 +22,7 @@ use Rattle.protocol.specs.Answers.{reported}
 use Rattle.protocol.specs.World.{World, freshWorld, stepped, answerOf, ran, answers}
 use Rattle.protocol.specs.Ledger.{Event, acceptance, clockStep, settlingOf, completions, deliveryStaged, readEvents, happening, accepts, events, none, Ledger}
 use Rattle.protocol.specs.Agreement.{standingWrite}
-use Rattle.protocol.specs.Soundness.Steps.{accepted, Ranges, ranges, setup-in-range, copyOf, requestOf, by-kind, client-exists, object-exists, place-exists, queue-fits, none-stands}
+use Rattle.protocol.specs.Soundness.Steps.{accepted, setup-in-range, copyOf, requestOf, by-kind, client-exists, object-exists, place-exists, queue-fits, none-stands}
 use Rattle.protocol.specs.Soundness.Shape.{Shape}
 use Rattle.protocol.specs.Soundness.Bounds.{Bounded}
 use Rattle.protocol.specs.Soundness.Question.{SoundWorld, stepped-sound, fresh-sound}
@@ -35,6 +35,7 @@ use Rattle.protocol.specs.Bookkeeping.Agreed.{Invariant, ReadsCurrent, o
 use Rattle.protocol.specs.History.{told, historyFrom, history, lastCompleted, openIn, howOften, isCompletion, reportedIn, AddsUp, HistoryAgrees}
 use Rattle.protocol.specs.History.Showings.{showings-told}
 use Rattle.protocol.specs.History.Lawful.{LawfulAll, ledgerOf, ledger-told, told-append, ledger-open, ledger-posted, ledger-tallies, open-counted, completions-lawful, shows-last, ends-in-time}
+use Rattle.protocol.specs.Ranges.{Ranges, ranges}
 
 module _ (s : Setup) (rs : Ranges s) (t : Tables) (k : Shape t) (b : Bounded s t) (past : List Event) (h : Booked s t (ledgerOf s past)) (a : LawfulAll s past) where
   clock-lawful : (T : ℕ) → LawfulAll s (told (completions s (clockStaged s t T) ++ (clockStep T ∷ [])) past)

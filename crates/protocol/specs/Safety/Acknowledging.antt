@@ -19,7 +19,7 @@ use Rattle.protocol.specs.Tables.{byVolume, byObject, epochAt, versionAt
 use Rattle.protocol.specs.Leases.{serverAlive}
 use Rattle.protocol.specs.Server.{ackTaken, acked}
 use Rattle.protocol.specs.World.{World}
-use Rattle.protocol.specs.Soundness.Steps.{Ranges}
+use Rattle.protocol.specs.Ranges.{Ranges}
 use Rattle.protocol.specs.Soundness.Shape.{Shape}
 use Rattle.protocol.specs.Safety.Invariant.{Inv, Sent, Stands, from, copyAt, Covered, Acknowledges}
 use Rattle.protocol.specs.Safety.Tools.{object-set, zero-dead, client-fits, object-fits}

@@ -11,7 +11,7 @@ use Rattle.protocol.specs.Tables.{byVolume}
 use Rattle.protocol.specs.Server.{sent}
 use Rattle.protocol.specs.Client.{numbered, renewal}
 use Rattle.protocol.specs.World.{World}
-use Rattle.protocol.specs.Soundness.Steps.{Ranges}
+use Rattle.protocol.specs.Ranges.{Ranges}
 use Rattle.protocol.specs.Soundness.Shape.{WorldShape}
 use Rattle.protocol.specs.Safety.Invariant.{Inv, copyAt, requestAt}
 use Rattle.protocol.specs.Safety.Tools.{sent-pushed}

@@ -17,8 +17,9 @@ use Rattle.protocol.specs.Tables.{epochAt, guardAt, sessionExpiryAt, unr
 use Rattle.protocol.specs.Leases.{serverAlive}
 use Rattle.protocol.specs.Writes.{waits, latestEnd, opened, awaited, begun, invalidation, notify, notified, written}
 use Rattle.protocol.specs.World.{World}
-use Rattle.protocol.specs.Soundness.Steps.{Ranges}
-use Rattle.protocol.specs.Soundness.Shape.{Shape, sent-shape, begun-shape}
+use Rattle.protocol.specs.Ranges.{Ranges}
+use Rattle.protocol.specs.Soundness.Shape.{Shape, sent-shape}
+use Rattle.protocol.specs.Soundness.ShapeKept.{begun-shape}
 use Rattle.protocol.specs.Safety.Invariant.{InvalidateOk, Acknowledges, Inv}
 use Rattle.protocol.specs.Safety.Tools.{sent-pushed}
 use Rattle.protocol.specs.Safety.Replaced.{withTables, Replaced, here-at, here-for, set-replaced, store-replaced}

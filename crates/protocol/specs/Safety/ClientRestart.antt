@@ -12,7 +12,7 @@ use Rattle.protocol.specs.declared.step.Sweep.the-variants.{Erase}
 use Rattle.protocol.specs.Tables.{byVolume, withViews, noCopy}
 use Rattle.protocol.specs.Client.{ended, swept, sweptAll, clientRestarted}
 use Rattle.protocol.specs.World.{World}
-use Rattle.protocol.specs.Soundness.Steps.{Ranges}
+use Rattle.protocol.specs.Ranges.{Ranges}
 use Rattle.protocol.specs.Soundness.Shape.{WorldShape}
 use Rattle.protocol.specs.Safety.Invariant.{Inv, copyAt, requestAt}
 use Rattle.protocol.specs.Safety.Tools.{volume-fits}

@@ -17,7 +17,7 @@ use Rattle.protocol.specs.Tables.{epochAt, guardAt, sessionExpiryAt, unr
 use Rattle.protocol.specs.Leases.{serverAlive, clientAlive, endOver}
 use Rattle.protocol.specs.Writes.{posted, released, deserted, completed}
 use Rattle.protocol.specs.World.{World}
-use Rattle.protocol.specs.Soundness.Steps.{Ranges}
+use Rattle.protocol.specs.Ranges.{Ranges}
 use Rattle.protocol.specs.Soundness.Shape.{Shape, ObjectsShape, HoldersShape}
 use Rattle.protocol.specs.Safety.Invariant.{ViewOk, PayloadOk, InvalidateOk, Acknowledges, Inv}
 use Rattle.protocol.specs.Safety.Tools.{client-server, longer-alive, over-dead}

@@ -19,8 +19,9 @@ use Rattle.protocol.specs.Server.{ackTaken, ackStaged, dropTaken, dropSt
 use Rattle.protocol.specs.Client.{stands, storable, grantTaken, ended, sweptAll}
 use Rattle.protocol.specs.Decide.{Received, taken, grantReceived, invalidateReceived, offerReceived, received}
 use Rattle.protocol.specs.World.{World}
-use Rattle.protocol.specs.Soundness.Steps.{Ranges}
-use Rattle.protocol.specs.Soundness.Shape.{WorldShape, taken-shape, ack-shape, drop-shape}
+use Rattle.protocol.specs.Ranges.{Ranges}
+use Rattle.protocol.specs.Soundness.Shape.{WorldShape, taken-shape}
+use Rattle.protocol.specs.Soundness.ShapeKept.{ack-shape, drop-shape}
 use Rattle.protocol.specs.Safety.Invariant.{Inv, Sent, from, copyAt, requestAt}
 use Rattle.protocol.specs.Safety.Tools.{stands-true, sent-removed}
 use Rattle.protocol.specs.Safety.Replaced.{withTables}

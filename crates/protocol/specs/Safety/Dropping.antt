@@ -18,7 +18,7 @@ use Rattle.protocol.specs.Tables.{byVolume, byObject, epochAt, offerAt}
 use Rattle.protocol.specs.Leases.{serverAlive, clientAlive}
 use Rattle.protocol.specs.Server.{dropTaken, ofVolume, disowned, dropped}
 use Rattle.protocol.specs.World.{World}
-use Rattle.protocol.specs.Soundness.Steps.{Ranges}
+use Rattle.protocol.specs.Ranges.{Ranges}
 use Rattle.protocol.specs.Soundness.Shape.{Shape}
 use Rattle.protocol.specs.Safety.Invariant.{Inv, copyAt, Covered, Answers}
 use Rattle.protocol.specs.Safety.Tools.{volume-set, zero-dead, client-fits, object-fits, volume-fits}

@@ -12,7 +12,7 @@ use Rattle.protocol.specs.declared.setup.Setup.{Setup}
 use Rattle.protocol.specs.Messages.{emptyQueue}
 use Rattle.protocol.specs.Tables.{byVolume, noCopy, noRequest, freshRequest, freshTables}
 use Rattle.protocol.specs.World.{freshWorld}
-use Rattle.protocol.specs.Soundness.Steps.{Ranges}
+use Rattle.protocol.specs.Ranges.{Ranges}
 use Rattle.protocol.specs.Safety.Invariant.{Inv, Sent, copyAt, requestAt}
 use Rattle.protocol.specs.Safety.Tools.{row-below, nothing-stands, object-fits, volume-fits, zero-holder, zero-session}
 use Rattle.protocol.specs.Safety.Taking.{covered-empty}

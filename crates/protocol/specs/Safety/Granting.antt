@@ -17,7 +17,7 @@ use Rattle.protocol.specs.Setup.{volumeOf}
 use Rattle.protocol.specs.Tables.{byVolume, withViews}
 use Rattle.protocol.specs.Client.{ended, viewed, filled, payloadOr}
 use Rattle.protocol.specs.World.{World}
-use Rattle.protocol.specs.Soundness.Steps.{Ranges}
+use Rattle.protocol.specs.Ranges.{Ranges}
 use Rattle.protocol.specs.Soundness.Shape.{WorldShape}
 use Rattle.protocol.specs.Safety.Invariant.{Inv, Sent, Stands, from, copyAt, requestAt, Answers, Acknowledges, NamesHeld, PayloadOk}
 use Rattle.protocol.specs.Safety.Tools.{volume-at, volume-off, copy-at, copy-off, client-fits, volume-fits}

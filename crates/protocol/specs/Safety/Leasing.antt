@@ -19,7 +19,7 @@ use Rattle.protocol.specs.Tables.{byVolume, byObject, epochAt, seenAt, u
 use Rattle.protocol.specs.Leases.{serverAlive, clientAlive}
 use Rattle.protocol.specs.Server.{volumeRenewed, objectRenewed, payloadFor, granting, granted}
 use Rattle.protocol.specs.World.{World}
-use Rattle.protocol.specs.Soundness.Steps.{Ranges}
+use Rattle.protocol.specs.Ranges.{Ranges}
 use Rattle.protocol.specs.Soundness.Shape.{Shape}
 use Rattle.protocol.specs.Safety.Invariant.{Inv, Stands, copyAt, Covered, PayloadOk, NamesHeld}
 use Rattle.protocol.specs.Safety.Tools.{volume-set, object-set, volume-at, object-at, object-off, sent-pushed, client-fits, object-fits, volume-fits}

@@ -15,7 +15,7 @@ use Rattle.protocol.specs.Setup.{volumeOf}
 use Rattle.protocol.specs.Tables.{byVolume, unreachableAt, waitingAt, withSessions}
 use Rattle.protocol.specs.Writes.{markIfWaiting, deserted}
 use Rattle.protocol.specs.World.{World}
-use Rattle.protocol.specs.Soundness.Steps.{Ranges}
+use Rattle.protocol.specs.Ranges.{Ranges}
 use Rattle.protocol.specs.Safety.Invariant.{Covered, Inv}
 use Rattle.protocol.specs.Safety.Replaced.{withTables}
 

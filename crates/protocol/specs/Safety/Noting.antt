@@ -12,7 +12,7 @@ use Rattle.protocol.specs.Setup.{volumeOf}
 use Rattle.protocol.specs.Tables.{byVolume, seenAt, unreachableAt, offerAt, withSessions}
 use Rattle.protocol.specs.Server.{noted}
 use Rattle.protocol.specs.World.{World}
-use Rattle.protocol.specs.Soundness.Steps.{Ranges}
+use Rattle.protocol.specs.Ranges.{Ranges}
 use Rattle.protocol.specs.Safety.Invariant.{Inv, Stands, requestAt, Header}
 use Rattle.protocol.specs.Safety.Tools.{volume-set, volume-fits}
 use Rattle.protocol.specs.Safety.Replaced.{withTables}

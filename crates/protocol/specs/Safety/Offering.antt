@@ -19,7 +19,7 @@ use Rattle.protocol.specs.Leases.{clientAlive}
 use Rattle.protocol.specs.Server.{sent}
 use Rattle.protocol.specs.Client.{ended, viewed, swept, sweptAll}
 use Rattle.protocol.specs.World.{World}
-use Rattle.protocol.specs.Soundness.Steps.{Ranges}
+use Rattle.protocol.specs.Ranges.{Ranges}
 use Rattle.protocol.specs.Soundness.Shape.{WorldShape}
 use Rattle.protocol.specs.Safety.Invariant.{Inv, from, copyAt, requestAt, Empty}
 use Rattle.protocol.specs.Safety.Tools.{volume-at, volume-off, zero-dead-client, sent-pushed, client-fits, volume-fits}

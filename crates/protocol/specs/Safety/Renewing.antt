@@ -19,7 +19,7 @@ use Rattle.protocol.specs.Tables.{byVolume, epochAt, seenAt, unreachable
 use Rattle.protocol.specs.Writes.{marked, invalidation}
 use Rattle.protocol.specs.Server.{sent, noted, offered, offering, waitedIn, lowestWaited, mustDrop, granted, renewedBy, renewed, stale, beingWritten}
 use Rattle.protocol.specs.World.{World}
-use Rattle.protocol.specs.Soundness.Steps.{Ranges}
+use Rattle.protocol.specs.Ranges.{Ranges}
 use Rattle.protocol.specs.Soundness.Shape.{Shape, SessionsShape}
 use Rattle.protocol.specs.Safety.Invariant.{Inv}
 use Rattle.protocol.specs.Safety.Tools.{volume-set, volume-at, sent-pushed, client-fits}

@@ -13,7 +13,7 @@ use Rattle.protocol.specs.Setup.{volumeOf}
 use Rattle.protocol.specs.Tables.{byVolume, epochAt}
 use Rattle.protocol.specs.Server.{serverRestarted}
 use Rattle.protocol.specs.World.{World}
-use Rattle.protocol.specs.Soundness.Steps.{Ranges}
+use Rattle.protocol.specs.Ranges.{Ranges}
 use Rattle.protocol.specs.Soundness.Shape.{Shape}
 use Rattle.protocol.specs.Safety.Invariant.{Inv, Covered, Header, InvalidateOk}
 use Rattle.protocol.specs.Safety.Tools.{nothing-stands, zero-holder, zero-session}

@@ -14,8 +14,9 @@ use Rattle.protocol.specs.Leases.{guardPassed, endOver}
 use Rattle.protocol.specs.Writes.{Counted, Staged, waited, ready, due, completeIf, settled}
 use Rattle.protocol.specs.Server.{readyIn, ofVolume}
 use Rattle.protocol.specs.World.{World}
-use Rattle.protocol.specs.Soundness.Steps.{Ranges}
-use Rattle.protocol.specs.Soundness.Shape.{Shape, completed-shape}
+use Rattle.protocol.specs.Ranges.{Ranges}
+use Rattle.protocol.specs.Soundness.Shape.{Shape}
+use Rattle.protocol.specs.Soundness.ShapeKept.{completed-shape}
 use Rattle.protocol.specs.Safety.Invariant.{Inv}
 use Rattle.protocol.specs.Safety.Replaced.{withTables}
 use Rattle.protocol.specs.Safety.Completing.{Completes, completed-keeps}

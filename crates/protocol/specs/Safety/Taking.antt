@@ -17,7 +17,7 @@ use Rattle.protocol.specs.Setup.{volumeOf}
 use Rattle.protocol.specs.Tables.{byVolume, withViews}
 use Rattle.protocol.specs.Leases.{clientAlive}
 use Rattle.protocol.specs.World.{World}
-use Rattle.protocol.specs.Soundness.Steps.{Ranges}
+use Rattle.protocol.specs.Ranges.{Ranges}
 use Rattle.protocol.specs.Safety.Invariant.{Inv, Sent, Stands, from, copyAt, Covered, ViewOk, Empty, Answers, Acknowledges, NamesHeld}
 
 -- ---- a view is covered by what it says, not by how

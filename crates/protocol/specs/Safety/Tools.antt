@@ -23,8 +23,8 @@ use Rattle.protocol.specs.Messages.{blank, messageAt, pushed, removed, h
 use Rattle.protocol.specs.Tables.{byVolume, byObject, noCopy}
 use Rattle.protocol.specs.Leases.{serverAlive, clientAlive, endOver}
 use Rattle.protocol.specs.Client.{stands}
-use Rattle.protocol.specs.Soundness.Steps.{Ranges}
 use Rattle.protocol.specs.Safety.Invariant.{Sent, Stands, requestAt, copyAt}
+use Rattle.protocol.specs.Ranges.{Ranges}
 
 -- ---- an element of a table after a store: the new one at its place, the old ones elsewhere
 

@@ -1,18 +1,16 @@
--- The bounds of question 1 as an invariant, in every slot of the tables, also those past the counts. Each clause speaks of the part that it reads;
--- here the small changes of tables that keep it.
-use Prim.Native.Nat.{ℕ, _+_, _<_, _≤_}
+-- The bounds of question 1 as an invariant, in every slot of the tables, also those past the counts, and that each update of the tables keeps it. Each
+-- clause speaks of the part that it reads.
+-- x is a part of the tables, or a new clock; l is a new field, h and k say that bounds hold.
+use Prim.Native.Nat.{ℕ, _<_, _≤_, _*_}
 use native.Mathlib.Omega.{arith}
-use mathlib.Core.Bool.{true, false}
-use mathlib.Core.Logic.{⊎-elim}
-use mathlib.Core.Path.{_≡_, sym, _∙_}
-use lib.Dec.{ltb}
+use mathlib.Core.Bool.{Bool, true, false}
+use mathlib.Core.List.{List}
+use mathlib.Core.Path.{_≡_, refl}
 use lib.ListN.{getD, set}
-use lib.Seq.{getD-set-other}
 use borrow.Author.Tests.{ltb-true, lt-ltb}
-use Rattle.laws.specs.Choice.{cond-keeps, same?, both-true, not-both}
-use Rattle.laws.specs.Loop.{fold-keeps, fold-keeps-in}
+use Rattle.laws.specs.Choice.{cond-keeps, both-true, not-both}
 use Rattle.laws.specs.Lists.{All, removeAt, all-snoc, all-remove}
-use Rattle.laws.specs.Each.{each-set, each-getD, each-store, cleared}
+use Rattle.laws.specs.Each.{each-set, each-getD, each-replicate, replicate-at}
 use Rattle.protocol.specs.declared.message.Message.{Message}
 use Rattle.protocol.specs.declared.message.Queue.{Queue}
 use Rattle.protocol.specs.declared.records.Copy.{Copy}
@@ -24,15 +22,15 @@ use Rattle.protocol.specs.declared.tables.Objects.{Objects}
 use Rattle.protocol.specs.declared.tables.Holders.{Holders}
 use Rattle.protocol.specs.declared.tables.Views.{Views}
 use Rattle.protocol.specs.declared.tables.Tables.{Tables}
-use Rattle.protocol.specs.Setup.{volumeOf}
+use Rattle.protocol.specs.Setup.{inRange}
+use Rattle.protocol.specs.Ranges.{Ranges, ranges}
 use Rattle.protocol.specs.Messages.{blank, messageAt, pushed, removed, hasRoom}
-use Rattle.protocol.specs.Tables.{waitingAt, versionAt, withClock, withQueue, withViews}
-use Rattle.protocol.specs.Writes.{Counted, Staged, latestEnd, opened, awaited, begun, invalidation, notify, notified, deserted, posted, released, completed, completeIf, settled, written}
+use Rattle.protocol.specs.Tables.{withClock, withVolumes, withSessions, withObjects, withHolders, withViews, withQueue, noCopy, freshSessions, freshObjects, freshHolders, freshTables}
+use Rattle.protocol.specs.Updates.{withEpoch, withVolumeExpiry, withGuard, withSeen, withSessionExpiry, withUnreachable, withOffer, withValue, withVersion, withObjectExpiry, withStanding, withPending, withEnd, setWrite, withLease, withWaiting, withViewEpoch, withViewExpiry}
 use Rattle.protocol.specs.Server.{sent}
 use Rattle.protocol.specs.Sound.{clockLimit, messageSound}
 use Rattle.protocol.specs.Decide.{taken}
-use Rattle.protocol.specs.World.{World}
-use Rattle.protocol.specs.Soundness.Steps.{Ranges}
+use Rattle.protocol.specs.World.{World, freshWorld}
 
 -- "expiries, guards and latest ends at most 2,148,483,647"
 abbrev pub Timed : ℕ → Type 0
@@ -92,16 +90,99 @@ pub record WorldBounded (s : Setup) (w : World) : Type 0 where
   pub copies : All CopyBounded (w .copies)
   pub requests : All (RequestBounded s) (w .requests)
 
-module _ (s : Setup) (rs : Ranges s) where
-  -- ---- the message list
-  pushed-bounded : (q : Queue) (m : Message) → Named s m → QueueBounded s q → QueueBounded s (pushed q m)
-  unfolding pushed
-  pushed-bounded q m k h =
-      cond-keeps (QueueBounded s) (hasRoom q)
-      (λ e. record { len = omega (arith, ltb-true (q .len) 64 e); items = each-set (Named s) (q .items) (q .len) m (h .items) k })
-      (λ e. h)
+-- ---- one field of a part replaced
+pub epoch-bounded : {x : Volumes} (l : List ℕ) → All Started l → VolumesBounded x → VolumesBounded (withEpoch x l)
+epoch-bounded l e h = record { epoch = e; expiry = h .expiry; guard = h .guard }
 
-  pub blank-named : Named s blank
+pub volume-expiry-bounded : {x : Volumes} (l : List ℕ) → All Timed l → VolumesBounded x → VolumesBounded (withVolumeExpiry x l)
+volume-expiry-bounded l e h = record { epoch = h .epoch; expiry = e; guard = h .guard }
+
+pub guard-bounded : {x : Volumes} (l : List ℕ) → All Timed l → VolumesBounded x → VolumesBounded (withGuard x l)
+guard-bounded l e h = record { epoch = h .epoch; expiry = h .expiry; guard = e }
+
+pub seen-bounded : {x : Sessions} (l : List ℕ) → SessionsBounded x → SessionsBounded (withSeen x l)
+seen-bounded l h = record { expiry = h .expiry }
+
+pub session-expiry-bounded : {x : Sessions} (l : List ℕ) → All Timed l → SessionsBounded x → SessionsBounded (withSessionExpiry x l)
+session-expiry-bounded l e h = record { expiry = e }
+
+pub unreachable-bounded : {x : Sessions} (l : List Bool) → SessionsBounded x → SessionsBounded (withUnreachable x l)
+unreachable-bounded l h = record { expiry = h .expiry }
+
+pub offer-bounded : {x : Sessions} (l : List ℕ) → SessionsBounded x → SessionsBounded (withOffer x l)
+offer-bounded l h = record { expiry = h .expiry }
+
+pub value-bounded : {x : Objects} (l : List ℕ) → ObjectsBounded x → ObjectsBounded (withValue x l)
+value-bounded l h = record { version = h .version; expiry = h .expiry; end = h .end; standing = h .standing }
+
+pub version-bounded : {x : Objects} (l : List ℕ) → All Started l → ((o : ℕ) → getD (x .standing) o false ≡ true → getD l o 0 < 4294967295)
+    → ObjectsBounded x → ObjectsBounded (withVersion x l)
+version-bounded l e g h = record { version = e; expiry = h .expiry; end = h .end; standing = g }
+
+pub object-expiry-bounded : {x : Objects} (l : List ℕ) → All Timed l → ObjectsBounded x → ObjectsBounded (withObjectExpiry x l)
+object-expiry-bounded l e h = record { version = h .version; expiry = e; end = h .end; standing = h .standing }
+
+pub standing-bounded : {x : Objects} (l : List Bool) → ((o : ℕ) → getD l o false ≡ true → getD (x .version) o 0 < 4294967295)
+    → ObjectsBounded x → ObjectsBounded (withStanding x l)
+standing-bounded l g h = record { version = h .version; expiry = h .expiry; end = h .end; standing = g }
+
+pub pending-bounded : {x : Objects} (l : List ℕ) → ObjectsBounded x → ObjectsBounded (withPending x l)
+pending-bounded l h = record { version = h .version; expiry = h .expiry; end = h .end; standing = h .standing }
+
+pub end-bounded : {x : Objects} (l : List ℕ) → All Timed l → ObjectsBounded x → ObjectsBounded (withEnd x l)
+end-bounded l e h = record { version = h .version; expiry = h .expiry; end = e; standing = h .standing }
+
+pub write-bounded : {x : Objects} (o : ℕ) (stands : Bool) (a end : ℕ) → ((k : ℕ) → getD (set (x .standing) o stands) k false ≡ true → getD (x .version) k 0 < 4294967295)
+    → Timed end → ObjectsBounded x → ObjectsBounded (setWrite x o stands a end)
+write-bounded {x} o stands a end g p h = end-bounded _ (each-set Timed (x .end) o end (h .end) p) (pending-bounded _ (standing-bounded _ g h))
+
+pub lease-bounded : {x : Holders} (l : List ℕ) → All Timed l → HoldersBounded x → HoldersBounded (withLease x l)
+lease-bounded l e h = record { lease = e }
+
+pub waiting-bounded : {x : Holders} (l : List Bool) → HoldersBounded x → HoldersBounded (withWaiting x l)
+waiting-bounded l h = record { lease = h .lease }
+
+pub view-epoch-bounded : {x : Views} (l : List ℕ) → ViewsBounded x → ViewsBounded (withViewEpoch x l)
+view-epoch-bounded l h = record { expiry = h .expiry }
+
+pub view-expiry-bounded : {x : Views} (l : List ℕ) → All Timed l → ViewsBounded x → ViewsBounded (withViewExpiry x l)
+view-expiry-bounded l e h = record { expiry = e }
+
+-- ---- one part of the tables replaced
+pub clock-bounded : {s : Setup} {t : Tables} (x : ℕ) → x ≤ clockLimit → Bounded s t → Bounded s (withClock t x)
+clock-bounded x k h = record { clock = k; volumes = h .volumes; sessions = h .sessions; objects = h .objects; holders = h .holders; views = h .views; queue = h .queue }
+
+pub volumes-bounded : {s : Setup} {t : Tables} {x : Volumes} → VolumesBounded x → Bounded s t → Bounded s (withVolumes t x)
+volumes-bounded k h = record { clock = h .clock; volumes = k; sessions = h .sessions; objects = h .objects; holders = h .holders; views = h .views; queue = h .queue }
+
+pub sessions-bounded : {s : Setup} {t : Tables} {x : Sessions} → SessionsBounded x → Bounded s t → Bounded s (withSessions t x)
+sessions-bounded k h = record { clock = h .clock; volumes = h .volumes; sessions = k; objects = h .objects; holders = h .holders; views = h .views; queue = h .queue }
+
+pub objects-bounded : {s : Setup} {t : Tables} {x : Objects} → ObjectsBounded x → Bounded s t → Bounded s (withObjects t x)
+objects-bounded k h = record { clock = h .clock; volumes = h .volumes; sessions = h .sessions; objects = k; holders = h .holders; views = h .views; queue = h .queue }
+
+pub holders-bounded : {s : Setup} {t : Tables} {x : Holders} → HoldersBounded x → Bounded s t → Bounded s (withHolders t x)
+holders-bounded k h = record { clock = h .clock; volumes = h .volumes; sessions = h .sessions; objects = h .objects; holders = k; views = h .views; queue = h .queue }
+
+pub views-bounded : {s : Setup} {t : Tables} {x : Views} → ViewsBounded x → Bounded s t → Bounded s (withViews t x)
+views-bounded k h = record { clock = h .clock; volumes = h .volumes; sessions = h .sessions; objects = h .objects; holders = h .holders; views = k; queue = h .queue }
+
+pub queue-bounded : {s : Setup} {t : Tables} {x : Queue} → QueueBounded s x → Bounded s t → Bounded s (withQueue t x)
+queue-bounded k h = record { clock = h .clock; volumes = h .volumes; sessions = h .sessions; objects = h .objects; holders = h .holders; views = h .views; queue = k }
+
+-- ---- the message list
+pub pushed-bounded : {s : Setup} (q : Queue) (m : Message) → Named s m → QueueBounded s q → QueueBounded s (pushed q m)
+unfolding pushed
+pushed-bounded {s} q m k h =
+    cond-keeps (QueueBounded s) (hasRoom q)
+    (λ e. record { len = omega (arith, ltb-true (q .len) 64 e); items = each-set (Named s) (q .items) (q .len) m (h .items) k })
+    (λ e. h)
+
+pub sent-bounded : {s : Setup} (t : Tables) (m : Message) → Named s m → Bounded s t → Bounded s (sent t m)
+sent-bounded t m k h = queue-bounded (pushed-bounded (t .queue) m k (h .queue)) h
+
+module _ (s : Setup) (rs : Ranges s) where
+  blank-named : Named s blank
   blank-named = both-true (lt-ltb 0 (s .clients) (rs .clients .0)) (lt-ltb 0 (s .objects) (rs .objects .0))
 
   removed-bounded : (q : Queue) (i : ℕ) → QueueBounded s q → QueueBounded s (removed q i)
@@ -111,119 +192,43 @@ module _ (s : Setup) (rs : Ranges s) where
     items = all-snoc (Named s) (removeAt (q .items) i) blank (all-remove (Named s) (q .items) i (h .items)) blank-named;
   }
 
-  with-queue : (t : Tables) (q : Queue) → QueueBounded s q → Bounded s t → Bounded s (withQueue t q)
-  with-queue t q k h = record {
-    clock = h .clock;
-    volumes = h .volumes;
-    sessions = h .sessions;
-    objects = h .objects;
-    holders = h .holders;
-    views = h .views;
-    queue = k;
-  }
-
-  pub sent-bounded : (t : Tables) (m : Message) → Named s m → Bounded s t → Bounded s (sent t m)
-  sent-bounded t m k h = with-queue t _ (pushed-bounded (t .queue) m k (h .queue)) h
-
   pub taken-bounded : (t : Tables) (i : ℕ) → Bounded s t → Bounded s (taken t i)
-  taken-bounded t i h = with-queue t _ (removed-bounded (t .queue) i (h .queue)) h
+  taken-bounded t i h = queue-bounded (removed-bounded (t .queue) i (h .queue)) h
 
   pub named-at : (t : Tables) (i : ℕ) → Bounded s t → Named s (messageAt (t .queue) i)
   named-at t i h = each-getD (Named s) (t .queue .items) i blank (h .queue .items) blank-named
 
-  pub clock-bounded : (t : Tables) (x : ℕ) → x ≤ clockLimit → Bounded s t → Bounded s (withClock t x)
-  clock-bounded t x k h = record {
-    clock = k;
-    volumes = h .volumes;
-    sessions = h .sessions;
-    objects = h .objects;
-    holders = h .holders;
-    views = h .views;
-    queue = h .queue;
-  }
+-- ---- fresh tables
+pub fresh-sessions : SessionsBounded freshSessions
+fresh-sessions = record { expiry = each-replicate Timed 128 0 (omega arith) }
 
-  pub views-bounded : (t : Tables) (w : Views) → ViewsBounded w → Bounded s t → Bounded s (withViews t w)
-  views-bounded t w k h = record {
-    clock = h .clock;
-    volumes = h .volumes;
-    sessions = h .sessions;
-    objects = h .objects;
-    holders = h .holders;
-    views = k;
-    queue = h .queue;
-  }
+pub fresh-objects : ObjectsBounded freshObjects
+fresh-objects = record {
+  version = each-replicate _ 32 1 (omega arith);
+  expiry = each-replicate Timed 32 0 (omega arith);
+  end = each-replicate Timed 32 0 (omega arith);
+  standing = λ o e. not-both e (replicate-at 32 o false);
+}
 
-  -- ---- writes
-  end-bounded : (t : Tables) (o : ℕ) → Bounded s t → Timed (latestEnd s t o)
-  unfolding latestEnd
-  end-bounded t o h =
-      omega (arith, h .clock, rs .m .1, each-getD Timed _ (volumeOf s o) 0 (h .volumes .expiry) (omega arith), each-getD Timed _ (volumeOf s o) 0 (h .volumes .guard) (omega arith))
+pub fresh-holders : HoldersBounded freshHolders
+fresh-holders = record { lease = each-replicate Timed 512 0 (omega arith) }
 
-  pub invalidation-named : (t : Tables) (o d : ℕ) → o < s .objects → d < s .clients → Named s (invalidation s t o d)
-  invalidation-named t o d p q = both-true (lt-ltb d (s .clients) q) (lt-ltb o (s .objects) p)
-
-  opened-standing : (t : Tables) (o : ℕ) → versionAt t o < 4294967295 → ObjectsBounded (t .objects)
-      → (k : ℕ) → getD (set (t .objects .standing) o true) k false ≡ true → versionAt t k < 4294967295
-  opened-standing t o v h k e =
-      ⊎-elim (λ p. rw p v) (λ p. h .standing k (sym (getD-set-other (t .objects .standing) o k true false p) ∙ e)) (same? k o)
-
-  pub begun-bounded : (t : Tables) (o x : ℕ) → versionAt t o < 4294967295 → Bounded s t → Bounded s (begun s t o x)
-  unfolding opened awaited
-  begun-bounded t o x v h = record {
-    clock = h .clock;
-    volumes = h .volumes;
-    sessions = h .sessions;
-    objects = record {
-      version = h .objects .version;
-      expiry = h .objects .expiry;
-      end = each-set Timed (t .objects .end) o (latestEnd s t o) (h .objects .end) (end-bounded t o h);
-      standing = opened-standing t o v (h .objects);
+pub fresh-bounded : (s : Setup) → inRange s ≡ true → WorldBounded s (freshWorld s)
+unfolding freshTables
+fresh-bounded s e = record {
+  tables = record {
+    clock = omega arith;
+    volumes = record {
+      epoch = each-replicate _ 8 1 (omega arith);
+      expiry = each-replicate Timed 8 0 (omega arith);
+      guard = each-replicate Timed 8 0 (omega arith);
     };
-    holders = record { lease = h .holders .lease };
-    views = h .views;
-    queue = h .queue;
-  }
-
-  notified-bounded : (t : Tables) (o : ℕ) → o < s .objects → QueueBounded s (t .queue) → QueueBounded s (notified s t o)
-  unfolding notified
-  notified-bounded t o p h =
-      fold-keeps-in (QueueBounded s) (notify s t o) (s .clients)
-      (λ q d b k. cond-keeps (QueueBounded s) (waitingAt t d o) (λ e. pushed-bounded q _ (invalidation-named t o d p b) k) (λ e. k))
-      (t .queue) 0 (s .clients) (omega arith) h
-
-  pub written-bounded : (t : Tables) (o x : ℕ) → o < s .objects → versionAt t o < 4294967295 → Bounded s t → Bounded s (written s t o x)
-  unfolding written
-  written-bounded t o x p v h =
-      let b = begun-bounded t o x v h in
-      with-queue _ _ (notified-bounded (begun s t o x) o p (b .queue)) b
-
-  posted-standing : (t : Tables) (o : ℕ) → ObjectsBounded (t .objects)
-      → (k : ℕ) → getD (set (t .objects .standing) o false) k false ≡ true → getD (set (t .objects .version) o (versionAt t o + 1)) k 0 < 4294967295
-  posted-standing t o h k e =
-      ⊎-elim (λ p. not-both e (rw p (cleared (t .objects .standing) o)))
-      (λ p. rw (getD-set-other (t .objects .version) o k (versionAt t o + 1) 0 p) (h .standing k (sym (getD-set-other (t .objects .standing) o k false false p) ∙ e)))
-      (same? k o)
-
-  pub completed-bounded : (t : Tables) (o : ℕ) → Bounded s t → Bounded s (completed s t o)
-  unfolding completed posted released deserted
-  completed-bounded t o h = record {
-    clock = h .clock;
-    volumes = h .volumes;
-    sessions = record { expiry = h .sessions .expiry };
-    objects = record {
-      version = each-set Started (t .objects .version) o _ (h .objects .version) (omega arith);
-      expiry = h .objects .expiry;
-      end = each-set Timed (t .objects .end) o 0 (h .objects .end) (omega arith);
-      standing = posted-standing t o (h .objects);
-    };
-    holders = record { lease = each-store Timed _ _ _ (t .holders .lease) (s .clients) (h .holders .lease) (λ d b. omega arith) };
-    views = h .views;
-    queue = h .queue;
-  }
-
-  pub settled-bounded : (g : Staged) → Bounded s (g .tables) → Bounded s (settled s g .tables)
-  unfolding settled
-  settled-bounded g h =
-      fold-keeps (λ (c : Counted). Bounded s (c .tables)) (completeIf (g .test) s)
-      (λ c o k. cond-keeps (λ (c : Counted). Bounded s (c .tables)) (g .test (c .tables) o) (λ e. completed-bounded (c .tables) o k) (λ e. k))
-      (record { count = 0; tables = g .tables }) (g .from) (g .many) h
+    sessions = fresh-sessions;
+    objects = fresh-objects;
+    holders = fresh-holders;
+    views = record { expiry = each-replicate Timed 128 0 (omega arith) };
+    queue = record { len = omega arith; items = each-replicate (Named s) 64 _ (blank-named s (ranges s e)) };
+  };
+  copies = each-replicate CopyBounded (s .clients * s .objects) noCopy (omega arith);
+  requests = each-replicate (RequestBounded s) (s .clients) _ (record { next = omega arith; object = λ f. not-both f refl });
+}

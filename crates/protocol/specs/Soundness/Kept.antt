@@ -1,16 +1,16 @@
 -- Every step keeps the bounds of question 1.
-use Prim.Native.Nat.{ℕ, _*_, _<_}
+use Prim.Native.Nat.{ℕ, _<_}
 use native.Mathlib.Omega.{arith}
-use mathlib.Core.Bool.{Bool, true, false}
+use mathlib.Core.Bool.{Bool, true}
 use mathlib.Core.List.{List}
 use mathlib.Core.Logic.{⊎-elim}
-use mathlib.Core.Path.{_≡_, refl}
-use lib.Dec.{ltb, eqb}
-use borrow.Author.Tests.{ltb-true, lt-ltb}
-use Rattle.laws.specs.Choice.{cond-keeps, true-or-false, and-true, both-true, not-both}
+use mathlib.Core.Path.{_≡_}
+use lib.Dec.{eqb}
+use borrow.Author.Tests.{lt-ltb}
+use Rattle.laws.specs.Choice.{cond-keeps, true-or-false, both-true}
 use Rattle.laws.specs.Loop.{fold-keeps}
 use Rattle.laws.specs.Lists.{All, all-at}
-use Rattle.laws.specs.Each.{each-set, each-set-in, each-getD, each-replicate, replicate-at}
+use Rattle.laws.specs.Each.{each-set, each-set-in, each-getD}
 use Rattle.protocol.specs.declared.records.Copy.{Copy}
 use Rattle.protocol.specs.declared.records.Request.{Request}
 use Rattle.protocol.specs.declared.setup.Setup.{Setup}
@@ -19,35 +19,32 @@ use Rattle.protocol.specs.declared.step.Step.{Step}
 use Rattle.protocol.specs.declared.step.Sweep.{Sweep}
 use Rattle.protocol.specs.declared.step.Sweep.the-variants.{Keep, Expire, Erase}
 use Rattle.protocol.specs.declared.tables.Tables.{Tables}
-use Rattle.protocol.specs.Setup.{inRange, volumeOf}
+use Rattle.protocol.specs.Setup.{volumeOf}
+use Rattle.protocol.specs.Ranges.{Ranges, ranges}
 use Rattle.protocol.specs.Messages.{messageAt}
-use Rattle.protocol.specs.Tables.{noCopy, noRequest, freshTables}
+use Rattle.protocol.specs.Tables.{noCopy, noRequest}
 use Rattle.protocol.specs.Client.{showable, swept, sweepAt, sweptAll}
-use Rattle.protocol.specs.Sound.{kindSound}
+use Rattle.protocol.specs.SoundLaws.{named}
 use Rattle.protocol.specs.Decide.{performed, readDecided, askDecided, deliverDecided, restartDecided}
-use Rattle.protocol.specs.World.{World, freshWorld, stepped}
+use Rattle.protocol.specs.World.{World, stepped}
 use Rattle.protocol.specs.Ledger.{accepts}
-use Rattle.protocol.specs.Soundness.Steps.{Accepted, accepted, Ranges, ranges, setup-in-range, copyOf, requestOf, tables-after, copies-after, requests-after, refused-keeps, by-kind, client-exists, object-exists, clock-grows, version-grows, clock-performed, read-performed, ask-performed, write-performed, deliver-performed, lose-performed, double-performed, server-performed, client-performed}
-use Rattle.protocol.specs.Soundness.Bounds.{Timed, Named, Bounded, CopyBounded, RequestBounded, WorldBounded, blank-named, sent-bounded, taken-bounded, named-at, clock-bounded, views-bounded, written-bounded, settled-bounded}
-use Rattle.protocol.specs.Soundness.Received.{received-bounded, server-bounded, client-bounded, ended-bounded}
+use Rattle.protocol.specs.Soundness.Steps.{Accepted, accepted, setup-in-range, copyOf, requestOf, tables-after, copies-after, requests-after, refused-keeps, by-kind, client-exists, object-exists, clock-grows, version-grows, clock-performed, read-performed, ask-performed, write-performed, deliver-performed, lose-performed, double-performed, server-performed, client-performed}
+use Rattle.protocol.specs.Soundness.Bounds.{Bounded, CopyBounded, RequestBounded, WorldBounded, clock-bounded, views-bounded, sent-bounded, taken-bounded, named-at}
+use Rattle.protocol.specs.Soundness.Written.{written-bounded, settled-bounded}
+use Rattle.protocol.specs.Soundness.Received.{Leaves, unchanged, received-bounded, server-bounded, client-bounded, ended-bounded}
 
--- what a decision leaves of tables, copy and request
-pub record Decided (s : Setup) (c : Copy) (r : Request) (g : Decision) : Type 0 where
-  pub tables : Bounded s (g .outcome .tables)
-  pub copy : CopyBounded c → CopyBounded (g .change .copy)
-  pub request : RequestBounded s r → RequestBounded s (g .change .request)
+abbrev Decided : Setup → Copy → Request → Decision → Type 0
+Decided s c r g = Leaves s c r (g .outcome .tables) (g .change)
 
 module _ (s : Setup) (rs : Ranges s) (t : Tables) (c : Copy) (r : Request) (h : Bounded s t) where
   read-bounded : (d o : ℕ) → Decided s c r (readDecided s t c r d o)
   unfolding readDecided
-  read-bounded d o =
-      cond-keeps (Decided s c r) (showable s t c d o) (λ _. record { tables = h; copy = λ b. b; request = λ b. b })
-      (λ _. record { tables = h; copy = λ b. b; request = λ b. b })
+  read-bounded d o = cond-keeps (Decided s c r) (showable s t c d o) (λ _. unchanged h) (λ _. unchanged h)
 
   ask-bounded : (d o : ℕ) → d < s .clients → o < s .objects → Decided s c r (askDecided s t c r d o)
   unfolding askDecided
   ask-bounded d o p q = record {
-    tables = sent-bounded s rs t _ (both-true (lt-ltb d (s .clients) p) (lt-ltb o (s .objects) q)) h;
+    tables = sent-bounded t _ (both-true (lt-ltb d (s .clients) p) (lt-ltb o (s .objects) q)) h;
     copy = λ b. b;
     request = λ b. record { next = omega arith; object = λ e. q };
   }
@@ -56,32 +53,28 @@ module _ (s : Setup) (rs : Ranges s) (t : Tables) (c : Copy) (r : Request) (h : 
   unfolding deliverDecided
   deliver-bounded i =
       let m = messageAt (t .queue) i in
-      let a = and-true (ltb (m .client) (s .clients)) (kindSound s (m .kind)) (named-at s rs t i h) in
-      let g = received-bounded s rs _ c r (m .client) (ltb-true _ _ (a .0)) (taken-bounded s rs t i h) (m .kind) (a .1) in
-      record { tables = g .tables; copy = g .copy; request = g .request }
+      let a = named s m (named-at s rs t i h) in
+      received-bounded s rs _ c r (m .client) (a .0) (taken-bounded s rs t i h) (m .kind) (a .1)
 
   restart-bounded : (d : ℕ) → Decided s c r (restartDecided s t c r d)
   unfolding restartDecided
   restart-bounded d = record {
-    tables = views-bounded s rs t _ (client-bounded s rs (t .views) d (h .views)) h;
+    tables = views-bounded (client-bounded s (t .views) d (h .views)) h;
     copy = λ b. b;
-    request = ended-bounded s rs r;
+    request = ended-bounded r;
   }
 
-  kept-bounded : (u : Tables) (g : Decision) → Bounded s u → g .outcome .tables ≡ u → g .change .copy ≡ c → g .change .request ≡ r → Decided s c r g
-  kept-bounded u g k e f j = record { tables = rw e k; copy = λ b. rw f b; request = λ b. rw j b }
-
-  pub performed-bounded : (b : Bool) (x : Step) → Accepted s t b r x → Decided s c r (performed s t c r x)
+  performed-bounded : (b : Bool) (x : Step) → Accepted s t b r x → Decided s c r (performed s t c r x)
   performed-bounded b x a =
       by-kind (Decided s c r (performed s t c r x)) x (a .passes .knows)
-      (λ e. rw (clock-performed s t c r x e) (kept-bounded _ _ (settled-bounded s rs _ (clock-bounded s rs t (x .clock) (clock-grows (a .passes) e .1) h)) refl refl refl))
+      (λ e. rw (clock-performed s t c r x e) (unchanged (settled-bounded s _ (clock-bounded (x .clock) (clock-grows (a .passes) e .1) h))))
       (λ e. rw (read-performed s t c r x e) (read-bounded (x .client) (x .object)))
       (λ e. rw (ask-performed s t c r x e) (ask-bounded (x .client) (x .object) (client-exists (a .passes) (rw e)) (object-exists (a .passes) (rw e))))
-      (λ e. rw (write-performed s t c r x e) (kept-bounded _ _ (settled-bounded s rs _ (written-bounded s rs t (x .object) (x .value) (object-exists (a .passes) (rw e)) (version-grows (a .passes) e) h)) refl refl refl))
+      (λ e. rw (write-performed s t c r x e) (unchanged (settled-bounded s _ (written-bounded s t (x .object) (x .value) rs (object-exists (a .passes) (rw e)) (version-grows (a .passes) e) h))))
       (λ e. rw (deliver-performed s t c r x e) (deliver-bounded (x .place)))
-      (λ e. rw (lose-performed s t c r x e) (kept-bounded _ _ (taken-bounded s rs t (x .place) h) refl refl refl))
-      (λ e. rw (double-performed s t c r x e) (kept-bounded _ _ (sent-bounded s rs t _ (named-at s rs t (x .place) h) h) refl refl refl))
-      (λ e. rw (server-performed s t c r x e) (kept-bounded _ _ (server-bounded s rs t h) refl refl refl))
+      (λ e. rw (lose-performed s t c r x e) (unchanged (taken-bounded s rs t (x .place) h)))
+      (λ e. rw (double-performed s t c r x e) (unchanged (sent-bounded t _ (named-at s rs t (x .place) h) h)))
+      (λ e. rw (server-performed s t c r x e) (unchanged (server-bounded s t h)))
       (λ e. rw (client-performed s t c r x e) (restart-bounded (x .client)))
 
 -- ---- the lent records
@@ -117,30 +110,3 @@ accepted-bounded s w x h e =
 pub stepped-bounded : (s : Setup) (w : World) (x : Step) → WorldBounded s w → WorldBounded s (stepped s w x)
 stepped-bounded s w x h =
     ⊎-elim (accepted-bounded s w x h) (λ e. rw (refused-keeps s w x e) h) (true-or-false (accepts s w x))
-
-pub fresh-bounded : (s : Setup) → inRange s ≡ true → WorldBounded s (freshWorld s)
-unfolding freshTables
-fresh-bounded s e =
-    let rs = ranges s e in
-    record {
-      tables = record {
-        clock = omega arith;
-        volumes = record {
-          epoch = each-replicate _ 8 1 (omega arith);
-          expiry = each-replicate Timed 8 0 (omega arith);
-          guard = each-replicate Timed 8 0 (omega arith);
-        };
-        sessions = record { expiry = each-replicate Timed 128 0 (omega arith) };
-        objects = record {
-          version = each-replicate _ 32 1 (omega arith);
-          expiry = each-replicate Timed 32 0 (omega arith);
-          end = each-replicate Timed 32 0 (omega arith);
-          standing = λ o f. not-both f (replicate-at 32 o false);
-        };
-        holders = record { lease = each-replicate Timed 512 0 (omega arith) };
-        views = record { expiry = each-replicate Timed 128 0 (omega arith) };
-        queue = record { len = omega arith; items = each-replicate (Named s) 64 _ (blank-named s rs) };
-      };
-      copies = each-replicate CopyBounded (s .clients * s .objects) noCopy (omega arith);
-      requests = each-replicate (RequestBounded s) (s .clients) _ (record { next = omega arith; object = λ f. not-both f refl });
-    }

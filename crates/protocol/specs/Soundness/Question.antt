@@ -24,10 +24,12 @@ use Rattle.protocol.specs.Answers.{isRefused}
 use Rattle.protocol.specs.Gate.{known, exists, timely, vacant, growable, refusalOfStep, refusal}
 use Rattle.protocol.specs.World.{World, freshWorld, stepped, answerOf, answers}
 use Rattle.protocol.specs.Ledger.{accepts}
-use Rattle.protocol.specs.Soundness.Steps.{Ranges, ranges, requestOf, recordsOf, refused-answer}
-use Rattle.protocol.specs.Soundness.Shape.{Shape, WorldShape, stepped-shape, fresh-shape}
-use Rattle.protocol.specs.Soundness.Bounds.{Timed, Started, Named, Bounded, CopyBounded, RequestBounded, WorldBounded}
-use Rattle.protocol.specs.Soundness.Kept.{stepped-bounded, fresh-bounded}
+use Rattle.protocol.specs.Ranges.{Ranges, ranges}
+use Rattle.protocol.specs.Soundness.Steps.{requestOf, recordsOf, refused-answer}
+use Rattle.protocol.specs.Soundness.Shape.{Shape, WorldShape, fresh-shape}
+use Rattle.protocol.specs.Soundness.ShapeKept.{stepped-shape}
+use Rattle.protocol.specs.Soundness.Bounds.{Timed, Started, Named, Bounded, CopyBounded, RequestBounded, WorldBounded, fresh-bounded}
+use Rattle.protocol.specs.Soundness.Kept.{stepped-bounded}
 use Rattle.protocol.specs.Soundness.Answered.{accepted-not-refused}
 
 -- lengths and bounds together
@@ -81,7 +83,7 @@ module _ (s : Setup) (rs : Ranges s) (t : Tables) (k : Shape t) (h : Bounded s t
       both-true (le-leb _ 64 (h .queue .len))
       (all-of _ (t .queue .len) (λ i p. all-at (Named s) (t .queue .items) i blank (omega (arith, h .queue .len, k .queue .items)) (h .queue .items)))
 
-  pub tables-are-sound : tablesSound s t ≡ true
+  tables-are-sound : tablesSound s t ≡ true
   unfolding tablesSound
   tables-are-sound =
       both-true
@@ -135,7 +137,7 @@ RefusedOne a = a ≡ Refused 1
 number-of : (a b : ℕ) → _≡_ {A = Answer} (Refused a) (Refused b) → a ≡ b
 number-of a b e = cc
 
-pub never-one : (s : Setup) (w : World) (x : Step) → inRange s ≡ true → SoundWorld s w → RefusedOne (answerOf s w x) → ⊥
+never-one : (s : Setup) (w : World) (x : Step) → inRange s ≡ true → SoundWorld s w → RefusedOne (answerOf s w x) → ⊥
 unfolding refusal
 never-one s w x i h e =
     ⊎-elim (λ a. not-both (ap isRefused e) (accepted-not-refused s w x a))
@@ -146,7 +148,7 @@ never-one s w x i h e =
     one a = rw (sounds s w h i) at (sym (refused-answer s w x a) ∙ e)
 
 -- out of range every step gets 1, whatever the tables
-pub always-one : (s : Setup) (w : World) (x : Step) → inRange s ≡ false → RefusedOne (answerOf s w x)
+always-one : (s : Setup) (w : World) (x : Step) → inRange s ≡ false → RefusedOne (answerOf s w x)
 unfolding refusal sound
 always-one s w x i =
     let n : refusal s (w .tables) (recordsOf s w) (requestOf s w x) x ≡ 1 = unsound s (w .tables) (recordsOf s w) (requestOf s w x) x i in

@@ -1,92 +1,57 @@
 -- The bounds of question 1 are kept by every message received and by the restarts.
+-- h says that tables, or a part of them, are within the bounds; d, v and o are client, volume and object, p and q say that these exist; n, e, w, x, y and a
+-- are a message's number, epoch, version, volume expiry, object expiry and payload; c and r are the copy and the request.
 use Prim.Native.Nat.{ℕ, _+_, _<_}
 use native.Mathlib.Omega.{arith}
 use mathlib.Core.Bool.{true, false, _&&_}
 use mathlib.Core.Path.{_≡_, refl}
-use lib.Dec.{ltb, leb, eqb}
+use lib.Dec.{ltb}
 use borrow.Author.Tests.{ltb-true, leb-true, lt-ltb, le-leb}
 use Rattle.laws.specs.Choice.{cond-keeps, and-true, both-true, not-both}
-use Rattle.laws.specs.Each.{each-set, each-replicate, each-store, replicate-at}
+use Rattle.laws.specs.Each.{each-set, each-store, replicate-at}
 use Rattle.protocol.specs.declared.message.Kind.{Kind}
 use Rattle.protocol.specs.declared.message.Kind.the-variants.{Renew, Grant, Invalidate, Ack, Offer, Dropped}
 use Rattle.protocol.specs.declared.message.Payload.{Payload}
 use Rattle.protocol.specs.declared.records.Copy.{Copy}
 use Rattle.protocol.specs.declared.records.Request.{Request}
 use Rattle.protocol.specs.declared.setup.Setup.{Setup}
+use Rattle.protocol.specs.declared.step.Change.{Change}
 use Rattle.protocol.specs.declared.tables.Views.{Views}
 use Rattle.protocol.specs.declared.tables.Tables.{Tables}
 use Rattle.protocol.specs.Setup.{volumeOf}
-use Rattle.protocol.specs.Tables.{seenAt, standingAt, byVolume}
+use Rattle.protocol.specs.Ranges.{Ranges}
+use Rattle.protocol.specs.Tables.{byVolume, byObject}
 use Rattle.protocol.specs.Writes.{Staged}
 use Rattle.protocol.specs.Server.{noted, offered, volumeRenewed, objectRenewed, granting, granted, lowestWaited, mustDrop, renewedBy, renewed, ackTaken, acked, ackStaged, dropTaken, disowned, dropped, dropStaged, serverRestarted, stale, beingWritten}
 use Rattle.protocol.specs.Client.{viewed, ended, stands, grantTaken, forgotten, clientRestarted, asksFor}
 use Rattle.protocol.specs.Sound.{timeFits, kindSound}
-use Rattle.protocol.specs.Decide.{Received, grantReceived, invalidateReceived, offerReceived, received}
-use Rattle.protocol.specs.Soundness.Steps.{Ranges}
-use Rattle.protocol.specs.Soundness.Bounds.{Timed, Started, Named, ViewsBounded, Bounded, CopyBounded, RequestBounded, sent-bounded, views-bounded, settled-bounded, invalidation-named}
+use Rattle.protocol.specs.Decide.{Received, kept, grantReceived, invalidateReceived, offerReceived, received}
+use Rattle.protocol.specs.Soundness.Bounds.{Timed, Started, Named, ViewsBounded, Bounded, CopyBounded, RequestBounded, epoch-bounded, volume-expiry-bounded, guard-bounded, seen-bounded, session-expiry-bounded, unreachable-bounded, offer-bounded, value-bounded, version-bounded, object-expiry-bounded, lease-bounded, waiting-bounded, view-epoch-bounded, view-expiry-bounded, volumes-bounded, sessions-bounded, objects-bounded, holders-bounded, views-bounded, sent-bounded, fresh-sessions, fresh-objects, fresh-holders}
+use Rattle.protocol.specs.Soundness.Written.{invalidation-named, settled-bounded}
 
 module _ (s : Setup) (rs : Ranges s) where
   -- ---- RENEW
   noted-bounded : (t : Tables) (d n : ℕ) → Bounded s t → Bounded s (noted t d n)
   unfolding noted
-  noted-bounded t d n h = record {
-    clock = h .clock;
-    volumes = h .volumes;
-    sessions = record { expiry = h .sessions .expiry };
-    objects = h .objects;
-    holders = h .holders;
-    views = h .views;
-    queue = h .queue;
-  }
+  noted-bounded t d n h = sessions-bounded (seen-bounded _ (h .sessions)) h
 
   offered-bounded : (t : Tables) (d v n : ℕ) → Bounded s t → Bounded s (offered t d v n)
   unfolding offered
-  offered-bounded t d v n h = record {
-    clock = h .clock;
-    volumes = h .volumes;
-    sessions = record { expiry = h .sessions .expiry };
-    objects = h .objects;
-    holders = h .holders;
-    views = h .views;
-    queue = h .queue;
-  }
+  offered-bounded t d v n h = sessions-bounded (offer-bounded _ (unreachable-bounded _ (h .sessions))) h
 
-  volume-bounded : (t : Tables) (d v : ℕ) → Bounded s t → Bounded s (volumeRenewed s t d v)
+  volume-renewed-bounded : (t : Tables) (d v : ℕ) → Bounded s t → Bounded s (volumeRenewed s t d v)
   unfolding volumeRenewed
-  volume-bounded t d v h =
+  volume-renewed-bounded t d v h =
       let later : Timed (t .clock + s .tv) = omega (arith, h .clock, rs .tv .1) in
-      record {
-        clock = h .clock;
-        volumes = record {
-          epoch = h .volumes .epoch;
-          expiry = each-set Timed (t .volumes .expiry) v _ (h .volumes .expiry) later;
-          guard = h .volumes .guard;
-        };
-        sessions = record { expiry = each-set Timed (t .sessions .expiry) (byVolume d v) _ (h .sessions .expiry) later };
-        objects = h .objects;
-        holders = h .holders;
-        views = h .views;
-        queue = h .queue;
-      }
+      volumes-bounded (volume-expiry-bounded _ (each-set Timed (t .volumes .expiry) v _ (h .volumes .expiry) later) (h .volumes))
+      (sessions-bounded (session-expiry-bounded _ (each-set Timed (t .sessions .expiry) (byVolume d v) _ (h .sessions .expiry) later) (h .sessions)) h)
 
-  object-bounded : (t : Tables) (d o : ℕ) → Bounded s t → Bounded s (objectRenewed s t d o)
+  object-renewed-bounded : (t : Tables) (d o : ℕ) → Bounded s t → Bounded s (objectRenewed s t d o)
   unfolding objectRenewed
-  object-bounded t d o h =
+  object-renewed-bounded t d o h =
       let later : Timed (t .clock + s .t) = omega (arith, h .clock, rs .t .1) in
-      record {
-        clock = h .clock;
-        volumes = h .volumes;
-        sessions = h .sessions;
-        objects = record {
-          version = h .objects .version;
-          expiry = each-set Timed (t .objects .expiry) o _ (h .objects .expiry) later;
-          end = h .objects .end;
-          standing = h .objects .standing;
-        };
-        holders = record { lease = each-set Timed (t .holders .lease) _ _ (h .holders .lease) later };
-        views = h .views;
-        queue = h .queue;
-      }
+      objects-bounded (object-expiry-bounded _ (each-set Timed (t .objects .expiry) o _ (h .objects .expiry) later) (h .objects))
+      (holders-bounded (lease-bounded _ (each-set Timed (t .holders .lease) (byObject d o) _ (h .holders .lease) later) (h .holders)) h)
 
   granting-named : (t : Tables) (d o n w : ℕ) → d < s .clients → o < s .objects → Bounded s t → Named s (granting s t d o n w)
   granting-named t d o n w p q h =
@@ -96,113 +61,101 @@ module _ (s : Setup) (rs : Ranges s) where
   granted-bounded : (t : Tables) (d o n w : ℕ) → d < s .clients → o < s .objects → Bounded s t → Bounded s (granted s t d o n w)
   unfolding granted
   granted-bounded t d o n w p q h =
-      sent-bounded s rs _ _ (granting-named t d o n w p q h) (object-bounded _ d o (volume-bounded t d (volumeOf s o) h))
+      sent-bounded _ _ (granting-named t d o n w p q h) (object-renewed-bounded _ d o (volume-renewed-bounded t d (volumeOf s o) h))
 
-  pub renewed-bounded : (t : Tables) (d o n e w : ℕ) → d < s .clients → o < s .objects → Bounded s t → Bounded s (renewed s t d o n e w)
+  renewed-bounded : (t : Tables) (d o n e w : ℕ) → d < s .clients → o < s .objects → Bounded s t → Bounded s (renewed s t d o n e w)
   unfolding renewed renewedBy
   renewed-bounded t d o n e w p q h =
       let v = volumeOf s o in
-      let u = noted t d n in
+      let t′ = noted t d n in
       let k = noted-bounded t d n h in
       cond-keeps (Bounded s) (stale t d n) (λ _. h) (λ _.
-      cond-keeps (Bounded s) (mustDrop u d v e)
-      (λ _. sent-bounded s rs _ _ (both-true (lt-ltb d (s .clients) p) (lt-ltb v (s .volumes) (rs .within o q))) (offered-bounded u d v n k)) (λ _.
-      cond-keeps (Bounded s) (ltb (lowestWaited s u d v) (s .objects))
-      (λ b. sent-bounded s rs _ _ (invalidation-named s rs u (lowestWaited s u d v) d (ltb-true _ _ b) p) k) (λ _.
-      cond-keeps (Bounded s) (beingWritten u o) (λ _. k) (λ _. granted-bounded u d o n w p q k))))
+      cond-keeps (Bounded s) (mustDrop t′ d v e)
+      (λ _. sent-bounded _ _ (both-true (lt-ltb d (s .clients) p) (lt-ltb v (s .volumes) (rs .within o q))) (offered-bounded t′ d v n k)) (λ _.
+      cond-keeps (Bounded s) (ltb (lowestWaited s t′ d v) (s .objects))
+      (λ b. sent-bounded _ _ (invalidation-named s t′ (lowestWaited s t′ d v) d (ltb-true _ _ b) p) k) (λ _.
+      cond-keeps (Bounded s) (beingWritten t′ o) (λ _. k) (λ _. granted-bounded t′ d o n w p q k))))
 
-  -- ---- ACK and DROPPED
-  pub ack-bounded : (t : Tables) (d o e w : ℕ) → Bounded s t → Bounded s (ackStaged s t d o e w .tables)
-  unfolding ackStaged acked
-  ack-bounded t d o e w h =
-      cond-keeps (λ (g : Staged). Bounded s (g .tables)) (ackTaken s t o e w)
-      (λ _. record {
-        clock = h .clock;
-        volumes = h .volumes;
-        sessions = h .sessions;
-        objects = h .objects;
-        holders = record { lease = each-set Timed (t .holders .lease) _ 0 (h .holders .lease) (omega arith) };
-        views = h .views;
-        queue = h .queue;
-      })
-      (λ _. h)
+-- ---- ACK and DROPPED
+acked-bounded : {s : Setup} (t : Tables) (d o : ℕ) → Bounded s t → Bounded s (acked t d o)
+unfolding acked
+acked-bounded t d o h =
+    holders-bounded (waiting-bounded _ (lease-bounded _ (each-set Timed (t .holders .lease) (byObject d o) 0 (h .holders .lease) (omega arith)) (h .holders))) h
 
-  pub drop-bounded : (t : Tables) (d v n e : ℕ) → Bounded s t → Bounded s (dropStaged s t d v n e .tables)
-  unfolding dropStaged dropped disowned
-  drop-bounded t d v n e h =
-      cond-keeps (λ (g : Staged). Bounded s (g .tables)) (dropTaken t d v n e)
-      (λ _. record {
-        clock = h .clock;
-        volumes = h .volumes;
-        sessions = record { expiry = each-set Timed (t .sessions .expiry) _ 0 (h .sessions .expiry) (omega arith) };
-        objects = h .objects;
-        holders = record { lease = each-store Timed _ _ _ (t .holders .lease) (s .objects) (h .holders .lease) (λ o b. omega arith) };
-        views = h .views;
-        queue = h .queue;
-      })
-      (λ _. h)
+ack-bounded : (s : Setup) (t : Tables) (d o e w : ℕ) → Bounded s t → Bounded s (ackStaged s t d o e w .tables)
+unfolding ackStaged
+ack-bounded s t d o e w h = cond-keeps (λ (g : Staged). Bounded s (g .tables)) (ackTaken s t o e w) (λ _. acked-bounded t d o h) (λ _. h)
 
-  -- ---- the restarts
-  pub server-bounded : (t : Tables) → Bounded s t → Bounded s (serverRestarted s t)
-  unfolding serverRestarted
-  server-bounded t h = record {
-    clock = h .clock;
-    volumes = record {
-      epoch = each-store Started _ _ _ (t .volumes .epoch) _ (h .volumes .epoch) (λ v b. omega arith);
-      expiry = h .volumes .expiry;
-      guard = search h;
-    };
-    sessions = record { expiry = each-replicate Timed 128 0 (omega arith) };
-    objects = record {
-      version = h .objects .version;
-      expiry = each-replicate Timed 32 0 (omega arith);
-      end = each-replicate Timed 32 0 (omega arith);
-      standing = λ o e. not-both e (replicate-at 32 o false);
-    };
-    holders = record { lease = each-replicate Timed 512 0 (omega arith) };
-    views = h .views;
-    queue = h .queue;
-  }
+dropped-bounded : (s : Setup) (t : Tables) (d v : ℕ) → Bounded s t → Bounded s (dropped s t d v)
+unfolding dropped disowned
+dropped-bounded s t d v h =
+    holders-bounded
+    (waiting-bounded _ (lease-bounded _ (each-store Timed _ _ _ (t .holders .lease) (s .objects) (h .holders .lease) (λ o b. omega arith)) (h .holders)))
+    (sessions-bounded
+    (offer-bounded _
+    (unreachable-bounded _ (session-expiry-bounded _ (each-set Timed (t .sessions .expiry) (byVolume d v) 0 (h .sessions .expiry) (omega arith)) (h .sessions)))) h)
 
-  pub client-bounded : (w : Views) (d : ℕ) → ViewsBounded w → ViewsBounded (clientRestarted s w d)
-  unfolding clientRestarted
-  client-bounded w d h = record { expiry = each-store Timed _ _ _ (w .expiry) (s .volumes) (h .expiry) (λ v b. omega arith) }
+drop-bounded : (s : Setup) (t : Tables) (d v n e : ℕ) → Bounded s t → Bounded s (dropStaged s t d v n e .tables)
+unfolding dropStaged
+drop-bounded s t d v n e h = cond-keeps (λ (g : Staged). Bounded s (g .tables)) (dropTaken t d v n e) (λ _. dropped-bounded s t d v h) (λ _. h)
 
-  -- ---- a client's receipts
-  viewed-bounded : (w : Views) (d v e x : ℕ) → Timed x → ViewsBounded w → ViewsBounded (viewed w d v e x)
-  viewed-bounded w d v e x k h = record { expiry = each-set Timed (w .expiry) (byVolume d v) x (h .expiry) k }
+-- ---- the restarts
+pub server-bounded : (s : Setup) (t : Tables) → Bounded s t → Bounded s (serverRestarted s t)
+unfolding serverRestarted
+server-bounded s t h =
+    holders-bounded fresh-holders
+    (objects-bounded (version-bounded _ (h .objects .version) (λ o e. not-both e (replicate-at 32 o false)) (value-bounded _ fresh-objects))
+    (sessions-bounded fresh-sessions
+    (volumes-bounded
+    (guard-bounded _ (search h)
+    (epoch-bounded _ (each-store Started _ _ _ (t .volumes .epoch) _ (h .volumes .epoch) (λ v b. omega arith)) (h .volumes))) h)))
 
-  pub ended-bounded : (r : Request) → RequestBounded s r → RequestBounded s (ended r)
-  ended-bounded r h = record { next = h .next; object = λ e. not-both e refl }
+pub client-bounded : (s : Setup) (u : Views) (d : ℕ) → ViewsBounded u → ViewsBounded (clientRestarted s u d)
+unfolding clientRestarted
+client-bounded s u d h = view-expiry-bounded _ (each-store Timed _ _ _ (u .expiry) (s .volumes) (h .expiry) (λ v b. omega arith)) (view-epoch-bounded _ h)
 
-  forgotten-bounded : (r : Request) (o : ℕ) → RequestBounded s r → RequestBounded s (forgotten r o)
-  unfolding forgotten
-  forgotten-bounded r o h = cond-keeps (RequestBounded s) (asksFor r o) (λ _. ended-bounded r h) (λ _. h)
+-- ---- a client's receipts
+viewed-bounded : (u : Views) (d v e x : ℕ) → Timed x → ViewsBounded u → ViewsBounded (viewed u d v e x)
+viewed-bounded u d v e x k h = view-expiry-bounded _ (each-set Timed (u .expiry) (byVolume d v) x (h .expiry) k) (view-epoch-bounded _ h)
 
--- what a receipt leaves of tables, copy and request
-pub record Receipt (s : Setup) (c : Copy) (r : Request) (g : Received) : Type 0 where
-  pub tables : Bounded s (g .counted .tables)
-  pub copy : CopyBounded c → CopyBounded (g .change .copy)
-  pub request : RequestBounded s r → RequestBounded s (g .change .request)
+pub ended-bounded : {s : Setup} (r : Request) → RequestBounded s r → RequestBounded s (ended r)
+ended-bounded r h = record { next = h .next; object = λ e. not-both e refl }
+
+forgotten-bounded : {s : Setup} (r : Request) (o : ℕ) → RequestBounded s r → RequestBounded s (forgotten r o)
+unfolding forgotten
+forgotten-bounded {s} r o h = cond-keeps (RequestBounded s) (asksFor r o) (λ _. ended-bounded r h) (λ _. h)
+
+-- what a receipt or a step leaves: tables t within the bounds, and a change g that keeps the bounds of the copy c and the request r
+pub record Leaves (s : Setup) (c : Copy) (r : Request) (t : Tables) (g : Change) : Type 0 where
+  pub tables : Bounded s t
+  pub copy : CopyBounded c → CopyBounded (g .copy)
+  pub request : RequestBounded s r → RequestBounded s (g .request)
+
+abbrev pub Receipt : Setup → Copy → Request → Received → Type 0
+Receipt s c r g = Leaves s c r (g .counted .tables) (g .change)
+
+-- copy and request stay
+pub unchanged : {s : Setup} {c : Copy} {r : Request} {t : Tables} → Bounded s t → Leaves s c r t (kept c r)
+unchanged h = record { tables = h; copy = λ b. b; request = λ b. b }
 
 module _ (s : Setup) (rs : Ranges s) (t : Tables) (c : Copy) (r : Request) (d : ℕ) (p : d < s .clients) (h : Bounded s t) where
-  grant-received : (o n x e w y : ℕ) (v : Payload) → Timed x → Timed y → Receipt s c r (grantReceived s t c r d o n x e w y v)
+  grant-received : (o n x e w y : ℕ) (a : Payload) → Timed x → Timed y → Receipt s c r (grantReceived s t c r d o n x e w y a)
   unfolding grantReceived
-  grant-received o n x e w y v j k =
-      cond-keeps (Receipt s c r) (grantTaken c r n w v)
+  grant-received o n x e w y a j k =
+      cond-keeps (Receipt s c r) (grantTaken c r n w a)
       (λ _. record {
-        tables = views-bounded s rs t _ (viewed-bounded s rs (t .views) d (volumeOf s o) e x j (h .views)) h;
+        tables = views-bounded (viewed-bounded (t .views) d (volumeOf s o) e x j (h .views)) h;
         copy = λ _. k;
-        request = ended-bounded s rs r;
+        request = ended-bounded r;
       })
-      (λ _. record { tables = h; copy = λ b. b; request = λ b. b })
+      (λ _. unchanged h)
 
   invalidate-received : (o e w : ℕ) → o < s .objects → Receipt s c r (invalidateReceived t r d o e w)
   unfolding invalidateReceived
   invalidate-received o e w q = record {
-    tables = sent-bounded s rs t _ (both-true (lt-ltb d (s .clients) p) (lt-ltb o (s .objects) q)) h;
+    tables = sent-bounded t _ (both-true (lt-ltb d (s .clients) p) (lt-ltb o (s .objects) q)) h;
     copy = λ _. omega arith;
-    request = forgotten-bounded s rs r o;
+    request = forgotten-bounded r o;
   }
 
   offer-received : (v n e : ℕ) → v < s .volumes → Receipt s c r (offerReceived t c r d v n e)
@@ -211,21 +164,21 @@ module _ (s : Setup) (rs : Ranges s) (t : Tables) (c : Copy) (r : Request) (d : 
       cond-keeps (Receipt s c r) (stands r n)
       (λ _. record {
         tables =
-            sent-bounded s rs _ _ (both-true (lt-ltb d (s .clients) p) (lt-ltb v (s .volumes) q))
-            (views-bounded s rs t _ (viewed-bounded s rs (t .views) d v e 0 (omega arith) (h .views)) h);
+            sent-bounded _ _ (both-true (lt-ltb d (s .clients) p) (lt-ltb v (s .volumes) q))
+            (views-bounded (viewed-bounded (t .views) d v e 0 (omega arith) (h .views)) h);
         copy = λ b. b;
-        request = ended-bounded s rs r;
+        request = ended-bounded r;
       })
-      (λ _. record { tables = h; copy = λ b. b; request = λ b. b })
+      (λ _. unchanged h)
 
-  pub received-bounded : (k : Kind) → kindSound s k ≡ true → Receipt s c r (received s t c r d k)
+  pub received-bounded : (kind : Kind) → kindSound s kind ≡ true → Receipt s c r (received s t c r d kind)
   unfolding received
-  received-bounded (Renew o n e w) q = record { tables = renewed-bounded s rs t d o n e w p (ltb-true _ _ q) h; copy = λ b. b; request = λ b. b }
-  received-bounded (Grant o n x e w y v) q =
-      let a = and-true (ltb o (s .objects) && timeFits x) (timeFits y) q in
-      let b = and-true (ltb o (s .objects)) (timeFits x) (a .0) in
-      grant-received o n x e w y v (leb-true _ _ (b .1)) (leb-true _ _ (a .1))
+  received-bounded (Renew o n e w) q = unchanged (renewed-bounded s rs t d o n e w p (ltb-true _ _ q) h)
+  received-bounded (Grant o n x e w y a) q =
+      let f = and-true (ltb o (s .objects) && timeFits x) (timeFits y) q in
+      let g = and-true (ltb o (s .objects)) (timeFits x) (f .0) in
+      grant-received o n x e w y a (leb-true _ _ (g .1)) (leb-true _ _ (f .1))
   received-bounded (Invalidate o e w) q = invalidate-received o e w (ltb-true _ _ q)
-  received-bounded (Ack o e w) q = record { tables = settled-bounded s rs _ (ack-bounded s rs t d o e w h); copy = λ b. b; request = λ b. b }
+  received-bounded (Ack o e w) q = unchanged (settled-bounded s _ (ack-bounded s t d o e w h))
   received-bounded (Offer v n e) q = offer-received v n e (ltb-true _ _ q)
-  received-bounded (Dropped v n e) q = record { tables = settled-bounded s rs _ (drop-bounded s rs t d v n e h); copy = λ b. b; request = λ b. b }
+  received-bounded (Dropped v n e) q = unchanged (settled-bounded s _ (drop-bounded s t d v n e h))

@@ -1,13 +1,13 @@
 -- A step is refused and changes nothing, or every question was answered "yes" and it goes by its kind.
 use Prim.Native.Nat.{ℕ, suc, _<_, _≤_}
 use native.Mathlib.Omega.{arith}
-use mathlib.Core.Bool.{Bool, true, false, not, _&&_, _||_}
+use mathlib.Core.Bool.{Bool, true, false, not, _||_}
 use mathlib.Core.Logic.{⊎-elim}
 use mathlib.Core.Path.{_≡_, refl, ap}
-use lib.Dec.{ltb, leb, eqb}
+use lib.Dec.{ltb, leb}
 use lib.ListN.{getD}
 use lib.Seq.{set-getD}
-use borrow.Author.Tests.{ltb-true, leb-true, eqb-true, not-true, lt-ltb, le-ltb}
+use borrow.Author.Tests.{ltb-true, leb-true, eqb-true, not-true}
 use Rattle.laws.specs.Choice.{and-true, not-both, same?}
 use Rattle.laws.specs.Loop.{foldFrom, allFrom, all-each}
 use Rattle.protocol.specs.declared.records.Copy.{Copy}
@@ -17,7 +17,7 @@ use Rattle.protocol.specs.declared.step.Answer.the-variants.{Done, Refus
 use Rattle.protocol.specs.declared.step.Decision.{Decision}
 use Rattle.protocol.specs.declared.step.Step.{Step}
 use Rattle.protocol.specs.declared.tables.Tables.{Tables}
-use Rattle.protocol.specs.Setup.{inRange, between, volumeOf, volumeFits}
+use Rattle.protocol.specs.Setup.{inRange}
 use Rattle.protocol.specs.Tables.{epochAt, versionAt, standingAt, noCopy, noRequest, withQueue}
 use Rattle.protocol.specs.Messages.{doubled}
 use Rattle.protocol.specs.Writes.{settled, writeStaged, clockStaged}
@@ -243,46 +243,3 @@ module _ {s : Setup} {t : Tables} {b : Bool} {r : Request} {x : Step} (a : Accep
 
   pub queue-fits : t .queue .len ≤ 64
   queue-fits = sound-length s t tables-sound
-
--- the numbers of an existing setup
-pub record Ranges (s : Setup) : Type 0 where
-  pub clients : (1 ≤ s .clients) × (s .clients ≤ 16)
-  pub volumes : (1 ≤ s .volumes) × (s .volumes ≤ 8)
-  pub objects : (1 ≤ s .objects) × (s .objects ≤ 32)
-  pub tv : (1 ≤ s .tv) × (s .tv ≤ 3600)
-  pub t : (1 ≤ s .t) × (s .t ≤ 1000000)
-  pub m : (1 ≤ s .m) × (s .m ≤ 60)
-  pub within : (o : ℕ) → o < s .objects → volumeOf s o < s .volumes
-  pub beyond : (o : ℕ) → o < 32 → s .objects ≤ o → volumeOf s o ≡ 0
-
-ranged : (low high n : ℕ) → between low high n ≡ true → (low ≤ n) × (n ≤ high)
-ranged low high n e =
-    let w = and-true _ _ e in
-    (leb-true _ _ (w .0), leb-true _ _ (w .1))
-
-pub ranges : (s : Setup) → inRange s ≡ true → Ranges s
-unfolding inRange
-ranges s e =
-    let w6 = and-true _ _ e in
-    let w5 = and-true _ _ (w6 .0) in
-    let w4 = and-true _ _ (w5 .0) in
-    let w3 = and-true _ _ (w4 .0) in
-    let w2 = and-true _ _ (w3 .0) in
-    let w1 = and-true _ _ (w2 .0) in
-    let few = ranged 1 32 (s .objects) (w2 .1) in
-    record {
-      clients = ranged 1 16 (s .clients) (w1 .0);
-      volumes = ranged 1 8 (s .volumes) (w1 .1);
-      objects = few;
-      tv = ranged 1 3600 (s .tv) (w3 .1);
-      t = ranged 1 1000000 (s .t) (w4 .1);
-      m = ranged 1 60 (s .m) (w5 .1);
-      within = λ o h. ltb-true _ _ (inside o h (all-each _ 32 (w6 .1) o (omega arith)));
-      beyond = λ o h k. eqb-true _ _ (outside o k (all-each _ 32 (w6 .1) o h));
-    }
-  where
-    inside : (o : ℕ) → o < s .objects → volumeFits s o ≡ true → ltb (volumeOf s o) (s .volumes) ≡ true
-    inside o h f = rw (lt-ltb _ _ h) at f
-
-    outside : (o : ℕ) → s .objects ≤ o → volumeFits s o ≡ true → eqb (volumeOf s o) 0 ≡ true
-    outside o h f = rw (le-ltb _ _ h) at f

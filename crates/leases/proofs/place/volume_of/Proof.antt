@@ -1,12 +1,12 @@
 use native.Mathlib.Omega.{arith}
-use Rattle.protocol.specs.SoundLaws.{ranged}
+use Rattle.protocol.specs.Ranges.{ranges}
 use Rattle.leases.proofs.Laws.{placed}
 use borrow.Author.Needs.{needs}
 use Rattle.leases.proofs.place.volume_of.Statement.{statement}
 use Rattle.leases.proofs.place.volume_of.Tie as tie
 
 element-copy-out-result : tie.Need-element-copy-out-result
-element-copy-out-result c = omega (arith, ranged (c .args .t1) (c .pre .0))
+element-copy-out-result c = omega (arith, ranges (c .args .t1) (c .pre .0))
 
 cast-result : tie.Need-cast-result
 cast-result c = search needs

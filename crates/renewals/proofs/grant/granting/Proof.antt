@@ -1,5 +1,5 @@
 use native.Mathlib.Omega.{arith}
-use Rattle.protocol.specs.SoundLaws.{ranged}
+use Rattle.protocol.specs.Ranges.{ranges}
 use borrow.Author.Needs.{needs}
 use Rattle.renewals.proofs.grant.granting.Statement.{statement}
 use Rattle.renewals.proofs.grant.granting.Tie as tie
@@ -29,7 +29,7 @@ cast-t22 : tie.Need-cast-t22
 cast-t22 c = search needs
 
 add-t16 : tie.Need-add-t16
-add-t16 c = omega (arith, ranged _ (c .before .before .before .before .before .pre .0))
+add-t16 c = omega (arith, ranges _ (c .before .before .before .before .before .pre .0))
 
 mul-t13 : tie.Need-mul-t13
 mul-t13 c = search needs
@@ -44,7 +44,7 @@ element-copy-out-t28 : tie.Need-element-copy-out-t28
 element-copy-out-t28 c = search needs
 
 add-t29 : tie.Need-add-t29
-add-t29 c = omega (arith, ranged _ (c .before .before .before .before .before .before .before .before .pre .0))
+add-t29 c = omega (arith, ranges _ (c .before .before .before .before .before .before .before .before .pre .0))
 
 returns : tie.Need-returns
 returns c t = rw (c .before .before .before .before .payload .ensures, c .before .before .before .before .before .before .before .volume-of .ensures .is)

@@ -1,6 +1,6 @@
 use native.Mathlib.Omega.{arith}
 use Rattle.protocol.specs.Server.{granted, objectRenewed, volumeRenewed}
-use Rattle.protocol.specs.SoundLaws.{ranged}
+use Rattle.protocol.specs.Ranges.{ranges}
 use borrow.Author.Needs.{needs}
 use Rattle.renewals.proofs.receive.grant.Statement.{statement}
 use Rattle.renewals.proofs.receive.grant.Tie as tie
@@ -12,10 +12,10 @@ granting-requires : tie.Need-granting-requires
 granting-requires c κs = search needs
 
 add-x : tie.Need-add-x
-add-x c = omega (arith, ranged _ (c .before .before .before .pre .0))
+add-x c = omega (arith, ranges _ (c .before .before .before .pre .0))
 
 add-y : tie.Need-add-y
-add-y c = omega (arith, ranged _ (c .before .before .before .before .pre .0))
+add-y c = omega (arith, ranges _ (c .before .before .before .before .pre .0))
 
 mul-i : tie.Need-mul-i
 mul-i c = search needs

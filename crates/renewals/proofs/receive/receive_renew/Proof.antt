@@ -1,6 +1,6 @@
 use native.Mathlib.Omega.{arith}
 use Rattle.protocol.specs.Server.{noted}
-use Rattle.protocol.specs.SoundLaws.{ranged}
+use Rattle.protocol.specs.Ranges.{ranges}
 use Rattle.leases.specs.Parts.{sessionsOf, withServer}
 use Rattle.renewals.proofs.Laws.{renew-old, renew-new}
 use borrow.Author.Needs.{needs}
@@ -11,7 +11,7 @@ mul-if1 : tie.Need-mul-if1
 mul-if1 c = search needs
 
 element-copy-out-if1 : tie.Need-element-copy-out-if1
-element-copy-out-if1 c = omega (arith, ranged _ (c .pre .0))
+element-copy-out-if1 c = omega (arith, ranges _ (c .pre .0))
 
 returns : tie.Need-returns
 returns c t = renew-old _ _ _ _ _ _ _ (omega (arith, c .if1 .taken))
@@ -20,7 +20,7 @@ mul-seen : tie.Need-mul-seen
 mul-seen c = search needs
 
 element-write-seen : tie.Need-element-write-seen
-element-write-seen c = omega (arith, ranged _ (c .before .before .pre .0))
+element-write-seen c = omega (arith, ranges _ (c .before .before .pre .0))
 
 renew-by-requires : tie.Need-renew-by-requires
 renew-by-requires c κs = search needs

@@ -1,7 +1,7 @@
 use native.Mathlib.Omega.{arith}
 use denote.Ref.{now}
 use Rattle.leases.specs.Parts.{sessionsOf, withServer}
-use Rattle.protocol.specs.SoundLaws.{ranged}
+use Rattle.protocol.specs.Ranges.{ranges}
 use Rattle.server.proofs.Laws.{drop-yes, drop-no}
 use borrow.Author.Needs.{needs}
 use Rattle.server.proofs.dropped.receive_dropped.Statement.{statement}
@@ -11,7 +11,7 @@ mul-drop-taken : tie.Need-mul-drop-taken
 mul-drop-taken c = search needs
 
 element-copy-out-drop-taken : tie.Need-element-copy-out-drop-taken
-element-copy-out-drop-taken c = omega (arith, c .pre .1 .1 .1, ranged _ (c .pre .0) .volumes)
+element-copy-out-drop-taken c = omega (arith, c .pre .1 .1 .1, ranges _ (c .pre .0) .volumes .1)
 
 mul-drop-taken-2 : tie.Need-mul-drop-taken-2
 mul-drop-taken-2 c = search needs
@@ -25,8 +25,8 @@ mul-drop-taken-3 c = search needs
 element-copy-out-drop-taken-2 : tie.Need-element-copy-out-drop-taken-2
 element-copy-out-drop-taken-2 c =
     let p = c .before .pre in
-    let r = ranged _ (p .0) in
-    omega (arith, p .1 .1 .0, p .1 .1 .1, r .clients, r .volumes)
+    let r = ranges _ (p .0) in
+    omega (arith, p .1 .1 .0, p .1 .1 .1, r .clients .1, r .volumes .1)
 
 drop-taken-requires : tie.Need-drop-taken-requires
 drop-taken-requires c κs = search needs
@@ -34,8 +34,8 @@ drop-taken-requires c κs = search needs
 drop-client-requires : tie.Need-drop-client-requires
 drop-client-requires c κs =
     let p = c .before .before .before .before .before .before .before .before .before .pre in
-    let r = ranged _ (p .0) in
-    (p .0, (p .1 .1 .0, (omega (arith, p .1 .1 .0, r .clients), omega (arith, p .1 .1 .1, r .volumes))))
+    let r = ranges _ (p .0) in
+    (p .0, (p .1 .1 .0, (omega (arith, p .1 .1 .0, r .clients .1), omega (arith, p .1 .1 .1, r .volumes .1))))
 
 settle-requires : tie.Need-settle-requires
 settle-requires c κs = search needs

@@ -1,4 +1,4 @@
-use Rattle.protocol.specs.SoundLaws.{ranged}
+use Rattle.protocol.specs.Ranges.{ranges}
 use Rattle.protocol.specs.Server.{serverRestarted}
 use borrow.Author.Needs.{needs}
 use Rattle.server.proofs.restart.restart.Statement.{statement}
@@ -8,7 +8,7 @@ cast-grown : tie.Need-cast-grown
 cast-grown c = search needs
 
 grown-requires : tie.Need-grown-requires
-grown-requires c κs = (ranged _ (c .before .before .before .pre .0) .volumes, c .before .before .before .pre .1)
+grown-requires c κs = (ranges _ (c .before .before .before .pre .0) .volumes .1, c .before .before .before .pre .1)
 
 clear-requires : tie.Need-clear-requires
 clear-requires c κs = search needs

@@ -3,7 +3,7 @@ use mathlib.Core.Path.{refl}
 use denote.Ref.{now}
 use Rattle.leases.specs.Parts.{sessionsOf, withServer}
 use Rattle.protocol.specs.Tables.{withQueue}
-use Rattle.protocol.specs.SoundLaws.{ranged}
+use Rattle.protocol.specs.Ranges.{ranges}
 use Rattle.writes.proofs.Laws.{accepts}
 use borrow.Author.Needs.{needs}
 use Rattle.writes.proofs.accept.accept_write.Statement.{statement}
@@ -36,7 +36,7 @@ element-copy-out-latest-end-3 c = search needs
 latest-end-requires : tie.Need-latest-end-requires
 latest-end-requires c κs =
     let p = c .before .before .before .before .before .pre in
-    omega (arith, ranged _ (p .0) .m, p .1 .0)
+    omega (arith, ranges _ (p .0) .m .1, p .1 .0)
 
 stand-requires : tie.Need-stand-requires
 stand-requires c κs = search needs

@@ -7,7 +7,8 @@ use Rattle.leases.specs.Parts.{withMarks, withServer}
 use Rattle.protocol.specs.declared.tables.Tables.{Tables}
 use Rattle.protocol.specs.Tables.{freshTables}
 use Rattle.protocol.specs.Writes.{completeIf, settled}
-use Rattle.protocol.specs.SoundLaws.{ranged, Growing}
+use Rattle.protocol.specs.Ranges.{ranges}
+use Rattle.protocol.specs.SoundLaws.{Growing}
 use Rattle.writes.specs.Triggers.{triggered}
 use Rattle.writes.proofs.Laws.{completes, settle-version, settle-end, settle-again, settle-grows}
 use borrow.Author.Needs.{needs}
@@ -55,12 +56,12 @@ add-count : tie.Need-add-count Inv-loop μ-loop
 add-count c =
     let e = c .before .before .before .before .before .before in
     let l = e .before .before .before .before .before .before .before .before in
-    omega (arith, ranged _ (l .before .before .before .pre .0) .objects, l .loop .inv .1 .0, e .before .next-triggered .ensures .low, e .if1 .left)
+    omega (arith, ranges _ (l .before .before .before .pre .0) .objects .1, l .loop .inv .1 .0, e .before .next-triggered .ensures .low, e .if1 .left)
 
 add-from : tie.Need-add-from Inv-loop μ-loop
 add-from c =
     let e = c .before .before .before .before .before .before in
-    omega (arith, ranged _ (e .before .before .before .before .before .before .before .before .before .before .before .pre .0) .objects, e .if1 .left)
+    omega (arith, ranges _ (e .before .before .before .before .before .before .before .before .before .before .before .pre .0) .objects .1, e .if1 .left)
 
 loop-less : tie.Need-loop-less Inv-loop μ-loop
 loop-less c =

@@ -1,0 +1,78 @@
+-- Accepting a write and completing one keep the bounds of question 1.
+-- h says that they hold; o is the object of the write, k another one, d a client; x is the value, v says that the version can grow.
+use Prim.Native.Nat.{ℕ, _+_, _<_}
+use native.Mathlib.Omega.{arith}
+use mathlib.Core.Bool.{true, false}
+use mathlib.Core.Logic.{⊎-elim}
+use mathlib.Core.Path.{_≡_, sym, _∙_}
+use lib.ListN.{getD, set}
+use lib.Seq.{getD-set-other}
+use borrow.Author.Tests.{lt-ltb}
+use Rattle.laws.specs.Choice.{cond-keeps, same?, both-true}
+use Rattle.laws.specs.Loop.{fold-keeps, fold-keeps-in}
+use Rattle.laws.specs.Each.{each-set, each-getD, each-store}
+use Rattle.protocol.specs.declared.setup.Setup.{Setup}
+use Rattle.protocol.specs.declared.tables.Tables.{Tables}
+use Rattle.protocol.specs.Setup.{volumeOf}
+use Rattle.protocol.specs.Ranges.{Ranges}
+use Rattle.protocol.specs.Tables.{waitingAt, versionAt}
+use Rattle.protocol.specs.Writes.{Counted, Staged, latestEnd, opened, awaited, begun, invalidation, notify, notified, deserted, posted, released, completed, completeIf, settled, written}
+use Rattle.protocol.specs.SoundLaws.{not-cleared}
+use Rattle.protocol.specs.Soundness.Bounds.{Timed, Started, Named, ObjectsBounded, QueueBounded, Bounded, unreachable-bounded, value-bounded, version-bounded, write-bounded, lease-bounded, waiting-bounded, sessions-bounded, objects-bounded, holders-bounded, queue-bounded, pushed-bounded}
+
+module _ (s : Setup) where
+  -- ---- a write accepted
+  latest-end-timed : (t : Tables) (o : ℕ) → Ranges s → Bounded s t → Timed (latestEnd s t o)
+  unfolding latestEnd
+  latest-end-timed t o rs h =
+      omega (arith, h .clock, rs .m .1, each-getD Timed _ (volumeOf s o) 0 (h .volumes .expiry) (omega arith), each-getD Timed _ (volumeOf s o) 0 (h .volumes .guard) (omega arith))
+
+  opened-standing : (t : Tables) (o : ℕ) → versionAt t o < 4294967295 → ObjectsBounded (t .objects)
+      → (k : ℕ) → getD (set (t .objects .standing) o true) k false ≡ true → versionAt t k < 4294967295
+  opened-standing t o v h k e =
+      ⊎-elim (λ p. rw p v) (λ p. h .standing k (sym (getD-set-other (t .objects .standing) o k true false p) ∙ e)) (same? k o)
+
+  begun-bounded : (t : Tables) (o x : ℕ) → Ranges s → versionAt t o < 4294967295 → Bounded s t → Bounded s (begun s t o x)
+  unfolding opened awaited
+  begun-bounded t o x rs v h =
+      holders-bounded (waiting-bounded _ (h .holders))
+      (objects-bounded (write-bounded o true x _ (opened-standing t o v (h .objects)) (latest-end-timed t o rs h) (h .objects)) h)
+
+  pub invalidation-named : (t : Tables) (o d : ℕ) → o < s .objects → d < s .clients → Named s (invalidation s t o d)
+  invalidation-named t o d p q = both-true (lt-ltb d (s .clients) q) (lt-ltb o (s .objects) p)
+
+  notified-bounded : (t : Tables) (o : ℕ) → o < s .objects → QueueBounded s (t .queue) → QueueBounded s (notified s t o)
+  unfolding notified
+  notified-bounded t o p h =
+      fold-keeps-in (QueueBounded s) (notify s t o) (s .clients)
+      (λ q d b k. cond-keeps (QueueBounded s) (waitingAt t d o) (λ e. pushed-bounded q _ (invalidation-named t o d p b) k) (λ e. k))
+      (t .queue) 0 (s .clients) (omega arith) h
+
+  pub written-bounded : (t : Tables) (o x : ℕ) → Ranges s → o < s .objects → versionAt t o < 4294967295 → Bounded s t → Bounded s (written s t o x)
+  unfolding written
+  written-bounded t o x rs p v h =
+      let b = begun-bounded t o x rs v h in
+      queue-bounded (notified-bounded (begun s t o x) o p (b .queue)) b
+
+  -- ---- a write completed
+  posted-bounded : (t : Tables) (o : ℕ) → ObjectsBounded (t .objects) → ObjectsBounded (posted t o)
+  unfolding posted
+  posted-bounded t o h =
+      version-bounded _ (each-set Started (t .objects .version) o _ (h .version) (omega arith))
+      (λ k e. let p = not-cleared (t .objects .standing) o k e in rw (getD-set-other (t .objects .version) o k (versionAt t o + 1) 0 (p .0)) (h .standing k (p .1)))
+      (value-bounded _ (write-bounded o false 0 0 (λ k e. h .standing k (not-cleared (t .objects .standing) o k e .1)) (omega arith) h))
+
+  completed-bounded : (t : Tables) (o : ℕ) → Bounded s t → Bounded s (completed s t o)
+  unfolding completed released deserted
+  completed-bounded t o h =
+      sessions-bounded (unreachable-bounded _ (h .sessions))
+      (holders-bounded
+      (waiting-bounded _ (lease-bounded _ (each-store Timed _ _ _ (t .holders .lease) (s .clients) (h .holders .lease) (λ d b. omega arith)) (h .holders)))
+      (objects-bounded (posted-bounded t o (h .objects)) h))
+
+  pub settled-bounded : (g : Staged) → Bounded s (g .tables) → Bounded s (settled s g .tables)
+  unfolding settled
+  settled-bounded g h =
+      fold-keeps (λ (c : Counted). Bounded s (c .tables)) (completeIf (g .test) s)
+      (λ c o k. cond-keeps (λ (c : Counted). Bounded s (c .tables)) (g .test (c .tables) o) (λ e. completed-bounded (c .tables) o k) (λ e. k))
+      (record { count = 0; tables = g .tables }) (g .from) (g .many) h
