@@ -49,7 +49,8 @@ fn timed(name: &'static str, setup: Setup, more: fn(&mut Builder)) -> Timed {
     let file = write(&[], &setup, &builder.steps);
     let lines = String::from_utf8(listing(&file)).expect("a listing is text");
     let answers = lines.lines().skip(1).map(|line| line.split(' ').nth(1));
-    let counted = |kind, answer| builder.steps.iter().zip(answers.clone()).filter(|(s, a)| (s.kind, *a) == (kind, Some(answer))).count();
+    let answered: Vec<_> = builder.steps.iter().map(|step| step.kind).zip(answers).collect();
+    let counted = |kind, answer| answered.iter().filter(|&&pair| pair == (kind, Some(answer))).count();
     let (shown, waited) = (counted(2, "1"), counted(4, "0"));
     Timed { name, queue: messages as f64 / STEPS as f64, shown, waited, file }
 }
@@ -108,4 +109,42 @@ pub fn refused_at_its_end(file: &[u8]) -> Vec<u8> {
     file[last_step] = 2;
     file[last_step + 8] = 1;
     file
+}
+
+#[cfg(test)]
+mod tests {
+    use super::*;
+    use model::runfile::read;
+
+    fn refused(file: &[u8]) -> usize {
+        let lines = String::from_utf8(listing(file)).expect("a listing is text");
+        lines.lines().filter(|line| line.split(' ').nth(1) == Some("4")).count()
+    }
+
+    #[test]
+    fn every_file_is_accepted_and_has_the_most_steps() {
+        let files = runs().into_iter().map(|run| (run.name, run.file)).chain(kinds());
+        for (name, file) in files {
+            assert_eq!(read(&file).map(|run| run.len()), Ok(STEPS), "{name}");
+        }
+    }
+
+    #[test]
+    fn steps_of_a_known_kind_are_taken() {
+        for (name, file) in kinds() {
+            let expected = if name == "unknown kind" { STEPS } else { 0 };
+            assert_eq!(refused(&file), expected, "{name}");
+        }
+    }
+
+    #[test]
+    fn copies_are_shown_and_writes_wait_where_messages_are_delivered() {
+        let run = &runs()[1];
+        assert!(run.shown > 0 && run.waited > 0, "{} and {}", run.shown, run.waited);
+    }
+
+    #[test]
+    fn the_file_that_is_read_to_its_end_is_refused() {
+        assert_eq!(read(&refused_at_its_end(&runs()[0].file)), Err(9));
+    }
 }

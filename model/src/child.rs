@@ -10,7 +10,8 @@ use std::time::Duration;
 const PATIENCE: Duration = Duration::from_secs(20);
 
 /// What the program prints on standard output for this file. A program that
-/// hangs or dies by a signal gets a last line that no listing has.
+/// hangs, dies by a signal or ends with a status other than 0 gets a last line
+/// that no listing has.
 pub fn listing_by(program: &str, file: &[u8]) -> io::Result<Vec<u8>> {
     let mut command = Command::new(program);
     let mut child = command.stdin(Stdio::piped()).stdout(Stdio::piped()).stderr(Stdio::null()).spawn()?;
@@ -22,8 +23,8 @@ pub fn listing_by(program: &str, file: &[u8]) -> io::Result<Vec<u8>> {
     }
     let status = child.wait()?;
     let mut lines = in_time.unwrap_or_else(|_| b"(hangs)\n".to_vec());
-    if status.code().is_none() {
-        lines.extend_from_slice(b"(ended by a signal)\n");
+    if !status.success() {
+        lines.extend_from_slice(format!("({status})\n").as_bytes());
     }
     Ok(lines)
 }

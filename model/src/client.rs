@@ -2,7 +2,6 @@
 
 use crate::answer::Answer;
 use crate::copies::ObjectCopy;
-use crate::limits::VOLUMES;
 use crate::message::{Grant, Kind};
 use crate::mistakes::Rules;
 use crate::requests::Request;
@@ -44,11 +43,12 @@ impl<R: Rules> World<'_, R> {
         if mistakes.client_restart_resets_number {
             self.requests[client] = Request::FRESH;
         }
-        self.tables.clients.epoch[client] = [0; VOLUMES];
+        let volumes = usize::from(self.setup.volumes);
+        self.tables.clients.epoch[client][..volumes].fill(0);
         if mistakes.client_restart_keeps_leases {
             return;
         }
-        self.tables.clients.expiry[client] = [0; VOLUMES];
+        self.tables.clients.expiry[client][..volumes].fill(0);
         let first = self.setup.copy_place(client, 0);
         self.copies[first..first + self.setup.objects as usize].fill(ObjectCopy::NONE);
     }

@@ -32,8 +32,9 @@ impl<R: Rules> World<'_, R> {
         let latest_end = self.latest_end(object);
         let waiting = self.to_wait_for(object);
         let server = &mut self.tables.server;
+        let past_count = server.write[object].waiting & !self.setup.all_clients();
         server.standing |= 1 << object;
-        server.write[object] = Write { value, latest_end, waiting };
+        server.write[object] = Write { value, latest_end, waiting: waiting | past_count };
         for client in members(waiting.into()) {
             self.send_invalidate(client, object);
         }
@@ -116,12 +117,13 @@ impl<R: Rules> World<'_, R> {
         if !mistakes.complete_without_marking {
             server.unreachable[volume] |= waiting;
         }
-        server.object_expiry[object] = [0; CLIENTS];
+        server.object_expiry[object][..self.setup.clients.into()].fill(0);
         if mistakes.complete_clears_offers {
             members(waiting.into()).for_each(|client| server.offer[volume][client] = 0);
         }
         server.standing &= !(1 << object);
-        server.write[object] = Write::NONE;
+        let past_count = server.write[object].waiting & !self.setup.all_clients();
+        server.write[object] = Write { waiting: past_count, ..Write::NONE };
     }
 
     /// RENEW: the first rule that fits (01, Messages received).
@@ -264,10 +266,12 @@ impl<R: Rules> World<'_, R> {
         let old = self.tables.server;
         let server = &mut self.tables.server;
         *server = Server { value: old.value, version: old.version, ..Server::fresh() };
-        (server.epoch, server.volume_latest, server.guard) = (old.epoch, old.volume_latest, old.guard);
+        (server.epoch, server.volume_latest) = (old.epoch, old.volume_latest);
+        if !mistakes.restart_without_guard {
+            server.guard = old.volume_latest;
+        }
         for volume in 0..self.setup.volumes as usize {
             server.epoch[volume] += u32::from(!mistakes.restart_keeps_epochs);
-            server.guard[volume] = if mistakes.restart_without_guard { 0 } else { old.volume_latest[volume] };
             if mistakes.restart_forgets_latest {
                 server.volume_latest[volume] = 0;
             }

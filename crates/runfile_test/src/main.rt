@@ -1,5 +1,5 @@
-// Run files made up by hand from 01's layout, one line for each: refusal, the note's length, the setup with its first and last volume byte, how many
-// steps and where they begin; and some records of steps.
+// Run files made up by hand from 01's layout, one line for each: refusal, the note's length and its bytes, the setup with its first and last volume byte,
+// how many steps and where they begin; and some records of steps.
 mod show;
 
 ghost use Prim.Native.Nat.{_<_};
@@ -129,9 +129,38 @@ fn note_like_a_file() {
     show::file(&f);
 }
 
+// A note of any bytes: zeros at both ends, a newline, the largest byte, digits, a quote and half of a two-byte character.
+fn note_of_any_bytes() {
+    let mut f = [0u8; 65];
+    f[1] = 255;
+    f[2] = 10;
+    f[3] = 13;
+    f[4] = 48;
+    f[5] = 34;
+    f[6] = 195;
+    f[7] = 128;
+    f[9] = 1;
+    f[10] = 1;
+    f[11] = 1;
+    f[13] = 10;
+    f[17] = 100;
+    f[21] = 3;
+    f[61] = 56;
+    show::file(&f);
+    // a byte shorter at each end: the note loses its first byte, and the trailer its last
+    show::file(show::cut(&f, 1, 65));
+    show::file(show::cut(&f, 0, 64));
+    // all of the note gone
+    show::file(show::cut(&f, 9, 65));
+}
+
 // After a first byte that is one too many: 65,536 bytes, a note of 1,480 and 4,000 steps, the last of which delivers place 63.
 fn largest() -> [u8; 65537] {
     let mut f = [0u8; 65537];
+    f[0] = 7;
+    f[1] = 255;
+    f[1479] = 10;
+    f[1480] = 254;
     f[1481] = 16;
     f[1482] = 8;
     f[1483] = 32;
@@ -182,6 +211,7 @@ fn main() {
     steps();
     step_fields();
     note_like_a_file();
+    note_of_any_bytes();
     large();
     too_many_steps();
 }

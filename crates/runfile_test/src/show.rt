@@ -41,11 +41,31 @@ pub fn cut(f: &[u8], from: usize, to: usize) -> &[u8] {
     &f[..0]
 }
 
-// The refusal, the note's length, and what else was read.
+fn byte(b: u8) {
+    io::print_hex(1, b as u64, 2);
+}
+
+fn bytes(s: &[u8]) {
+    let mut i = 0;
+    while i < s.len() {
+        byte(s[i]);
+        i += 1;
+    }
+}
+
+// The note's length, and its bytes in brackets.
+fn note(s: &[u8]) {
+    number(s.len() as u64);
+    io::write_all(1, b"[");
+    bytes(s);
+    io::write_all(1, b"] ");
+}
+
+// The refusal, the note, and what else was read.
 pub fn file(f: &[u8]) {
     let r = runfile::read(f);
     number(r.refusal as u64);
-    number(runfile::note(f).len() as u64);
+    note(runfile::note(f));
     let s = r.setup;
     setup(s);
     number(r.count as u64);

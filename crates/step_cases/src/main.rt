@@ -1,6 +1,11 @@
 // Steps on tables that no run reaches: unsound ones, and ones at or past a limit. The cases stand in the file `stdin`, as numbers among words; the model
-// reads the same file, and its answers are the file `stdout`.
+// reads the same file, and what it prints of its answers and its tables is the file `stdout`.
+mod arrays;
 mod change;
+mod left;
+mod left_messages;
+mod left_records;
+mod lines;
 mod messages;
 mod record;
 mod tables;
@@ -27,7 +32,7 @@ fn changed(s: &[u8], from: usize, count: u64, w: World) -> World {
     w
 }
 
-// So many steps, each on what the last one left, with a line for each.
+// So many steps, each on what the last one left. For each a line, and what it left.
 fn taken(s: &[u8], from: usize, count: u64, id: u64, w: World) {
     let mut w = w;
     let mut at = from;
@@ -36,7 +41,9 @@ fn taken(s: &[u8], from: usize, count: u64, id: u64, w: World) {
         let t = take::stepped(w, text::step(s, at));
         let a = t.answer;
         take::show(id, a);
-        w = t.world;
+        let next = t.world;
+        left::show(w, next);
+        w = next;
         at = text::after(s, at, 6);
         i += 1;
     }

@@ -1,5 +1,10 @@
-// One step of a case, and the line that it prints.
+// One step of a case, and its answer printed.
+use crate::lines::end;
+use crate::lines::fields;
+use crate::lines::number;
+use crate::lines::text;
 use crate::world::World;
+use protocol::message::Message;
 use protocol::step::Answer;
 use protocol::step::Step;
 
@@ -32,19 +37,10 @@ pub fn stepped(w: World, x: Step) -> Taken {
     Taken { answer, world }
 }
 
-fn number(n: u64) {
-    io::print_decimal(1, n);
-    io::write_all(1, b" ");
-}
-
-fn last(n: u64) {
-    io::print_decimal(1, n);
-    io::write_all(1, b"\n");
-}
-
 fn line(answer: u64, value: u64) {
-    number(answer);
-    last(value);
+    number(b" ", answer);
+    number(b" ", value);
+    end();
 }
 
 fn completed(n: u32) {
@@ -55,15 +51,21 @@ fn completed(n: u32) {
     line(3, n as u64);
 }
 
-// The case, and 01's number and value of the answer.
+fn delivered(m: Message, n: u32) {
+    completed(n);
+    text(b"  delivered:");
+    fields(frame::fields::fields_of(m));
+}
+
+// The case, 01's number and value of the answer, and the message in it.
 pub fn show(id: u64, a: Answer) {
-    number(id);
+    number(b"", id);
     match a {
         Answer::Done => line(0, 0),
         Answer::Shown(x) => line(1, x),
         Answer::AskFirst => line(2, 0),
         Answer::Completed(n) => completed(n),
-        Answer::Delivered(_, n) => completed(n),
+        Answer::Delivered(m, n) => delivered(m, n),
         Answer::Refused(k) => line(4, k as u64),
     }
 }

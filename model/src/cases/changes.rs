@@ -27,7 +27,7 @@ impl CaseTables {
             61 => self.copies[place].value = value,
             62 => self.copies[place].expiry = word(value),
             63 => self.copies_lent = value as usize,
-            70..=73 => change_request(&mut self.requests[place], field, value),
+            70..=73 => change_request(&mut self.requests[place], &mut self.asked[place], field, value),
             74 => self.requests_lent = value as usize,
             _ => panic!("field {field}"),
         }
@@ -88,13 +88,13 @@ fn with_bit(set: u32, place: usize, value: u64) -> u32 {
     set & !(1 << place) | u32::from(value != 0) << place
 }
 
-/// Number and object are those of the standing request; where none stands,
-/// they are free.
-fn change_request(request: &mut Request, field: u64, value: u64) {
+fn change_request(request: &mut Request, asked: &mut Standing, field: u64, value: u64) {
+    let mut stands = request.standing.is_some();
     match field {
         70 => request.next = word(value),
-        71 => request.standing = (value != 0).then_some(Standing { number: 0, object: 0 }),
-        72 => request.standing.iter_mut().for_each(|standing| standing.number = word(value)),
-        _ => request.standing.iter_mut().for_each(|standing| standing.object = byte(value)),
+        71 => stands = value != 0,
+        72 => asked.number = word(value),
+        _ => asked.object = byte(value),
     }
+    request.standing = stands.then_some(*asked);
 }

@@ -3,18 +3,23 @@
 //! `step_cases` reads too; what it prints is held to these lines.
 
 mod changes;
+mod free;
+mod left;
 mod numbers;
 mod rows;
 mod tables;
 
 pub use tables::CaseTables;
 
+use left::left;
 use numbers::Numbers;
+use rows::Row;
 
-use crate::step::step;
+use crate::answer::Answer;
 use crate::step_record::Step;
 
-/// The lines `case answer value`, one for each step of each case.
+/// A line `case answer value` for each step of each case. Below it, each after
+/// two spaces, the message that was delivered and what the step left.
 pub fn lines(text: &str) -> String {
     let mut numbers = Numbers::of(text);
     let base = changed(&mut numbers, &CaseTables::fresh());
@@ -22,8 +27,12 @@ pub fn lines(text: &str) -> String {
     while let Some(case) = numbers.next() {
         let mut tables = changed(&mut numbers, &base);
         for _ in 0..numbers.need() {
-            let (answer, value) = taken(&mut tables, &read_step(&mut numbers));
-            lines.push_str(&format!("{case} {answer} {value}\n"));
+            let before = tables.clone();
+            let answer = tables.take(&read_step(&mut numbers));
+            let (number, value) = answer.numbers();
+            lines.push_str(&format!("{case} {number} {value}\n"));
+            let below = delivered(&answer).into_iter().chain(left(&before, &tables));
+            below.for_each(|line| lines.push_str(&format!("  {line}\n")));
         }
     }
     lines
@@ -50,7 +59,9 @@ fn read_step(numbers: &mut Numbers) -> Step {
     }
 }
 
-fn taken(case: &mut CaseTables, record: &Step) -> (u8, u64) {
-    let (setup, tables, copies, requests) = case.parts();
-    step(setup, tables, copies, requests, record).numbers()
+fn delivered(answer: &Answer) -> Option<String> {
+    match answer {
+        Answer::Delivered { message, .. } => Some(format!("delivered: {}", Row::of(message))),
+        _ => None,
+    }
 }

@@ -1,10 +1,14 @@
 //! All that a step is handed, to be changed field by field.
 
+use crate::answer::Answer;
+use crate::cases::free::settle;
 use crate::cases::rows::Row;
 use crate::copies::{ObjectCopy, NO_COPIES};
-use crate::limits::QUEUE;
-use crate::requests::{Request, NO_REQUESTS};
+use crate::limits::{CLIENTS, QUEUE};
+use crate::requests::{Request, Standing, NO_REQUESTS};
 use crate::setup::Setup;
+use crate::step::step;
+use crate::step_record::Step;
 use crate::tables::Tables;
 
 #[derive(Clone, Debug)]
@@ -15,13 +19,12 @@ pub struct CaseTables {
     pub(super) rows: [Row; QUEUE],
     pub(super) copies: Vec<ObjectCopy>,
     pub(super) requests: Vec<Request>,
+    /// Number and object of each request record, whether it stands or not.
+    pub(super) asked: [Standing; CLIENTS],
     /// How many of the copies and of the requests are lent.
     pub(super) copies_lent: usize,
     pub(super) requests_lent: usize,
 }
-
-/// What every place of the list holds at first.
-const RENEW: Row = Row { fields: [1, 0, 0, 0, 0, 0, 0, 0, 0, 0] };
 
 impl CaseTables {
     /// Fresh tables and records, and a setup of zeros.
@@ -36,13 +39,14 @@ impl CaseTables {
             volume_of: [0; 32],
         };
         let mut tables = Tables::fresh();
-        tables.queue.places = [RENEW.message(); QUEUE];
+        tables.queue.places = [Row::BLANK.message(); QUEUE];
         CaseTables {
             setup,
             tables,
-            rows: [RENEW; QUEUE],
+            rows: [Row::BLANK; QUEUE],
             copies: NO_COPIES.to_vec(),
             requests: NO_REQUESTS.to_vec(),
+            asked: [Standing { number: 0, object: 0 }; CLIENTS],
             copies_lent: 0,
             requests_lent: 0,
         }
@@ -55,10 +59,15 @@ impl CaseTables {
         self.copies_lent = self.requests_lent * usize::from(self.setup.objects);
     }
 
-    /// The parts as a step call wants them.
-    pub fn parts(&mut self) -> (&Setup, &mut Tables, &mut [ObjectCopy], &mut [Request]) {
+    pub fn take(&mut self, record: &Step) -> Answer {
+        let before = self.clone();
         let copies = self.copies_lent.min(self.copies.len());
         let requests = self.requests_lent.min(self.requests.len());
-        (&self.setup, &mut self.tables, &mut self.copies[..copies], &mut self.requests[..requests])
+        let (copies, requests) = (&mut self.copies[..copies], &mut self.requests[..requests]);
+        let answer = step(&self.setup, &mut self.tables, copies, requests, record);
+        if !matches!(answer, Answer::Refused(_)) {
+            settle(&before, self, record);
+        }
+        answer
     }
 }

@@ -21,6 +21,9 @@ stepped-requires c κs = search needs
 show-requires : tie.Need-show-requires Inv-loop μ-loop
 show-requires c κs = search needs
 
+show-requires-2 : tie.Need-show-requires-2 Inv-loop μ-loop
+show-requires-2 c κs = search needs
+
 after-requires : tie.Need-after-requires Inv-loop μ-loop
 after-requires c κs = search needs
 
@@ -46,6 +49,7 @@ taken-spec =
     step-requires
     stepped-requires
     show-requires
+    show-requires-2
     after-requires
     add-i
     loop-less

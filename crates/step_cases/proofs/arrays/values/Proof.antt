@@ -1,0 +1,58 @@
+use Prim.Native.Nat.{_≤_, _-_}
+use lib.ListN.{length}
+use borrow.Author.Needs.{needs}
+use Rattle.step_cases.proofs.arrays.values.Statement.{statement}
+use Rattle.step_cases.proofs.arrays.values.Tie as tie
+
+abbrev Inv-loop : tie.InvT-loop
+Inv-loop name before after i₀ i = 0 ≤ i
+
+abbrev μ-loop : tie.MeasureT-loop
+μ-loop name before after i₀ i = length before - i
+
+loop-holds : tie.Need-loop-holds Inv-loop μ-loop
+loop-holds c = search needs
+
+mul-element : tie.Need-mul-element Inv-loop μ-loop
+mul-element c = search needs
+
+shared-slice-read-element : tie.Need-shared-slice-read-element Inv-loop μ-loop
+shared-slice-read-element c = search needs
+
+mul-element-2 : tie.Need-mul-element-2 Inv-loop μ-loop
+mul-element-2 c = search needs
+
+shared-slice-read-element-2 : tie.Need-shared-slice-read-element-2 Inv-loop μ-loop
+shared-slice-read-element-2 c = search needs
+
+element-requires : tie.Need-element-requires Inv-loop μ-loop
+element-requires c κs = search needs
+
+add-i : tie.Need-add-i Inv-loop μ-loop
+add-i c = search needs
+
+loop-less : tie.Need-loop-less Inv-loop μ-loop
+loop-less c = search needs
+
+loop-again : tie.Need-loop-again Inv-loop μ-loop
+loop-again c = search needs
+
+returns : tie.Need-returns Inv-loop μ-loop
+returns c = search needs
+
+pub values-spec : {M : Type 1} → statement M
+values-spec =
+    tie.close
+    (tie.spec
+    Inv-loop
+    μ-loop
+    loop-holds
+    mul-element
+    shared-slice-read-element
+    mul-element-2
+    shared-slice-read-element-2
+    element-requires
+    add-i
+    loop-less
+    loop-again
+    returns)

@@ -1,0 +1,57 @@
+use Prim.Native.Nat.{_≤_, _-_}
+use borrow.Author.Needs.{needs}
+use Rattle.step_cases.proofs.left_records.requests.Statement.{statement}
+use Rattle.step_cases.proofs.left_records.requests.Tie as tie
+
+abbrev Inv-loop : tie.InvT-loop
+Inv-loop a b i₀ i = i ≤ 16
+
+abbrev μ-loop : tie.MeasureT-loop
+μ-loop a b i₀ i = 16 - i
+
+loop-holds : tie.Need-loop-holds Inv-loop μ-loop
+loop-holds c = search needs
+
+mul-request : tie.Need-mul-request Inv-loop μ-loop
+mul-request c = search needs
+
+array-copy-out-request : tie.Need-array-copy-out-request Inv-loop μ-loop
+array-copy-out-request c = search needs
+
+mul-request-2 : tie.Need-mul-request-2 Inv-loop μ-loop
+mul-request-2 c = search needs
+
+array-copy-out-request-2 : tie.Need-array-copy-out-request-2 Inv-loop μ-loop
+array-copy-out-request-2 c = search needs
+
+request-requires : tie.Need-request-requires Inv-loop μ-loop
+request-requires c κs = search needs
+
+add-i : tie.Need-add-i Inv-loop μ-loop
+add-i c = search needs
+
+loop-less : tie.Need-loop-less Inv-loop μ-loop
+loop-less c = search needs
+
+loop-again : tie.Need-loop-again Inv-loop μ-loop
+loop-again c = search needs
+
+returns : tie.Need-returns Inv-loop μ-loop
+returns c = search needs
+
+pub requests-spec : {M : Type 1} → statement M
+requests-spec =
+    tie.close
+    (tie.spec
+    Inv-loop
+    μ-loop
+    loop-holds
+    mul-request
+    array-copy-out-request
+    mul-request-2
+    array-copy-out-request-2
+    request-requires
+    add-i
+    loop-less
+    loop-again
+    returns)
