@@ -1,7 +1,9 @@
 -- Every copy shown is current: an inductive invariant of all runs, and that each step keeps it.
 pub mod Invariant
-pub mod Tools
+pub mod Stores
 pub mod Replaced
+pub mod Tools
+pub mod Covering
 pub mod Time
 pub mod Marks
 pub mod Completing

@@ -6,6 +6,7 @@ use mathlib.Core.List.{List}
 use mathlib.Core.Path.{_≡_, refl, sym, ap, _∙_}
 use lib.ListN.{length, getD, set}
 use Rattle.laws.specs.Store.{storeEach, always, store-hit, store-other}
+use Rattle.protocol.specs.declared.message.Kind.the-variants.{Ack}
 use Rattle.protocol.specs.declared.records.Copy.{Copy}
 use Rattle.protocol.specs.declared.setup.Setup.{Setup}
 use Rattle.protocol.specs.declared.step.Sweep.the-variants.{Erase}
@@ -14,10 +15,11 @@ use Rattle.protocol.specs.Client.{ended, swept, sweptAll, clientRestarte
 use Rattle.protocol.specs.World.{World}
 use Rattle.protocol.specs.Soundness.Steps.{Ranges}
 use Rattle.protocol.specs.Soundness.Shape.{WorldShape}
-use Rattle.protocol.specs.Safety.Invariant.{Inv, copyAt, requestAt}
-use Rattle.protocol.specs.Safety.Tools.{volume-fits}
+use Rattle.protocol.specs.Safety.Invariant.{Inv, copyAt, requestAt, viewAt, clocksOf}
+use Rattle.protocol.specs.Safety.Stores.{volume-fits}
+use Rattle.protocol.specs.Safety.Covering.{Empty, covered-empty, remains-empty}
 use Rattle.protocol.specs.Safety.Requests.{requesting, request-ends, ended-idle}
-use Rattle.protocol.specs.Safety.Taking.{Others, Own, covered-empty, taken}
+use Rattle.protocol.specs.Safety.Taking.{Others, Own, taken}
 use Rattle.protocol.specs.Safety.Sweeping.{swept-own, swept-other}
 
 module _ (s : Setup) (range : Ranges s) (w : World) (inv : Inv s w) (shape : WorldShape s w) (d : ℕ) (hd : d < s .clients) where
@@ -48,6 +50,9 @@ module _ (s : Setup) (range : Ranges s) (w : World) (inv : Inv s w) (shape : Wor
   no-version : (k : ℕ) → k < s .objects → copyAt s copies d k .version ≡ 0
   no-version k h = ap (λ (c : Copy). c .version) (gone k h)
 
+  empty : (u : ℕ) → u < s .volumes → Empty s (clocksOf w d) u (viewAt s (zeroed (w .tables .views .epoch)) (zeroed (w .tables .views .expiry)) copies d u)
+  empty u h = record { volume = zero-own (w .tables .views .expiry) (shape .tables .views .expiry) u h; objects = λ k a. a .copy (no-version k (a .exists)) }
+
   others : Others s d (w .tables .views .epoch) (w .tables .views .expiry) (zeroed (w .tables .views .epoch)) (zeroed (w .tables .views .expiry)) (w .copies) copies
   others = record {
     known = λ k u m h. zero-other (w .tables .views .epoch) k u m h;
@@ -60,12 +65,9 @@ module _ (s : Setup) (range : Ranges s) (w : World) (inv : Inv s w) (shape : Wor
     epochs = λ u h. rw (zero-own (w .tables .views .epoch) (shape .tables .views .epoch) u h) (omega arith);
     reached = λ k h. rw (no-version k h) (omega arith);
     values = λ k h e. let p = inv .versions .positive k h in let q = sym e ∙ no-version k h in absurd (omega arith);
-    views = λ u h. covered-empty s _ d u _ _ _ _ _ _ _ _ _ _ (zero-own (w .tables .views .expiry) (shape .tables .views .expiry) u h) (λ k i j a b. a (no-version k i));
-    erased = λ k f u z a. no-version k (inv .acks d k f u z .exists);
-    dropped = λ u i f h z a b. record {
-      volume = zero-own (w .tables .views .expiry) (shape .tables .views .expiry) u h;
-      objects = λ k j l g t. g (no-version k j);
-    };
+    views = λ u h. covered-empty (empty u h);
+    erased = λ k f u z a. no-version k (inv .messages _ z .kind .invalidate .exists);
+    remains = λ u i f h z a b. remains-empty (empty u h);
   }
 
   pub client-restart : Inv s (record {

@@ -14,8 +14,8 @@ use Rattle.protocol.specs.Tables.{byVolume, noCopy, noRequest, freshRequ
 use Rattle.protocol.specs.World.{freshWorld}
 use Rattle.protocol.specs.Soundness.Steps.{Ranges}
 use Rattle.protocol.specs.Safety.Invariant.{Inv, Sent, copyAt, requestAt}
-use Rattle.protocol.specs.Safety.Tools.{row-below, nothing-stands, object-fits, volume-fits, zero-holder, zero-session}
-use Rattle.protocol.specs.Safety.Taking.{covered-empty}
+use Rattle.protocol.specs.Safety.Stores.{row-below, nothing-stands, object-fits, volume-fits, zero-holder, zero-session}
+use Rattle.protocol.specs.Safety.Covering.{covered-empty}
 
 module _ (s : Setup) (range : Ranges s) where
   all-same : (n i x : ℕ) → i < n → _≡_ {A = ℕ} (getD (replicate n x) i 0) x
@@ -55,14 +55,7 @@ module _ (s : Setup) (range : Ranges s) where
     };
     offers = λ d v hd hv m. absurd (m (zero-session range d v hd hv));
     writes = record { guards = λ o h a. nothing-stands range o h a; waits = λ d o hd ho a b. nothing-stands range o ho a; others = λ d o hd ho a b. nothing-stands range o ho a };
-    views = λ d v hd hv. covered-empty s _ d v _ _ _ _ _ _ _ _ _ _ (zero-session range d v hd hv) (λ o i j a b. a (no-version d o hd i));
-    clients = λ m z. none-sent m z;
-    renews = λ d o n e v z. none-sent _ z;
-    grants = λ d o n x e v y p z. none-sent _ z;
-    invalidates = λ d o e v z. none-sent _ z;
-    acks = λ d o e v z. none-sent _ z;
-    erased = λ d o e v z. none-sent _ z;
-    pairs = λ d o e v n x f u y p z. none-sent _ z;
-    offereds = λ d v n e z. none-sent _ z;
-    droppeds = λ d v n e z. none-sent _ z;
+    views = λ d v hd hv. covered-empty (record { volume = zero-session range d v hd hv; objects = λ o a. a .copy (no-version d o hd (a .exists)) });
+    messages = λ m z. none-sent m z;
+    pairs = λ m g z. none-sent m z;
   }

@@ -2,30 +2,31 @@
 use Prim.Native.Nat.{ℕ, _+_, _*_, _<_}
 use mathlib.Core.Bool.{true, false, cond}
 use mathlib.Core.List.{List}
-use mathlib.Core.Logic.{_⊎_, ⊎-elim}
+use mathlib.Core.Logic.{_⊎_, inr, ⊎-elim}
 use mathlib.Core.Path.{_≡_, refl, sym, ap, _∙_}
 use lib.Dec.{eqb}
 use lib.ListN.{length, getD, set}
 use borrow.Author.Tests.{eq-eqb, ne-eqb}
-use Rattle.laws.specs.Choice.{same?, cond-keeps, not-both}
-use Rattle.protocol.specs.declared.message.Kind.the-variants.{Dropped}
+use Rattle.laws.specs.Choice.{same?, cond-keeps}
+use Rattle.protocol.specs.declared.message.Kind.the-variants.{Ack, Offer, Dropped}
 use Rattle.protocol.specs.declared.records.Copy.{Copy}
 use Rattle.protocol.specs.declared.setup.Setup.{Setup}
 use Rattle.protocol.specs.declared.step.Sweep.the-variants.{Expire}
 use Rattle.protocol.specs.Setup.{volumeOf}
-use Rattle.protocol.specs.Messages.{message, pushed}
+use Rattle.protocol.specs.Messages.{message}
 use Rattle.protocol.specs.Tables.{byVolume, withViews}
-use Rattle.protocol.specs.Leases.{clientAlive}
 use Rattle.protocol.specs.Server.{sent}
 use Rattle.protocol.specs.Client.{ended, viewed, swept, sweptAll}
 use Rattle.protocol.specs.World.{World}
 use Rattle.protocol.specs.Soundness.Steps.{Ranges}
 use Rattle.protocol.specs.Soundness.Shape.{WorldShape}
-use Rattle.protocol.specs.Safety.Invariant.{Inv, from, copyAt, requestAt, Empty}
-use Rattle.protocol.specs.Safety.Tools.{volume-at, volume-off, zero-dead-client, sent-pushed, client-fits, volume-fits}
-use Rattle.protocol.specs.Safety.Sending.{OfferClause, send-dropped}
+use Rattle.protocol.specs.Safety.Invariant.{Inv, copyAt, requestAt, viewAt, KindOk, clocksOf}
+use Rattle.protocol.specs.Safety.Stores.{After, at-place, off-place}
+use Rattle.protocol.specs.Safety.Tools.{zero-dead-client, left-none}
+use Rattle.protocol.specs.Safety.Covering.{Less, Fewer, view-less, covered-less, remains-less, Empty, covered-empty, remains-empty}
+use Rattle.protocol.specs.Safety.Sending.{send-single}
 use Rattle.protocol.specs.Safety.Requests.{requesting, request-ends, ended-idle, ended-moves, header}
-use Rattle.protocol.specs.Safety.Taking.{Others, Own, covered-same, covered-empty, taken}
+use Rattle.protocol.specs.Safety.Taking.{known-set, expiry-set, Others, Own, taken}
 use Rattle.protocol.specs.Safety.Sweeping.{swept-own, swept-other}
 
 -- what the sweep leaves of one copy
@@ -46,79 +47,65 @@ module _ (s : Setup) (v : ℕ) (c : Copy) (k : ℕ) where
   unfolding swept
   expire-outside h = rw (ne-eqb (volumeOf s k) v h)
 
--- ---- OFFER (volume v, number n, epoch e) of client d
-module _ (s : Setup) (range : Ranges s) (w : World) (inv : Inv s w) (shape : WorldShape s w) (d v n e : ℕ) (hd : d < s .clients) (ok : OfferClause s w d v n e) where
+-- ---- OFFER of client d, taken
+module _ (s : Setup) (range : Ranges s) (w : World) (inv : Inv s w) (shape : WorldShape s w) (d v n e : ℕ) (hd : d < s .clients) (ok : KindOk s w d (Offer v n e)) where
   abbrev known : List ℕ
-  known = set (w .tables .views .epoch) (byVolume d v) e
+  known = viewed (w .tables .views) d v e 0 .epoch
 
   abbrev expiry : List ℕ
-  expiry = set (w .tables .views .expiry) (byVolume d v) 0
+  expiry = viewed (w .tables .views) d v e 0 .expiry
 
   abbrev copies : List Copy
   copies = sweptAll s (Expire v) (d * s .objects) (w .copies)
 
-  hv : v < 8
-  hv = volume-fits range (ok .exists)
-
   here : d < length (w .requests)
   here = rw (shape .requests) hd
 
-  own-copy : (k : ℕ) → k < s .objects → copyAt s copies d k ≡ swept s (Expire v) (copyAt s (w .copies) d k) k
-  own-copy k h = swept-own s (w .copies) d (shape .copies) hd (Expire v) k h
+  own-copy : (i : ℕ) → i < s .objects → copyAt s copies d i ≡ swept s (Expire v) (copyAt s (w .copies) d i) i
+  own-copy i h = swept-own s (w .copies) d (shape .copies) hd (Expire v) i h
 
-  version-same : (k : ℕ) → k < s .objects → copyAt s copies d k .version ≡ copyAt s (w .copies) d k .version
-  version-same k h = ap (λ (c : Copy). c .version) (own-copy k h) ∙ expire-version s v _ k
+  version-same : (i : ℕ) → i < s .objects → copyAt s copies d i .version ≡ copyAt s (w .copies) d i .version
+  version-same i h = ap (λ (c : Copy). c .version) (own-copy i h) ∙ expire-version s v _ i
 
-  value-same : (k : ℕ) → k < s .objects → copyAt s copies d k .value ≡ copyAt s (w .copies) d k .value
-  value-same k h = ap (λ (c : Copy). c .value) (own-copy k h) ∙ expire-value s v _ k
+  value-same : (i : ℕ) → i < s .objects → copyAt s copies d i .value ≡ copyAt s (w .copies) d i .value
+  value-same i h = ap (λ (c : Copy). c .value) (own-copy i h) ∙ expire-value s v _ i
 
-  outside : (k : ℕ) → k < s .objects → (volumeOf s k ≡ v → ⊥) → copyAt s copies d k ≡ copyAt s (w .copies) d k
-  outside k h m = own-copy k h ∙ expire-outside s v _ k m
+  at-known : (k u : ℕ) → u < s .volumes → After d v k u (getD known (byVolume k u) 0) e (getD (w .tables .views .epoch) (byVolume k u) 0)
+  at-known k u h = known-set range hd (ok .exists) (w .tables .views) (shape .tables .views) e 0 k u h
 
-  dead : (clock k : ℕ) → k < s .objects → volumeOf s k ≡ v → clientAlive clock (copyAt s copies d k .expiry) ≡ true → ⊥
-  dead clock k h q a =
-      let z = ap (λ (c : Copy). c .expiry) (own-copy k h) ∙ expire-inside s v _ k q in
-      not-both (rw z at a) (zero-dead-client clock)
-
-  this-known : (u : ℕ) → u ≡ v → getD known (byVolume d u) 0 ≡ e
-  this-known u q = volume-at (w .tables .views .epoch) e 0 d v d u (shape .tables .views .epoch) (client-fits range hd) hv refl q
-
-  this-expiry : (u : ℕ) → u ≡ v → getD expiry (byVolume d u) 0 ≡ 0
-  this-expiry u q = volume-at (w .tables .views .expiry) 0 0 d v d u (shape .tables .views .expiry) (client-fits range hd) hv refl q
-
-  other-known : (u : ℕ) → u < s .volumes → (u ≡ v → ⊥) → getD known (byVolume d u) 0 ≡ getD (w .tables .views .epoch) (byVolume d u) 0
-  other-known u h m = volume-off (w .tables .views .epoch) e 0 d v d u hv (volume-fits range h) (λ a b. m b)
-
-  other-expiry : (u : ℕ) → u < s .volumes → (u ≡ v → ⊥) → getD expiry (byVolume d u) 0 ≡ getD (w .tables .views .expiry) (byVolume d u) 0
-  other-expiry u h m = volume-off (w .tables .views .expiry) 0 0 d v d u hv (volume-fits range h) (λ a b. m b)
-
-  empty : (u : ℕ) → u ≡ v → Empty s (w .tables .clock) d u (getD expiry (byVolume d u) 0) copies
-  empty u q = record { volume = this-expiry u q; objects = λ k i j a b. dead (w .tables .clock) k i (j ∙ q) b }
+  at-expiry : (k u : ℕ) → u < s .volumes → After d v k u (getD expiry (byVolume k u) 0) 0 (getD (w .tables .views .expiry) (byVolume k u) 0)
+  at-expiry k u h = expiry-set range hd (ok .exists) (w .tables .views) (shape .tables .views) e 0 k u h
 
   others : Others s d (w .tables .views .epoch) (w .tables .views .expiry) known expiry (w .copies) copies
   others = record {
-    known = λ k u m h. volume-off (w .tables .views .epoch) e 0 d v k u hv (volume-fits range h) (λ a b. m a);
-    expiry = λ k u m h. volume-off (w .tables .views .expiry) 0 0 d v k u hv (volume-fits range h) (λ a b. m a);
+    known = λ k u m h. off-place (at-known k u h) (λ a b. m a);
+    expiry = λ k u m h. off-place (at-expiry k u h) (λ a b. m a);
     copies = λ k i m h. swept-other s (w .copies) d (shape .copies) hd (Expire v) k i m h;
   }
 
+  -- in the volume the client has no lease any more ..
+  inside : (u : ℕ) → u < s .volumes → u ≡ v → Empty s (clocksOf w d) u (viewAt s known expiry copies d u)
+  inside u h q = record {
+    volume = at-place (at-expiry d u h) refl q;
+    objects = λ i a. zero-dead-client (clocksOf w d) (ap (λ (c : Copy). c .expiry) (own-copy i (a .exists)) ∙ expire-inside s v _ i (a .inside ∙ q)) (a .alive);
+  }
+
+  -- .. and in every other it knows what it knew
+  outside : (u : ℕ) → u < s .volumes → (u ≡ v → ⊥) → Less s (clocksOf w d) u (viewAt s (w .tables .views .epoch) (w .tables .views .expiry) (w .copies) d u) (viewAt s known expiry copies d u)
+  outside u h m = view-less still (off-place (at-known d u h) (λ a b. m b)) (off-place (at-expiry d u h) (λ a b. m b))
+    where
+      still : Fewer s d u (w .copies) copies
+      still = record { each = λ i j q. inr (own-copy i j ∙ expire-outside s v _ i (λ r. m (sym q ∙ r))) }
+
   own : Own s range (requesting w (set (w .requests) d (ended (requestAt (w .requests) d)))) (request-ends s w inv d here) d (ended-idle (w .requests) d here) known expiry copies others
   own = record {
-    epochs = λ u h. ⊎-elim (λ q. rw (this-known u q, q) (ok .header .reached)) (λ m. rw (other-known u h m) (inv .epochs d u hd h)) (same? u v);
-    reached = λ k h. rw (version-same k h) (inv .versions .reached d k hd h);
-    values = λ k h. rw (version-same k h, value-same k h) (inv .versions .values d k hd h);
-    views = λ u h. ⊎-elim (λ q. covered-empty s _ d u _ _ _ _ _ _ _ _ _ _ (this-expiry u q) (empty u q .objects))
-        (λ m. covered-same s _ d u _ _ _ _ _ _ _ _ _ _ _ _ _ _ (other-known u h m) (other-expiry u h m)
-        (λ k i j. version-same k i) (λ k i j. ap (λ (c : Copy). c .expiry) (outside k i (λ r. m (sym j ∙ r)))) (inv .views d u hd h))
-        (same? u v);
-    erased = λ k f u z a. version-same k (inv .acks d k f u z .exists) ∙ inv .erased d k f u z a;
-    dropped = λ u i f h z a b. ⊎-elim (λ q. empty u q)
-        (λ m. let c = inv .droppeds d u i f z .dropped a (sym (other-known u h m) ∙ b) in
-        record {
-          volume = other-expiry u h m ∙ c .volume;
-          objects = λ k j l g t. let q = outside k j (λ r. m (sym l ∙ r)) in c .objects k j l (rw q at g) (rw q at t);
-        })
-        (same? u v);
+    epochs = λ u h. ⊎-elim (λ a. rw (a .2, a .1) (ok .header .reached)) (λ a. rw (a .1) (inv .epochs d u hd h)) (at-known d u h);
+    reached = λ i h. rw (version-same i h) (inv .versions .reached d i hd h);
+    values = λ i h. rw (version-same i h, value-same i h) (inv .versions .values d i hd h);
+    views = λ u h. ⊎-elim (λ q. covered-empty (inside u h q)) (λ m. covered-less (outside u h m) (inv .views d u hd h)) (same? u v);
+    erased = λ i f ver z a. version-same i (inv .messages _ z .kind .invalidate .exists) ∙ inv .messages _ z .kind .erased a;
+    remains = λ u i f h z a b. ⊎-elim (λ q. remains-empty (inside u h q))
+        (λ m. remains-less (outside u h m) (inv .messages _ z .kind .remains a (sym (outside u h m .known) ∙ b))) (same? u v);
   }
 
   abbrev after : World
@@ -138,10 +125,14 @@ module _ (s : Setup) (range : Ranges s) (w : World) (inv : Inv s w) (shape : Wor
     requests = set (w .requests) d (ended (requestAt (w .requests) d));
   })
   offer-taken =
-      send-dropped s after offer-kept d v n e (pushed (w .tables .queue) (message d (Dropped v n e)))
-      (λ m z. sent-pushed (w .tables .queue) (message d (Dropped v n e)) m (shape .tables .queue .items) z) hd
+      send-single s after offer-kept (message d (Dropped v n e)) (shape .tables .queue .items)
       (record {
-        exists = ok .exists;
-        header = header s w inv _ (ended-moves (w .requests) d here) d v n e (ok .header);
-        dropped = λ a b. empty v refl;
+        client = hd;
+        kind = record {
+          exists = ok .exists;
+          header = header s w inv _ (ended-moves (w .requests) d here) d v n e (ok .header);
+          written = λ a i h q b. left-none _;
+          remains = λ a b. remains-empty (inside v (ok .exists) refl);
+        };
       })
+      (λ i a. a) (λ k i b. b)

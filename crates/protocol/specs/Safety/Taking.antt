@@ -1,53 +1,41 @@
 -- What one client knows and holds is replaced while no request of it stands: a GRANT or an OFFER taken, a restart. Nobody else is touched.
-use Prim.Native.Nat.{ℕ, _+_, _<_, _≤_}
-use native.Mathlib.Omega.{arith}
-use mathlib.Core.Bool.{Bool, true, false}
+use Prim.Native.Nat.{ℕ, _<_, _≤_}
+use mathlib.Core.Bool.{true, false}
 use mathlib.Core.List.{List}
-use mathlib.Core.Logic.{_⊎_, ⊎-elim}
+use mathlib.Core.Logic.{_⊎_, inr, ⊎-elim}
 use mathlib.Core.Path.{_≡_, refl, sym, ap, _∙_}
 use lib.ListN.{getD}
 use Rattle.laws.specs.Choice.{same?}
-use Rattle.protocol.specs.declared.message.Kind.the-variants.{Ack, Dropped}
+use Rattle.protocol.specs.declared.message.Kind.the-variants.{Renew, Grant, Invalidate, Ack, Offer, Dropped}
 use Rattle.protocol.specs.declared.message.Payload.{Payload}
 use Rattle.protocol.specs.declared.message.Payload.the-variants.{Same, Value}
 use Rattle.protocol.specs.declared.records.Copy.{Copy}
 use Rattle.protocol.specs.declared.setup.Setup.{Setup}
+use Rattle.protocol.specs.declared.tables.Views.{Views}
 use Rattle.protocol.specs.Setup.{volumeOf}
-use Rattle.protocol.specs.Tables.{byVolume, withViews}
-use Rattle.protocol.specs.Leases.{clientAlive}
-use Rattle.protocol.specs.Ledger.{updated}
+use Rattle.protocol.specs.Tables.{byVolume, epochAt, valueAt, versionAt, withViews}
+use Rattle.protocol.specs.Client.{viewed}
 use Rattle.protocol.specs.World.{World}
 use Rattle.protocol.specs.Soundness.Steps.{Ranges}
-use Rattle.protocol.specs.Safety.Invariant.{Inv, Sent, Stands, from, copyAt, Covered, ViewOk, Empty, Answers, Acknowledges, NamesHeld}
+use Rattle.protocol.specs.Soundness.Shape.{ViewsShape}
+use Rattle.protocol.specs.Safety.Invariant.{Inv, Sent, Stands, from, copyAt, viewAt, NamesHeld, CoveredIn, RemainsIn, AnswersIn, AcknowledgesIn}
+use Rattle.protocol.specs.Safety.Stores.{After, volume-set}
+use Rattle.protocol.specs.Safety.Covering.{Fewer, view-less, granted-less, covered-less, remains-less}
+use Rattle.protocol.specs.Safety.Sending.{Keeps, each}
 
--- ---- a view is covered by what it says, not by how
-module _ (s : Setup) (clock d v epoch guard session : ℕ) (un : Bool) (version lease : List ℕ) where
-  pub covered-same : (known expiry : ℕ) (held until : ℕ → ℕ) (known′ expiry′ : ℕ) (held′ until′ : ℕ → ℕ) → known′ ≡ known → expiry′ ≡ expiry
-      → ((o : ℕ) → o < s .objects → volumeOf s o ≡ v → held′ o ≡ held o) → ((o : ℕ) → o < s .objects → volumeOf s o ≡ v → until′ o ≡ until o)
-      → Covered s clock d v epoch guard session un version lease known expiry held until
-      → Covered s clock d v epoch guard session un version lease known′ expiry′ held′ until′
-  covered-same known expiry held until known′ expiry′ held′ until′ a b h u c = rw (a, b) (record {
-    current = c .current;
-    older = c .older;
-    holds = λ o i j k l m.
-        let g = c .holds o i j (λ e. k (h o i j ∙ e)) (rw (u o i j) at l) m in
-        (h o i j ∙ g .0, λ e. rw (u o i j) (g .1 e));
-  })
+pub names-same : (held held′ ver : ℕ) (p : Payload) → held′ ≡ held → NamesHeld held ver p → NamesHeld held′ ver p
+names-same held held′ ver Same e a = a ∙ sym e
+names-same held held′ ver (Value x) e a = tt
 
-  -- nothing known, nothing held
-  pub covered-empty : (known expiry : ℕ) (held until : ℕ → ℕ) → expiry ≡ 0
-      → ((o : ℕ) → o < s .objects → volumeOf s o ≡ v → (held o ≡ 0 → ⊥) → clientAlive clock (until o) ≡ true → ⊥)
-      → Covered s clock d v epoch guard session un version lease known expiry held until
-  covered-empty known expiry held until e none = record {
-    current = λ a. omega arith;
-    older = λ a. omega arith;
-    holds = λ o i j k l m. absurd (none o i j k l);
-  }
+-- ---- what a client knows of one volume, replaced
+module _ {s : Setup} (range : Ranges s) {d v : ℕ} (hd : d < s .clients) (hv : v < s .volumes) (views : Views) (shape : ViewsShape views) (e x k u : ℕ) (hu : u < s .volumes) where
+  pub known-set : After d v k u (getD (viewed views d v e x .epoch) (byVolume k u) 0) e (getD (views .epoch) (byVolume k u) 0)
+  known-set = volume-set range hd hv (views .epoch) e 0 (shape .epoch) k u hu
 
-pub names-same : (held held′ w : ℕ) (p : Payload) → held′ ≡ held → NamesHeld held w p → NamesHeld held′ w p
-names-same held held′ w Same e a = a ∙ sym e
-names-same held held′ w (Value x) e a = tt
+  pub expiry-set : After d v k u (getD (viewed views d v e x .expiry) (byVolume k u) 0) x (getD (views .expiry) (byVolume k u) 0)
+  expiry-set = volume-set range hd hv (views .expiry) x 0 (shape .expiry) k u hu
 
+-- ---- the whole, after the client's views and copies are replaced
 abbrev pub seeing : World → List ℕ → List ℕ → List Copy → World
 seeing w known expiry copies = record { tables = withViews (w .tables) (record { epoch = known; expiry = expiry }); copies = copies; requests = w .requests }
 
@@ -61,18 +49,56 @@ module _ (s : Setup) (range : Ranges s) (w : World) (inv : Inv s w) (d : ℕ) (i
     (known expiry : List ℕ) (copies : List Copy) (others : Others s d (w .tables .views .epoch) (w .tables .views .expiry) known expiry (w .copies) copies) where
   -- what is to be shown of the client itself
   pub record Own : Type 0 where
-    pub epochs : (v : ℕ) → v < s .volumes → getD known (byVolume d v) 0 ≤ getD (w .tables .volumes .epoch) v 0
-    pub reached : (o : ℕ) → o < s .objects → copyAt s copies d o .version ≤ getD (w .tables .objects .version) o 0
-    pub values : (o : ℕ) → o < s .objects → copyAt s copies d o .version ≡ getD (w .tables .objects .version) o 0 → copyAt s copies d o .value ≡ getD (w .tables .objects .value) o 0
-    pub views : (v : ℕ) → v < s .volumes
-        → ViewOk s (w .tables .clock) (w .tables .volumes .epoch) (w .tables .volumes .guard) (w .tables .sessions .expiry) (w .tables .sessions .unreachable) (w .tables .objects .version) (w .tables .holders .lease) d v (getD known (byVolume d v) 0) (getD expiry (byVolume d v) 0) (λ o. copyAt s copies d o .version) (λ o. copyAt s copies d o .expiry)
-    pub erased : (o e v : ℕ) → Sent (w .tables .queue) (from d (Ack o e v))
-        → Acknowledges s (w .tables .volumes .epoch) (w .tables .objects .version) (w .tables .objects .standing) o e v → copyAt s copies d o .version ≡ 0
-    pub dropped : (v n e : ℕ) → v < s .volumes → Sent (w .tables .queue) (from d (Dropped v n e)) → Answers (w .tables .volumes .epoch) (w .tables .sessions .offer) d v n e
-        → getD known (byVolume d v) 0 ≡ getD (w .tables .volumes .epoch) v 0 → Empty s (w .tables .clock) d v (getD expiry (byVolume d v) 0) copies
+    pub epochs : (v : ℕ) → v < s .volumes → getD known (byVolume d v) 0 ≤ epochAt (w .tables) v
+    pub reached : (o : ℕ) → o < s .objects → copyAt s copies d o .version ≤ versionAt (w .tables) o
+    pub values : (o : ℕ) → o < s .objects → copyAt s copies d o .version ≡ versionAt (w .tables) o → copyAt s copies d o .value ≡ valueAt (w .tables) o
+    pub views : (v : ℕ) → v < s .volumes → CoveredIn s w d v (viewAt s known expiry copies d v)
+    pub erased : (o e ver : ℕ) → Sent (w .tables .queue) (from d (Ack o e ver)) → AcknowledgesIn s w o e ver → copyAt s copies d o .version ≡ 0
+    pub remains : (v n e : ℕ) → v < s .volumes → Sent (w .tables .queue) (from d (Dropped v n e)) → AnswersIn w d v n e → getD known (byVolume d v) 0 ≡ epochAt (w .tables) v
+        → RemainsIn s w d v (viewAt s known expiry copies d v)
 
-  fits : (o : ℕ) → o < s .objects → volumeOf s o < s .volumes
-  fits o h = range .within o h
+  busy : (k n : ℕ) → Stands (w .requests) k n → k ≡ d → ⊥
+  busy k n a e = idle n (rw e at a)
+
+  same-version : (k o : ℕ) → (k ≡ d → ⊥) → o < s .objects → copyAt s copies k o .version ≡ copyAt s (w .copies) k o .version
+  same-version k o n ho = ap (λ (c : Copy). c .version) (others .copies k o n ho)
+
+  same-copies : (k v : ℕ) → (k ≡ d → ⊥) → Fewer s k v (w .copies) copies
+  same-copies k v n = record { each = λ o i j. inr (others .copies k o n i) }
+
+  keeps : Own → Keeps s w (seeing w known expiry copies)
+  keeps own k (Renew o n e ver) z hk c = record {
+    exists = c .exists;
+    reached = c .reached;
+    taken = c .taken;
+    object = c .object;
+    knows = λ a. c .knows a ∙ sym (others .known k (volumeOf s o) (busy k n a) (range .within o (c .exists)));
+    held = λ a. c .held a ∙ sym (same-version k o (busy k n a) (c .exists));
+  }
+  keeps own k (Grant o n x e ver y p) z hk c = record {
+    exists = c .exists;
+    header = c .header;
+    reached = c .reached;
+    payload = c .payload;
+    object = c .object;
+    unoffered = c .unoffered;
+    held = λ a. names-same _ _ ver p (same-version k o (busy k n a) (c .exists)) (c .held a);
+    covered = λ a. covered-less (granted-less (same-copies k (volumeOf s o) (busy k n a)) o x e ver y) (c .covered a);
+  }
+  keeps own k (Invalidate o e ver) z hk c = c
+  keeps own k (Ack o e ver) z hk c = record {
+    invalidate = c .invalidate;
+    erased = λ a. ⊎-elim (λ h. let z′ = rw h at z in rw h (own .erased o e ver z′ a)) (λ n. same-version k o n (c .invalidate .exists) ∙ c .erased a) (same? k d);
+  }
+  keeps own k (Offer v n e) z hk c = c
+  keeps own k (Dropped v n e) z hk c = record {
+    exists = c .exists;
+    header = c .header;
+    written = c .written;
+    remains = λ a b. ⊎-elim (λ h. let z′ = rw h at z in let a′ = rw h at a in let b′ = rw h at b in rw h (own .remains v n e (c .exists) z′ a′ b′))
+        (λ m. remains-less (view-less (same-copies k v m) (others .known k v m (c .exists)) (others .expiry k v m (c .exists))) (c .remains a (sym (others .known k v m (c .exists)) ∙ b)))
+        (same? k d);
+  }
 
   pub taken : Own → Inv s (seeing w known expiry copies)
   taken own = record {
@@ -87,58 +113,8 @@ module _ (s : Setup) (range : Ranges s) (w : World) (inv : Inv s w) (d : ℕ) (i
     offers = inv .offers;
     writes = inv .writes;
     views = λ k v hk hv. ⊎-elim (λ e. rw e (own .views v hv))
-        (λ n. covered-same s _ k v _ _ _ _ _ _ _ _ _ _ _ _ _ _ (others .known k v n hv) (others .expiry k v n hv)
-        (λ o i j. ap (λ (c : Copy). c .version) (others .copies k o n i)) (λ o i j. ap (λ (c : Copy). c .expiry) (others .copies k o n i)) (inv .views k v hk hv))
+        (λ n. covered-less (view-less (same-copies k v n) (others .known k v n hv) (others .expiry k v n hv)) (inv .views k v hk hv))
         (same? k d);
-    clients = inv .clients;
-    renews = λ k o n e v z.
-        let r = inv .renews k o n e v z in
-        record {
-          exists = r .exists;
-          reached = r .reached;
-          taken = r .taken;
-          object = r .object;
-          knows = λ a. r .knows a ∙ sym (others .known k (volumeOf s o) (busy k n a) (fits o (r .exists)));
-          held = λ a. r .held a ∙ sym (ap (λ (c : Copy). c .version) (others .copies k o (busy k n a) (r .exists)));
-        };
-    grants = λ k o n x e v y p z.
-        let r = inv .grants k o n x e v y p z in
-        record {
-          exists = r .exists;
-          header = r .header;
-          reached = r .reached;
-          payload = r .payload;
-          object = r .object;
-          unoffered = r .unoffered;
-          held = λ a. names-same _ _ v p (ap (λ (c : Copy). c .version) (others .copies k o (busy k n a) (r .exists))) (r .held a);
-          covered = λ a. covered-same s _ k _ _ _ _ _ _ _ e x _ _ e x _ _ refl refl
-              (λ i h j. ap (λ (f : ℕ). updated (λ u. f) o v i) (ap (λ (c : Copy). c .version) (others .copies k i (busy k n a) h)))
-              (λ i h j. ap (λ (f : ℕ). updated (λ u. f) o y i) (ap (λ (c : Copy). c .expiry) (others .copies k i (busy k n a) h)))
-              (r .covered a);
-        };
-    invalidates = inv .invalidates;
-    acks = inv .acks;
-    erased = λ k o e v z a. ⊎-elim (λ h. let z′ = rw h at z in rw h (own .erased o e v z′ a))
-        (λ n. ap (λ (c : Copy). c .version) (others .copies k o n (inv .acks k o e v z .exists)) ∙ inv .erased k o e v z a) (same? k d);
+    messages = each inv (keeps own);
     pairs = inv .pairs;
-    offereds = inv .offereds;
-    droppeds = λ k v n e z.
-        let r = inv .droppeds k v n e z in
-        record {
-          exists = r .exists;
-          header = r .header;
-          dropped = λ a b. ⊎-elim (λ h. let z′ = rw h at z in let a′ = rw h at a in let b′ = rw h at b in rw h (own .dropped v n e (r .exists) z′ a′ b′))
-              (λ m. still k v m (r .exists) (r .dropped a (sym (others .known k v m (r .exists)) ∙ b)))
-              (same? k d);
-        };
   }
-    where
-      busy : (k n : ℕ) → Stands (w .requests) k n → k ≡ d → ⊥
-      busy k n a e = idle n (rw e at a)
-
-      still : (k v : ℕ) → (k ≡ d → ⊥) → v < s .volumes → Empty s (w .tables .clock) k v (getD (w .tables .views .expiry) (byVolume k v) 0) (w .copies)
-          → Empty s (w .tables .clock) k v (getD expiry (byVolume k v) 0) copies
-      still k v m hv c = record {
-        volume = others .expiry k v m hv ∙ c .volume;
-        objects = λ o i j a b. let q = others .copies k o m i in c .objects o i j (rw q at a) (rw q at b);
-      }
