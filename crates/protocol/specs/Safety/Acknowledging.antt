@@ -1,9 +1,9 @@
 -- The server takes an ACK: the client holds no copy, and no GRANT under way can bring it one, so its lease may go.
 use Prim.Native.Nat.{ℕ, _+_, _<_, _≤_}
 use native.Mathlib.Omega.{arith}
-use mathlib.Core.Bool.{Bool, true, false, cond, _&&_}
+use mathlib.Core.Bool.{Bool, true, false, _&&_}
 use mathlib.Core.List.{List}
-use mathlib.Core.Logic.{_⊎_, inl, inr, ⊎-elim}
+use mathlib.Core.Logic.{inl, ⊎-elim}
 use mathlib.Core.Path.{_≡_, sym, _∙_}
 use lib.Dec.{eqb}
 use lib.ListN.{getD, set}
@@ -19,7 +19,7 @@ use Rattle.protocol.specs.Server.{ackTaken, acked}
 use Rattle.protocol.specs.World.{World}
 use Rattle.protocol.specs.Soundness.Steps.{Ranges}
 use Rattle.protocol.specs.Soundness.Shape.{Shape}
-use Rattle.protocol.specs.Safety.Invariant.{Inv, Sent, from, copyAt, heldOf, left, View, Held, Acknowledges, Bringing}
+use Rattle.protocol.specs.Safety.Invariant.{Inv, Sent, from, copyAt, heldOf, View, Held, Acknowledges, Bringing}
 use Rattle.protocol.specs.Safety.Stores.{After, object-set}
 use Rattle.protocol.specs.Safety.Tools.{updated-other, zero-dead, left-below}
 use Rattle.protocol.specs.Safety.Replaced.{withTables}

@@ -1,5 +1,5 @@
 -- A client asks: a new number stands, which no message under way has, and the RENEW says what the client knows and holds.
-use Prim.Native.Nat.{ℕ, _+_, _<_}
+use Prim.Native.Nat.{ℕ, _<_}
 use native.Mathlib.Omega.{arith}
 use mathlib.Core.Path.{_≡_, refl, ap}
 use lib.ListN.{length, set}

@@ -1,9 +1,9 @@
 -- A write begins: it outlasts the leases of whom it waits for, and its INVALIDATEs go out.
-use Prim.Native.Nat.{ℕ, _+_, _<_, _≤_, min}
+use Prim.Native.Nat.{ℕ, _<_, _≤_, min}
 use native.Mathlib.Omega.{arith}
 use mathlib.Core.Bool.{Bool, true, false, not}
 use mathlib.Core.List.{List}
-use mathlib.Core.Logic.{_⊎_, inl, inr, ⊎-elim}
+use mathlib.Core.Logic.{inl, inr, ⊎-elim}
 use mathlib.Core.Path.{_≡_, refl, sym, _∙_}
 use lib.ListN.{getD}
 use Rattle.laws.specs.Choice.{cond-keeps, same?, not-both, and-false, or-false}
@@ -112,7 +112,7 @@ module _ (s : Setup) (w : World) (o x : ℕ) (range : Ranges s) (shape : Shape (
         };
         views = inv .views;
         messages = each inv keeps;
-        pairs = acked-before s w _ _ _ (λ d j e ver c a. acknowledges-begun s o vacant standing (c .invalidate) a) inv;
+        pairs = acked-before s w _ _ _ inv (λ d j e ver c a. acknowledges-begun s o vacant standing (c .invalidate) a);
       }
 
 -- the INVALIDATEs of a standing write

@@ -1,12 +1,10 @@
 -- A client restarts: it knows and holds nothing, and asks nothing.
-use Prim.Native.Nat.{ℕ, _+_, _*_, _<_}
+use Prim.Native.Nat.{ℕ, _*_, _<_}
 use native.Mathlib.Omega.{arith}
-use mathlib.Core.Bool.{true, false}
 use mathlib.Core.List.{List}
 use mathlib.Core.Path.{_≡_, refl, sym, ap, _∙_}
 use lib.ListN.{length, getD, set}
 use Rattle.laws.specs.Store.{storeEach, always, store-hit, store-other}
-use Rattle.protocol.specs.declared.message.Kind.the-variants.{Ack}
 use Rattle.protocol.specs.declared.records.Copy.{Copy}
 use Rattle.protocol.specs.declared.setup.Setup.{Setup}
 use Rattle.protocol.specs.declared.step.Sweep.the-variants.{Erase}

@@ -237,7 +237,7 @@ module _ (s : Setup) (w : World) (o : ℕ) (range : Ranges s) (objects : Objects
     };
     views = λ d v hd hv. covered-posted s w o inv ho stands c mark version lease d v _ hd (inv .epochs d v hd hv) (inv .views d v hd hv);
     messages = each inv keeps;
-    pairs = acked-before s w _ _ _ (λ d j e ver k a. acknowledges-posted s o version standing a) inv;
+    pairs = acked-before s w _ _ _ inv (λ d j e ver k a. acknowledges-posted s o version standing a);
   }
 
 -- completing marks, then posts and releases

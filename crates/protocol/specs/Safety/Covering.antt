@@ -1,5 +1,5 @@
 -- When a view is covered, or needs no more than a DROPPED leaves: by what it says, by how much covers it, with nothing in it, and by the guard alone.
-use Prim.Native.Nat.{ℕ, _+_, _<_, _≤_}
+use Prim.Native.Nat.{ℕ, _<_, _≤_}
 use native.Mathlib.Omega.{arith}
 use mathlib.Core.Bool.{Bool, true, false}
 use mathlib.Core.List.{List}

@@ -1,7 +1,7 @@
 -- Step 5, accepted: the message is removed, and received by its client or by the server.
 use Prim.Native.Nat.{ℕ, _+_, _*_, _<_, _≤_}
 use native.Mathlib.Omega.{arith}
-use mathlib.Core.Bool.{true, false, cond, _&&_}
+use mathlib.Core.Bool.{_&&_}
 use mathlib.Core.Path.{refl}
 use lib.ListN.{set}
 use lib.Seq.{set-getD}
@@ -17,7 +17,7 @@ use Rattle.protocol.specs.Messages.{objectOf, removed}
 use Rattle.protocol.specs.Tables.{noCopy, noRequest}
 use Rattle.protocol.specs.Writes.{Staged}
 use Rattle.protocol.specs.Server.{ackTaken, ackStaged, dropTaken, dropStaged}
-use Rattle.protocol.specs.Client.{stands, storable, grantTaken, ended, sweptAll}
+use Rattle.protocol.specs.Client.{stands, storable, grantTaken, sweptAll}
 use Rattle.protocol.specs.Decide.{Received, taken, grantReceived, invalidateReceived, offerReceived, received}
 use Rattle.protocol.specs.World.{World}
 use Rattle.protocol.specs.Soundness.Steps.{Ranges}
@@ -137,7 +137,7 @@ module _ (s : Setup) (range : Ranges s) (w : World) (inv : Inv s w) (shape : Wor
         (λ a. rw (set-getD (w .copies) (d * s .objects + 0) noCopy) (offer-taken s range rest remaining shape-rest d v n e hd (inv .messages _ z .kind)))
         (λ a. rw (swept-keep s) (same-records 0 _ remaining))
 
-    pub receipt-keeps : (k : Kind) → Sent (w .tables .queue) (from d k) → Inv s (receiving s w d k (received s t (copyAt s (w .copies) d (objectOf k)) request d k))
+    pub receipt-keeps : (g : Kind) → Sent (w .tables .queue) (from d g) → Inv s (receiving s w d g (received s t (copyAt s (w .copies) d (objectOf g)) request d g))
     receipt-keeps (Renew o n e ver) z = by-renew o n e ver z
     receipt-keeps (Grant o n x e ver y p) z = by-grant o n x e ver y p z
     receipt-keeps (Invalidate o e ver) z = by-invalidate o e ver z

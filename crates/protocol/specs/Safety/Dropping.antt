@@ -1,10 +1,10 @@
 -- The server takes a DROPPED: of the client's leases in the volume it keeps what the DROPPED leaves, and it forgets the mark and the offer.
-use Prim.Native.Nat.{ℕ, _+_, _<_}
+use Prim.Native.Nat.{ℕ, _<_}
 use native.Mathlib.Omega.{arith}
 use native.Mathlib.Decide.{ℕ-discrete}
-use mathlib.Core.Bool.{Bool, true, false, cond, not, _&&_}
+use mathlib.Core.Bool.{true, false, not, _&&_}
 use mathlib.Core.List.{List}
-use mathlib.Core.Logic.{_⊎_, inl, inr, ⊎-elim}
+use mathlib.Core.Logic.{inl, inr, ⊎-elim}
 use mathlib.Core.Path.{_≡_, refl, sym, ap, _∙_}
 use lib.Dec.{eqb}
 use lib.ListN.{length, getD}
@@ -20,7 +20,7 @@ use Rattle.protocol.specs.Server.{dropTaken, ofVolume, disowned, dropped
 use Rattle.protocol.specs.World.{World}
 use Rattle.protocol.specs.Soundness.Steps.{Ranges}
 use Rattle.protocol.specs.Soundness.Shape.{Shape}
-use Rattle.protocol.specs.Safety.Invariant.{Inv, left, excused, excusesOf, View, viewAt, Answers, AnswersIn, KindOk, CoveredIn}
+use Rattle.protocol.specs.Safety.Invariant.{Inv, left, excusesOf, View, viewAt, Answers, AnswersIn, KindOk, CoveredIn}
 use Rattle.protocol.specs.Safety.Stores.{After, at-place, off-place, volume-set, object-fits}
 use Rattle.protocol.specs.Safety.Tools.{zero-dead, left-below, excused-grows}
 use Rattle.protocol.specs.Safety.Replaced.{withTables}

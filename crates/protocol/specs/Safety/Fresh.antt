@@ -1,7 +1,6 @@
 -- The invariant holds of fresh tables: nothing is known, held, asked or under way.
 use Prim.Native.Nat.{ℕ, _+_, _*_, _<_}
 use native.Mathlib.Omega.{arith}
-use mathlib.Core.Bool.{true, false}
 use mathlib.Core.Path.{_≡_, refl, sym, ap, _∙_}
 use lib.ListN.{getD, replicate, getD-replicate}
 use Rattle.laws.specs.Choice.{not-both}
@@ -10,7 +9,7 @@ use Rattle.protocol.specs.declared.records.Copy.{Copy}
 use Rattle.protocol.specs.declared.records.Request.{Request}
 use Rattle.protocol.specs.declared.setup.Setup.{Setup}
 use Rattle.protocol.specs.Messages.{emptyQueue}
-use Rattle.protocol.specs.Tables.{byVolume, noCopy, noRequest, freshRequest, freshTables}
+use Rattle.protocol.specs.Tables.{noCopy, noRequest, freshRequest, freshTables}
 use Rattle.protocol.specs.World.{freshWorld}
 use Rattle.protocol.specs.Soundness.Steps.{Ranges}
 use Rattle.protocol.specs.Safety.Invariant.{Inv, Sent, copyAt, requestAt}

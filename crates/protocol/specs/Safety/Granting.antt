@@ -1,12 +1,11 @@
 -- A client takes a GRANT: what it then knows is covered, as the GRANT was while under way.
 use Prim.Native.Nat.{ℕ, _+_, _*_, _<_}
-use mathlib.Core.Bool.{true, false}
 use mathlib.Core.List.{List}
-use mathlib.Core.Logic.{_⊎_, inr, ⊎-elim}
+use mathlib.Core.Logic.{inr, ⊎-elim}
 use mathlib.Core.Path.{_≡_, refl, sym, ap, _∙_}
 use lib.ListN.{length, getD, set}
 use Rattle.laws.specs.Choice.{same?}
-use Rattle.protocol.specs.declared.message.Kind.the-variants.{Grant, Ack, Dropped}
+use Rattle.protocol.specs.declared.message.Kind.the-variants.{Grant, Ack}
 use Rattle.protocol.specs.declared.message.Payload.{Payload}
 use Rattle.protocol.specs.declared.message.Payload.the-variants.{Same, Value}
 use Rattle.protocol.specs.declared.records.Copy.{Copy}

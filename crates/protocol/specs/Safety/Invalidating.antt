@@ -1,7 +1,6 @@
 -- A client receives an INVALIDATE: no request for the object stands any more, the copy is erased, and the ACK says so.
 use Prim.Native.Nat.{ℕ, _+_, _*_, _<_}
 use native.Mathlib.Omega.{arith}
-use mathlib.Core.Bool.{true, false}
 use mathlib.Core.List.{List}
 use mathlib.Core.Logic.{_⊎_, inl, inr, ⊎-elim}
 use mathlib.Core.Path.{_≡_, refl, sym, ap, _∙_}
@@ -21,7 +20,7 @@ use Rattle.protocol.specs.Soundness.Shape.{WorldShape}
 use Rattle.protocol.specs.Safety.Invariant.{Inv, Stands, copyAt, requestAt, KindOk, Bringing}
 use Rattle.protocol.specs.Safety.Stores.{After, at-place, copy-set}
 use Rattle.protocol.specs.Safety.Covering.{Fewer, view-less, granted-less, covered-less, remains-less}
-use Rattle.protocol.specs.Safety.Sending.{Keeps, each, not-bringing, send}
+use Rattle.protocol.specs.Safety.Sending.{Keeps, each, bringing-case, not-bringing, send}
 use Rattle.protocol.specs.Safety.Requests.{requesting, request-forgotten, forgotten-gone}
 use Rattle.protocol.specs.Safety.Taking.{names-same}
 
@@ -115,12 +114,8 @@ module _ (s : Setup) (w : World) (inv : Inv s w) (shape : WorldShape s w) (d o e
 
   -- no GRANT can bring the client the object
   unasked : (k i : ℕ) (g : Kind) → d ≡ k → o ≡ i → KindOk s after k g → Bringing requests k i g → ⊥
-  unasked k i (Renew j n f u) p q c b = b
-  unasked k i (Grant j n x f u y l) p q c b = forgotten-gone (w .requests) d here o n (rw (← p) at (b .1)) (rw (← p) at (c .object (b .1)) ∙ b .0 ∙ sym q)
-  unasked k i (Invalidate j f u) p q c b = b
-  unasked k i (Ack j f u) p q c b = b
-  unasked k i (Offer v n f) p q c b = b
-  unasked k i (Dropped v n f) p q c b = b
+  unasked k i g p q c b =
+      bringing-case {o = i} (λ (h : Kind). KindOk s after k h → ⊥) (λ n x f u y l a h. forgotten-gone (w .requests) d here o n (rw (← p) at a) (rw (← p) at (h .object a) ∙ sym q)) g b c
 
   pub invalidate-taken : Inv s (record {
     tables = sent (w .tables) (message d (Ack o e ver));

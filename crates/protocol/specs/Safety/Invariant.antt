@@ -1,9 +1,9 @@
 -- What holds after every step of every run: of the tables, of each message under way, and of each two. Each clause is stated over what it reads, so what
 -- a step leaves alone needs no proof.
--- Letters in this folder: s a setup, w a world, t tables, q a message list, m and g messages; d and k clients, v and u volumes, o, i and j objects. Of a
+-- Letters in this folder: s a setup, w a world, t tables, q a message list, m a message, g another or its kind; d and k clients, v and u volumes, o, i and j objects. Of a
 -- message n is the number, e the epoch (f another's), x the volume expiry, ver the version, y the object expiry, p the payload. z says that it is sent.
 use Prim.Native.Nat.{ℕ, _+_, _*_, _<_, _≤_, min}
-use mathlib.Core.Bool.{Bool, true, false, cond}
+use mathlib.Core.Bool.{Bool, true, false}
 use mathlib.Core.List.{List}
 use mathlib.Core.Logic.{_⊎_}
 use mathlib.Core.Path.{_≡_}
@@ -278,6 +278,9 @@ AnswersIn w d v n e = Answers (w .tables .volumes .epoch) (w .tables .sessions .
 abbrev pub AcknowledgesIn : Setup → World → ℕ → ℕ → ℕ → Type 0
 AcknowledgesIn s w o e ver = Acknowledges s (w .tables .volumes .epoch) (w .tables .objects .version) (w .tables .objects .standing) o e ver
 
+abbrev pub AckingIn : Setup → World → ℕ → Kind → Type 0
+AckingIn s w o g = Acking s (w .tables .volumes .epoch) (w .tables .objects .version) (w .tables .objects .standing) o g
+
 abbrev pub HeaderIn : World → ℕ → ℕ → ℕ → ℕ → Type 0
 HeaderIn w d v n e = Header (w .tables .volumes .epoch) (w .tables .sessions .seen) (w .requests) d v n e
 
@@ -291,7 +294,7 @@ pub record Sent (q : Queue) (m : Message) : Type 0 where
   pub there : messageAt q place ≡ m
 
 abbrev pub from : ℕ → Kind → Message
-from d k = record { client = d; kind = k }
+from d g = record { client = d; kind = g }
 
 -- ---- the whole
 

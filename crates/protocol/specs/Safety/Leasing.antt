@@ -2,12 +2,10 @@
 use Prim.Native.Nat.{ℕ, _+_, _<_, _≤_}
 use native.Mathlib.Omega.{arith}
 use native.Mathlib.Decide.{ℕ-discrete}
-use mathlib.Core.Bool.{true, false, cond}
-use mathlib.Core.List.{List}
-use mathlib.Core.Logic.{_⊎_, inl, inr, ⊎-elim}
+use mathlib.Core.Bool.{true, false}
+use mathlib.Core.Logic.{inl, inr, ⊎-elim}
 use mathlib.Core.Path.{_≡_, refl, sym, _∙_}
 use lib.Dec.{eqb}
-use lib.ListN.{getD, set}
 use borrow.Author.Tests.{eqb-true}
 use Rattle.laws.specs.Choice.{same?, not-both, cond-keeps}
 use Rattle.protocol.specs.declared.message.Kind.{Kind}
@@ -15,18 +13,18 @@ use Rattle.protocol.specs.declared.message.Kind.the-variants.{Renew, Gra
 use Rattle.protocol.specs.declared.setup.Setup.{Setup}
 use Rattle.protocol.specs.declared.tables.Tables.{Tables}
 use Rattle.protocol.specs.Setup.{volumeOf}
-use Rattle.protocol.specs.Tables.{byVolume, byObject, epochAt, volumeExpiryAt, seenAt, sessionExpiryAt, unreachableAt, offerAt, versionAt, objectExpiryAt, standingAt, leaseAt, waitingAt}
+use Rattle.protocol.specs.Tables.{epochAt, volumeExpiryAt, seenAt, sessionExpiryAt, unreachableAt, offerAt, versionAt, objectExpiryAt, standingAt, leaseAt, waitingAt}
 use Rattle.protocol.specs.Leases.{serverAlive}
 use Rattle.protocol.specs.Server.{volumeRenewed, objectRenewed, payloadFor, granting, granted}
 use Rattle.protocol.specs.World.{World}
 use Rattle.protocol.specs.Soundness.Steps.{Ranges}
 use Rattle.protocol.specs.Soundness.Shape.{Shape}
-use Rattle.protocol.specs.Safety.Invariant.{Inv, Stands, copyAt, heldOf, untilOf, viewGranted, Held, Covered, PayloadOk, NamesHeld, excusesOf, clocksOf, KindOk, Acking, CoveredIn}
+use Rattle.protocol.specs.Safety.Invariant.{Inv, Stands, copyAt, heldOf, untilOf, viewGranted, Held, PayloadOk, NamesHeld, excusesOf, clocksOf, KindOk, AckingIn, CoveredIn}
 use Rattle.protocol.specs.Safety.Stores.{After, at-place, off-place, volume-set, object-set, object-fits, volume-fits}
 use Rattle.protocol.specs.Safety.Tools.{updated-same, updated-other}
 use Rattle.protocol.specs.Safety.Replaced.{withTables, Replaced, here-at, set-replaced}
 use Rattle.protocol.specs.Safety.Covering.{covered-by, remains-by, grant-covered}
-use Rattle.protocol.specs.Safety.Sending.{Keeps, each, not-acking, send}
+use Rattle.protocol.specs.Safety.Sending.{Keeps, each, acking-case, not-acking, send}
 
 module _ (s : Setup) (range : Ranges s) (w : World) (inv : Inv s w) (shape : Shape (w .tables)) (d o : ℕ) (hd : d < s .clients) (ho : o < s .objects)
     (reachable : unreachableAt (w .tables) d (volumeOf s o) ≡ false) (free : standingAt (w .tables) o ≡ false)
@@ -204,13 +202,8 @@ module _ (s : Setup) (range : Ranges s) (w : World) (inv : Inv s w) (shape : Sha
             covered = covers;
           };
         })
-        (λ g z. (not-acking (λ i a. a), record { acked = λ i p a b. taken-none i (g .kind) (b .0) a }))
+        (λ g z. (not-acking (λ i a. a), record { acked = λ i p a b. unacknowledged i (b .0) (g .kind) a }))
       where
         -- nothing of the object would be acknowledged, as no write of it stands
-        taken-none : (i : ℕ) (g : Kind) → o ≡ i → Acking s (w .tables .volumes .epoch) (w .tables .objects .version) (w .tables .objects .standing) i g → ⊥
-        taken-none i (Renew j m f x) q a = a
-        taken-none i (Grant j m x f u y p) q a = a
-        taken-none i (Invalidate j f x) q a = a
-        taken-none i (Ack j f x) q a = not-both (rw (a .0 ∙ sym q) at (a .1 .stands)) free
-        taken-none i (Offer u m f) q a = a
-        taken-none i (Dropped u m f) q a = a
+        unacknowledged : (i : ℕ) → o ≡ i → (g : Kind) → AckingIn s w i g → ⊥
+        unacknowledged i q = acking-case (λ _. ⊥) (λ f u a. not-both (rw (← q) at (a .stands)) free)

@@ -1,14 +1,13 @@
 -- A client takes an OFFER: it knows the epoch, and holds no lease in the volume any more.
-use Prim.Native.Nat.{ℕ, _+_, _*_, _<_}
-use mathlib.Core.Bool.{true, false, cond}
+use Prim.Native.Nat.{ℕ, _*_, _<_}
 use mathlib.Core.List.{List}
-use mathlib.Core.Logic.{_⊎_, inr, ⊎-elim}
+use mathlib.Core.Logic.{inr, ⊎-elim}
 use mathlib.Core.Path.{_≡_, refl, sym, ap, _∙_}
 use lib.Dec.{eqb}
 use lib.ListN.{length, getD, set}
 use borrow.Author.Tests.{eq-eqb, ne-eqb}
 use Rattle.laws.specs.Choice.{same?, cond-keeps}
-use Rattle.protocol.specs.declared.message.Kind.the-variants.{Ack, Offer, Dropped}
+use Rattle.protocol.specs.declared.message.Kind.the-variants.{Offer, Dropped}
 use Rattle.protocol.specs.declared.records.Copy.{Copy}
 use Rattle.protocol.specs.declared.setup.Setup.{Setup}
 use Rattle.protocol.specs.declared.step.Sweep.the-variants.{Expire}

@@ -1,11 +1,10 @@
 -- The request records change: a number is taken, or the standing request ends. No message under way gets to answer a request that it did not answer before.
 use Prim.Native.Nat.{ℕ, _+_, _<_, _≤_}
 use native.Mathlib.Omega.{arith}
-use mathlib.Core.Bool.{true, false, cond, _&&_}
+use mathlib.Core.Bool.{true}
 use mathlib.Core.List.{List}
-use mathlib.Core.Logic.{_⊎_, ⊎-elim}
+use mathlib.Core.Logic.{⊎-elim}
 use mathlib.Core.Path.{_≡_, refl, ap, _∙_}
-use lib.Dec.{eqb}
 use lib.ListN.{length, set}
 use lib.Seq.{getD-set-same, getD-set-other, set-getD}
 use borrow.Author.Tests.{eq-eqb}
@@ -18,7 +17,7 @@ use Rattle.protocol.specs.Tables.{noRequest}
 use Rattle.protocol.specs.Client.{numbered, ended, forgotten, asksFor}
 use Rattle.protocol.specs.World.{World}
 use Rattle.protocol.specs.Safety.Invariant.{Inv, Stands, requestAt, Numbers, Header, HeaderIn, KindOk, Bringing}
-use Rattle.protocol.specs.Safety.Sending.{Keeps, each}
+use Rattle.protocol.specs.Safety.Sending.{Keeps, each, bringing-case}
 
 abbrev pub requesting : World → List Request → World
 requesting w requests = record { tables = w .tables; copies = w .copies; requests = requests }
@@ -60,13 +59,8 @@ module _ (s : Setup) (w : World) (inv : Inv s w) (requests : List Request) (move
   keeps d (Dropped v n e) z hd c = record { exists = c .exists; header = header d v n e (c .header); written = c .written; remains = c .remains }
 
   -- no GRANT gets to bring what it did not before
-  brought : (d o : ℕ) (k : Kind) → KindOk s w d k → Bringing requests d o k → Bringing (w .requests) d o k
-  brought d o (Renew i n e ver) c b = b
-  brought d o (Grant i n x e ver y p) c b = (b .0, moves .stands d n (c .header .taken) (b .1))
-  brought d o (Invalidate i e ver) c b = b
-  brought d o (Ack i e ver) c b = b
-  brought d o (Offer v n e) c b = b
-  brought d o (Dropped v n e) c b = b
+  brought : (d o : ℕ) (g : Kind) → KindOk s w d g → Bringing requests d o g → Bringing (w .requests) d o g
+  brought d o g c b = bringing-case (λ (h : Kind). KindOk s w d h → Bringing (w .requests) d o h) (λ n x e ver y p a h. (refl, moves .stands d n (h .header .taken) a)) g b c
 
   pub moved : Numbers s (w .tables .sessions .seen) requests → Inv s (requesting w requests)
   moved numbers = record {

@@ -2,9 +2,9 @@
 use Prim.Native.Nat.{ℕ, _+_, _<_, _≤_}
 use native.Mathlib.Omega.{arith}
 use native.Mathlib.Decide.{ℕ-discrete}
-use mathlib.Core.Bool.{Bool, true, false}
+use mathlib.Core.Bool.{Bool, false}
 use mathlib.Core.List.{List}
-use mathlib.Core.Logic.{_⊎_, inl, ⊎-elim}
+use mathlib.Core.Logic.{inl, ⊎-elim}
 use mathlib.Core.Path.{_≡_, refl}
 use lib.ListN.{getD, replicate, getD-replicate}
 use Rattle.laws.specs.Store.{storeEach, always, store-hit}
@@ -120,5 +120,5 @@ module _ (s : Setup) (range : Ranges s) (w : World) (inv : Inv s w) (shape : Sha
     };
     views = λ d v hd hv. covered d v _ hd hv (inv .epochs d v hd hv) (inv .views d v hd hv);
     messages = each inv keeps;
-    pairs = acked-before s w _ _ _ (λ d o e ver c a. nothing-stands range o (c .invalidate .exists) (a .stands)) inv;
+    pairs = acked-before s w _ _ _ inv (λ d o e ver c a. nothing-stands range o (c .invalidate .exists) (a .stands));
   }

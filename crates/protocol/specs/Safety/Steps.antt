@@ -1,11 +1,9 @@
 -- Every step keeps the invariant, and under it every client reads what is current.
-use Prim.Native.Nat.{ℕ, _+_}
 use native.Mathlib.Omega.{arith}
-use mathlib.Core.Bool.{true, false, cond, not, _&&_}
-use mathlib.Core.Logic.{_⊎_, inl, ⊎-elim}
+use mathlib.Core.Bool.{true, not}
+use mathlib.Core.Logic.{inl, ⊎-elim}
 use mathlib.Core.Path.{_≡_, refl}
 use lib.Dec.{eqb}
-use lib.ListN.{set, replicate}
 use lib.Seq.{set-getD}
 use borrow.Author.Tests.{eqb-false, not-true, ne-eqb}
 use Rattle.laws.specs.Choice.{cond-keeps, true-or-false, and-true}
@@ -16,7 +14,7 @@ use Rattle.protocol.specs.declared.step.Step.{Step}
 use Rattle.protocol.specs.declared.step.Target.{Target}
 use Rattle.protocol.specs.Setup.{inRange, volumeOf}
 use Rattle.protocol.specs.Messages.{messageAt, objectOf}
-use Rattle.protocol.specs.Tables.{viewExpiryAt, noCopy}
+use Rattle.protocol.specs.Tables.{viewExpiryAt}
 use Rattle.protocol.specs.Leases.{clientAlive}
 use Rattle.protocol.specs.Client.{showable}
 use Rattle.protocol.specs.Decide.{readDecided, askDecided, deliverDecided, restartDecided}
