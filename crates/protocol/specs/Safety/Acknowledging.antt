@@ -67,7 +67,7 @@ module _ (s : Setup) (range : Ranges s) (w : World) (inv : Inv s w) (shape : Sha
   keeps k (Dropped v n e) z hk c = record {
     exists = c .exists;
     header = c .header;
-    written = λ a i h q b. ⊎-elim (λ r. let l = left-below 0 in rw (r .2) (omega arith)) (λ r. rw (r .1) (c .written a i h q b)) (at-lease k i h);
+    writes = λ a i h q b. ⊎-elim (λ r. let l = left-below 0 in rw (r .2) (omega arith)) (λ r. rw (r .1) (c .writes a i h q b)) (at-lease k i h);
     remains = λ a b. remains-by (c .remains a b) (unowed k _ _ _ (gone-at k));
   }
 

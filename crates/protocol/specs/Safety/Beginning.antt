@@ -27,7 +27,7 @@ use Rattle.protocol.specs.Safety.Sending.{listing, Keeps, each, acked-be
 
 -- Q1: who is not waited for cannot show the copy, or is not counted on
 unwaited : (s : Setup) (w : World) (o d : ℕ) → waits s (w .tables) o d ≡ false
-    → Unwaited (w .tables .clock) (leaseAt (w .tables) d o) (sessionExpiryAt (w .tables) d (volumeOf s o)) (excusesOf w d (volumeOf s o) o)
+    → Unwaited (w .tables .clock) (leaseAt (w .tables) d o) (sessionExpiryAt (w .tables) d (volumeOf s o)) (excusesOf (w .tables) d (volumeOf s o) o)
 unfolding waits
 unwaited s w o d e =
     ⊎-elim inl (λ p. let q = or-false (not (unreachableAt (w .tables) d (volumeOf s o))) _ p in inr (q .1, marked-excused _ d (volumeOf s o) o (marks _ (q .0))))
@@ -84,7 +84,7 @@ module _ (s : Setup) (w : World) (o x : ℕ) (range : Ranges s) (shape : Shape (
     erased = λ a. c .erased (acknowledges-begun s o vacant standing (c .invalidate) a);
   }
   keeps d (Offer v n e) z hd c = c
-  keeps d (Dropped v n e) z hd c = record { exists = c .exists; header = c .header; written = λ a j h q b. left-none _; remains = c .remains }
+  keeps d (Dropped v n e) z hd c = record { exists = c .exists; header = c .header; writes = λ a j h q b. left-none _; remains = c .remains }
 
   begun-keeps : Inv s after
   unfolding opened awaited

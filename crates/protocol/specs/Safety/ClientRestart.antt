@@ -48,7 +48,7 @@ module _ (s : Setup) (range : Ranges s) (w : World) (inv : Inv s w) (shape : Wor
   no-version : (k : ℕ) → k < s .objects → copyAt s copies d k .version ≡ 0
   no-version k h = ap (λ (c : Copy). c .version) (gone k h)
 
-  empty : (u : ℕ) → u < s .volumes → Empty s (clocksOf w d) u (viewAt s (zeroed (w .tables .views .epoch)) (zeroed (w .tables .views .expiry)) copies d u)
+  empty : (u : ℕ) → u < s .volumes → Empty s (clocksOf (w .tables) d) u (viewAt s (zeroed (w .tables .views .epoch)) (zeroed (w .tables .views .expiry)) copies d u)
   empty u h = record { volume = zero-own (w .tables .views .expiry) (shape .tables .views .expiry) u h; objects = λ k a. a .copy (no-version k (a .exists)) }
 
   others : Others s d (w .tables .views .epoch) (w .tables .views .expiry) (zeroed (w .tables .views .epoch)) (zeroed (w .tables .views .expiry)) (w .copies) copies

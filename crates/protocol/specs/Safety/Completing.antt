@@ -77,9 +77,9 @@ module _ (s : Setup) (o : ℕ) {epoch version version′ : List ℕ} {standing s
 
 -- ---- the write of o completes, and who is waited for is not counted on
 module _ (s : Setup) (w : World) (o : ℕ) (inv : Inv s w) (ho : o < s .objects) (stands : standingAt (w .tables) o ≡ true) (c : Completes s (w .tables) o)
-    (mark : (d : ℕ) → d < s .clients → waitingAt (w .tables) d o ≡ true → excusesOf w d (volumeOf s o) o ≡ true) where
+    (mark : (d : ℕ) → d < s .clients → waitingAt (w .tables) d o ≡ true → excusesOf (w .tables) d (volumeOf s o) o ≡ true) where
   -- what a client holds to be alive, the server does, and anything later
-  alive : (d : ℕ) {e f : ℕ} → clientAlive (clocksOf w d) e ≡ true → e ≤ f → serverAlive (w .tables .clock) f ≡ true
+  alive : (d : ℕ) {e f : ℕ} → clientAlive (clocksOf (w .tables) d) e ≡ true → e ≤ f → serverAlive (w .tables .clock) f ≡ true
   alive d {e} a h = longer-alive (w .tables .clock) h (client-server (w .tables .clock) d e a)
 
   -- no client has both leases
@@ -101,7 +101,7 @@ module _ (s : Setup) (w : World) (o : ℕ) (inv : Inv s w) (ho : o < s .objects)
       ⊎-elim (λ p. not-both a (p .1)) (λ p. not-both a (over-dead (w .tables .clock) (endAt (w .tables) o) _ p (inv .writes .guards o ho stands))) c
 
   -- no client with the object's lease is counted on
-  not-counted : (d : ℕ) → d < s .clients → serverAlive (w .tables .clock) (leaseAt (w .tables) d o) ≡ true → excusesOf w d (volumeOf s o) o ≡ false → ⊥
+  not-counted : (d : ℕ) → d < s .clients → serverAlive (w .tables .clock) (leaseAt (w .tables) d o) ≡ true → excusesOf (w .tables) d (volumeOf s o) o ≡ false → ⊥
   not-counted d hd a b = ⊎-elim waited unwaited (true-or-false (waitingAt (w .tables) d o))
     where
       waited : waitingAt (w .tables) d o ≡ true → ⊥
@@ -113,20 +113,20 @@ module _ (s : Setup) (w : World) (o : ℕ) (inv : Inv s w) (ho : o < s .objects)
   module _ {version lease : List ℕ} (x : Replaced o (versionAt (w .tables) o + 1) 0 (w .tables .objects .version) version) (y : ReplacedFor s o (λ _. 0) 0 (w .tables .holders .lease) lease)
       (d v : ℕ) (view : View) (hd : d < s .clients) where
     -- no view claims a copy of o
-    unclaimed : view .known ≤ epochAt (w .tables) v → CoveredIn s w d v view → Held s (clocksOf w d) v view o → Claimed (clocksOf w d) (epochAt (w .tables) v) (excusesOf w d v) view o → ⊥
+    unclaimed : view .known ≤ epochAt (w .tables) v → CoveredIn s (w .tables) d v view → Held s (clocksOf (w .tables) d) v view o → Claimed (clocksOf (w .tables) d) (epochAt (w .tables) v) (excusesOf (w .tables) d v) view o → ⊥
     unclaimed reached k h l = ⊎-elim (λ b. ⊎-elim (live b) (older b) (same? (view .known) (epochAt (w .tables) v))) (λ b. not-counted d hd (leased (b .0)) (rw (h .inside) (b .1))) l
       where
         leased : view .known ≡ epochAt (w .tables) v → serverAlive (w .tables .clock) (leaseAt (w .tables) d o) ≡ true
         leased q = alive d (h .alive) (k .holds o h l .1 q)
 
-        live : clientAlive (clocksOf w d) (view .expiry) ≡ true → view .known ≡ epochAt (w .tables) v → ⊥
+        live : clientAlive (clocksOf (w .tables) d) (view .expiry) ≡ true → view .known ≡ epochAt (w .tables) v → ⊥
         live b q = not-both-leases d hd (leased q) (rw (h .inside) (alive d b (k .current q)))
 
-        older : clientAlive (clocksOf w d) (view .expiry) ≡ true → (view .known ≡ epochAt (w .tables) v → ⊥) → ⊥
+        older : clientAlive (clocksOf (w .tables) d) (view .expiry) ≡ true → (view .known ≡ epochAt (w .tables) v → ⊥) → ⊥
         older b q = not-guarded (rw (h .inside) (alive d b (k .older (omega arith))))
 
-    covered-posted : view .known ≤ epochAt (w .tables) v → CoveredIn s w d v view
-        → ViewOk s (clocksOf w) (w .tables .volumes .epoch) (w .tables .volumes .guard) (w .tables .sessions .expiry) (excusesOf w) version lease d v view
+    covered-posted : view .known ≤ epochAt (w .tables) v → CoveredIn s (w .tables) d v view
+        → ViewOk s (clocksOf (w .tables)) (w .tables .volumes .epoch) (w .tables .volumes .guard) (w .tables .sessions .expiry) (excusesOf (w .tables)) version lease d v view
     covered-posted reached k = record {
       current = k .current;
       older = k .older;
@@ -135,17 +135,17 @@ module _ (s : Setup) (w : World) (o : ℕ) (inv : Inv s w) (ho : o < s .objects)
     }
 
     -- nor does what a DROPPED leaves include a lease on o
-    remains-posted : (volumeOf s o ≡ v → left (leaseAt (w .tables) d o) ≡ 0) → RemainsIn s w d v view → Remains s (clocksOf w d) d v version lease view
+    remains-posted : (volumeOf s o ≡ v → left (leaseAt (w .tables) d o) ≡ 0) → RemainsIn s (w .tables) d v view → Remains s (clocksOf (w .tables) d) d v version lease view
     remains-posted none k = record {
       volume = k .volume;
       objects = λ j h. ⊎-elim (λ q. absurd (dead (rw q at h))) (λ q. rw (x .other j q, y .other d j (h .exists) q) (k .objects j h)) (same? j o);
     }
       where
-        dead : Held s (clocksOf w d) v view o → ⊥
-        dead h = let a = k .objects o h .1 in let b = none (h .inside) in zero-dead-client (clocksOf w d) (omega arith) (h .alive)
+        dead : Held s (clocksOf (w .tables) d) v view o → ⊥
+        dead h = let a = k .objects o h .1 in let b = none (h .inside) in zero-dead-client (clocksOf (w .tables) d) (omega arith) (h .alive)
 
 module _ (s : Setup) (w : World) (o : ℕ) (range : Ranges s) (objects : ObjectsShape (w .tables .objects)) (holders : HoldersShape (w .tables .holders)) (inv : Inv s w) (ho : o < s .objects)
-    (stands : standingAt (w .tables) o ≡ true) (c : Completes s (w .tables) o) (mark : (d : ℕ) → d < s .clients → waitingAt (w .tables) d o ≡ true → excusesOf w d (volumeOf s o) o ≡ true) where
+    (stands : standingAt (w .tables) o ≡ true) (c : Completes s (w .tables) o) (mark : (d : ℕ) → d < s .clients → waitingAt (w .tables) d o ≡ true → excusesOf (w .tables) d (volumeOf s o) o ≡ true) where
   abbrev after : World
   after = withTables w (withHolders (withObjects (w .tables) (posted (w .tables) o)) (released s (w .tables) o))
 
@@ -198,8 +198,8 @@ module _ (s : Setup) (w : World) (o : ℕ) (range : Ranges s) (objects : Objects
   keeps d (Dropped v n e) z hd k = record {
     exists = k .exists;
     header = k .header;
-    written = λ a j h q b. let m = still-other standing j b in rw (lease .other d j h m) (k .written a j h q (sym (standing .other j m) ∙ b));
-    remains = λ a b. remains-posted s w o inv ho stands c mark version lease d v _ hd (λ q. k .written a o ho q stands) (k .remains a b);
+    writes = λ a j h q b. let m = still-other standing j b in rw (lease .other d j h m) (k .writes a j h q (sym (standing .other j m) ∙ b));
+    remains = λ a b. remains-posted s w o inv ho stands c mark version lease d v _ hd (λ q. k .writes a o ho q stands) (k .remains a b);
   }
 
   -- the write's value is posted, and all leases on its object go

@@ -35,7 +35,7 @@ drop-taken t d v n e h =
     record { current = eqb-true _ _ (a .0); nonzero = eqb-false _ _ (not-true _ (b .0)); same = sym (eqb-true _ _ (b .1)) }
 
 -- ---- DROPPED of client d, taken
-module _ (s : Setup) (range : Ranges s) (w : World) (inv : Inv s w) (shape : Shape (w .tables)) (d v n e : ℕ) (hd : d < s .clients) (ok : KindOk s w d (Dropped v n e)) (answers : AnswersIn w d v n e) where
+module _ (s : Setup) (range : Ranges s) (w : World) (inv : Inv s w) (shape : Shape (w .tables)) (d v n e : ℕ) (hd : d < s .clients) (ok : KindOk s w d (Dropped v n e)) (answers : AnswersIn (w .tables) d v n e) where
   abbrev t : Tables
   t = dropped s (w .tables) d v
 
@@ -91,27 +91,27 @@ module _ (s : Setup) (range : Ranges s) (w : World) (inv : Inv s w) (shape : Sha
   same-lease : (k i : ℕ) → i < s .objects → (k ≡ d → volumeOf s i ≡ v → ⊥) → leaseAt t k i ≡ leaseAt (w .tables) k i
   same-lease k i h m = off-place (at-lease k i h) m
 
-  excused-still : (k u i : ℕ) → u < s .volumes → (k ≡ d → u ≡ v → ⊥) → excusesOf w k u i ≡ true → excusesOf (withTables w t) k u i ≡ true
+  excused-still : (k u i : ℕ) → u < s .volumes → (k ≡ d → u ≡ v → ⊥) → excusesOf (w .tables) k u i ≡ true → excusesOf t k u i ≡ true
   excused-still k u i h m = excused-grows _ _ k u i (λ a. off-place (at-un k u h) m ∙ a)
 
   -- another client, or another volume, is covered as it was
-  elsewhere : (k u : ℕ) (view : View) → u < s .volumes → (k ≡ d → u ≡ v → ⊥) → CoveredIn s w k u view → CoveredIn s (withTables w t) k u view
+  elsewhere : (k u : ℕ) (view : View) → u < s .volumes → (k ≡ d → u ≡ v → ⊥) → CoveredIn s (w .tables) k u view → CoveredIn s t k u view
   unfolding dropped
   elsewhere k u view h m c =
       covered-by c (omega (arith, off-place (at-session k u h) m)) (λ i hi q. excused-still k u i h m)
       (λ i a. omega (arith, same-lease k i (a .exists) (λ p q. m p (sym (a .inside) ∙ q))))
 
   -- the client that dropped its leases: of this epoch it needs what is left, and of an older one the guard covers it
-  here : CoveredIn s (withTables w t) d v (viewAt s (w .tables .views .epoch) (w .tables .views .expiry) (w .copies) d v)
+  here : CoveredIn s t d v (viewAt s (w .tables .views .epoch) (w .tables .views .expiry) (w .copies) d v)
   unfolding dropped
   here = go (ℕ-discrete (getD (w .tables .views .epoch) (byVolume d v) 0) (epochAt (w .tables) v))
     where
-      go : Dec (getD (w .tables .views .epoch) (byVolume d v) 0 ≡ epochAt (w .tables) v) → CoveredIn s (withTables w t) d v (viewAt s (w .tables .views .epoch) (w .tables .views .expiry) (w .copies) d v)
+      go : Dec (getD (w .tables .views .epoch) (byVolume d v) 0 ≡ epochAt (w .tables) v) → CoveredIn s t d v (viewAt s (w .tables .views .epoch) (w .tables .views .expiry) (w .copies) d v)
       go (yes q) = covered-left (ok .remains answers q) (λ i a. at-place (at-lease d i (a .exists)) refl (a .inside))
       go (no q) = covered-older q (inv .views d v hd hv)
 
   -- whatever else answers an offer answers another one
-  answered : (k u m f : ℕ) → u < s .volumes → Answers (t .volumes .epoch) (t .sessions .offer) k u m f → AnswersIn w k u m f × (k ≡ d → u ≡ v → ⊥)
+  answered : (k u m f : ℕ) → u < s .volumes → Answers (t .volumes .epoch) (t .sessions .offer) k u m f → AnswersIn (w .tables) k u m f × (k ≡ d → u ≡ v → ⊥)
   unfolding dropped
   answered k u m f h a =
       ⊎-elim (λ q. absurd (a .nonzero (sym (a .same) ∙ q .2)))
@@ -142,7 +142,7 @@ module _ (s : Setup) (range : Ranges s) (w : World) (inv : Inv s w) (shape : Sha
   keeps k (Dropped u m f) z hk c = record {
     exists = c .exists;
     header = c .header;
-    written = λ a i h q b. let g = answered k u m f (c .exists) a in rw (same-lease k i h (λ p r. g .1 p (sym q ∙ r))) (c .written (g .0) i h q b);
+    writes = λ a i h q b. let g = answered k u m f (c .exists) a in rw (same-lease k i h (λ p r. g .1 p (sym q ∙ r))) (c .writes (g .0) i h q b);
     remains = λ a b. let g = answered k u m f (c .exists) a in remains-by (c .remains (g .0) b) (λ i h. omega (arith, same-lease k i (h .exists) (λ p r. g .1 p (sym (h .inside) ∙ r))));
   }
 
@@ -164,7 +164,7 @@ module _ (s : Setup) (range : Ranges s) (w : World) (inv : Inv s w) (shape : Sha
       guards = inv .writes .guards;
       waits = λ k i hk h a b. ⊎-elim (λ q. not-both b (q .2))
           (λ q. rw (same-lease k i h (q .0), off-place (at-session k (volumeOf s i) (range .within i h)) (q .0)) (inv .writes .waits k i hk h a (sym (q .1) ∙ b))) (at-waiting k i h);
-      others = λ k i hk h a b. ⊎-elim (λ q. inl (rw (q .2, q .0, ok .written answers i h (q .1) a) (zero-dead (w .tables .clock))))
+      others = λ k i hk h a b. ⊎-elim (λ q. inl (rw (q .2, q .0, ok .writes answers i h (q .1) a) (zero-dead (w .tables .clock))))
           (λ q. rw (q .1, off-place (at-session k (volumeOf s i) (range .within i h)) (q .0))
           (⊎-elim inl (λ r. inr (r .0, excused-still k (volumeOf s i) i (range .within i h) (q .0) (r .1))) (inv .writes .others k i hk h a (sym (off-place (at-waiting k i h) (q .0)) ∙ b))))
           (at-lease k i h);

@@ -26,7 +26,7 @@ use Rattle.protocol.specs.Safety.Taking.{known-set, expiry-set, Others, 
 -- ---- GRANT of client d, taken
 module _ (s : Setup) (range : Ranges s) (w : World) (inv : Inv s w) (shape : WorldShape s w) (d o n x e ver y : ℕ) (p : Payload) (hd : d < s .clients)
     (ok : KindOk s w d (Grant o n x e ver y p)) (stands : Stands (w .requests) d n)
-    (alone : (f u : ℕ) → Sent (w .tables .queue) (from d (Ack o f u)) → AcknowledgesIn s w o f u → ⊥) where
+    (alone : (f u : ℕ) → Sent (w .tables .queue) (from d (Ack o f u)) → AcknowledgesIn s (w .tables) o f u → ⊥) where
   abbrev v : ℕ
   v = volumeOf s o
 
@@ -77,7 +77,7 @@ module _ (s : Setup) (range : Ranges s) (w : World) (inv : Inv s w) (shape : Wor
   stored (Value z) a b c = a c
 
   -- in the object's volume the client knows what the GRANT said ..
-  inside : Less s (clocksOf w d) v (viewGranted s (w .copies) d o x e ver y) (viewAt s known expiry copies d v)
+  inside : Less s (clocksOf (w .tables) d) v (viewGranted s (w .copies) d o x e ver y) (viewAt s known expiry copies d v)
   inside = record {
     known = at-place (at-known d v hv) refl refl;
     expiry = at-place (at-expiry d v hv) refl refl;
@@ -99,7 +99,7 @@ module _ (s : Setup) (range : Ranges s) (w : World) (inv : Inv s w) (shape : Wor
       )
 
   -- .. and in every other what it knew
-  outside : (u : ℕ) → u < s .volumes → (u ≡ v → ⊥) → Less s (clocksOf w d) u (viewAt s (w .tables .views .epoch) (w .tables .views .expiry) (w .copies) d u) (viewAt s known expiry copies d u)
+  outside : (u : ℕ) → u < s .volumes → (u ≡ v → ⊥) → Less s (clocksOf (w .tables) d) u (viewAt s (w .tables .views .epoch) (w .tables .views .expiry) (w .copies) d u) (viewAt s known expiry copies d u)
   outside u h m = view-less still (off-place (at-known d u h) (λ a b. m b)) (off-place (at-expiry d u h) (λ a b. m b))
     where
       still : Fewer s d u (w .copies) copies

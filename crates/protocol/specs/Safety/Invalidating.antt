@@ -74,7 +74,7 @@ module _ (s : Setup) (w : World) (inv : Inv s w) (full : length (w .copies) ≡ 
   keeps k (Dropped v n e) z hk c = record {
     exists = c .exists;
     header = c .header;
-    written = c .written;
+    writes = c .writes;
     remains = λ a b. remains-less (view-less (fewer k v) refl refl) (c .remains a b);
   }
 

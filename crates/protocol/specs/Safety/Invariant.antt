@@ -17,6 +17,7 @@ use Rattle.protocol.specs.declared.message.Kind.the-variants.{Renew, Gra
 use Rattle.protocol.specs.declared.records.Copy.{Copy}
 use Rattle.protocol.specs.declared.records.Request.{Request}
 use Rattle.protocol.specs.declared.setup.Setup.{Setup}
+use Rattle.protocol.specs.declared.tables.Tables.{Tables}
 use Rattle.protocol.specs.Setup.{volumeOf}
 use Rattle.protocol.specs.Messages.{messageAt}
 use Rattle.protocol.specs.Tables.{byVolume, byObject, noCopy, noRequest}
@@ -214,26 +215,26 @@ pub record DroppedOk (s : Setup) (clocks : ℕ → ℕ) (epoch seen offer versio
   pub exists : v < s .volumes
   pub header : Header epoch seen requests d v n e
   -- taken, it leaves no lease on what is being written ..
-  pub written : Answers epoch offer d v n e → (o : ℕ) → o < s .objects → volumeOf s o ≡ v → getD standing o false ≡ true → left (getD lease (byObject d o) 0) ≡ 0
+  pub writes : Answers epoch offer d v n e → (o : ℕ) → o < s .objects → volumeOf s o ≡ v → getD standing o false ≡ true → left (getD lease (byObject d o) 0) ≡ 0
   -- .. and all that a client of the server's epoch needs
   pub remains : Answers epoch offer d v n e → getD known (byVolume d v) 0 ≡ getD epoch v 0 → Remains s (clocks d) d v version lease (viewAt s known expiry copies d v)
 
 -- ---- the messages, all kinds
 
 -- each client's clock, and whom the server does not count on
-abbrev pub clocksOf : World → ℕ → ℕ
-clocksOf w = clientClock (w .tables .clock)
+abbrev pub clocksOf : Tables → ℕ → ℕ
+clocksOf t = clientClock (t .clock)
 
-abbrev pub excusesOf : World → ℕ → ℕ → ℕ → Bool
-excusesOf w = excused (w .tables .sessions .unreachable)
+abbrev pub excusesOf : Tables → ℕ → ℕ → ℕ → Bool
+excusesOf t = excused (t .sessions .unreachable)
 
 abbrev pub KindOk : Setup → World → ℕ → Kind → Type 0
 KindOk s w d (Renew o n e ver) = RenewOk s (w .tables .volumes .epoch) (w .tables .views .epoch) (w .copies) (w .requests) d o n e ver
-KindOk s w d (Grant o n x e ver y p) = GrantOk s (clocksOf w) (w .tables .volumes .epoch) (w .tables .volumes .guard) (w .tables .sessions .seen) (w .tables .sessions .expiry) (excusesOf w) (w .tables .sessions .offer) (w .tables .objects .value) (w .tables .objects .version) (w .tables .holders .lease) (w .copies) (w .requests) d o n x e ver y p
+KindOk s w d (Grant o n x e ver y p) = GrantOk s (clocksOf (w .tables)) (w .tables .volumes .epoch) (w .tables .volumes .guard) (w .tables .sessions .seen) (w .tables .sessions .expiry) (excusesOf (w .tables)) (w .tables .sessions .offer) (w .tables .objects .value) (w .tables .objects .version) (w .tables .holders .lease) (w .copies) (w .requests) d o n x e ver y p
 KindOk s w d (Invalidate o e ver) = InvalidateOk s (w .tables .volumes .epoch) (w .tables .objects .version) (w .tables .objects .standing) o e ver
 KindOk s w d (Ack o e ver) = AckOk s (w .tables .volumes .epoch) (w .tables .objects .version) (w .tables .objects .standing) (w .copies) d o e ver
 KindOk s w d (Offer v n e) = OfferOk s (w .tables .volumes .epoch) (w .tables .sessions .seen) (w .requests) d v n e
-KindOk s w d (Dropped v n e) = DroppedOk s (clocksOf w) (w .tables .volumes .epoch) (w .tables .sessions .seen) (w .tables .sessions .offer) (w .tables .objects .version) (w .tables .objects .standing) (w .tables .holders .lease) (w .tables .views .epoch) (w .tables .views .expiry) (w .copies) (w .requests) d v n e
+KindOk s w d (Dropped v n e) = DroppedOk s (clocksOf (w .tables)) (w .tables .volumes .epoch) (w .tables .sessions .seen) (w .tables .sessions .offer) (w .tables .objects .version) (w .tables .objects .standing) (w .tables .holders .lease) (w .tables .views .epoch) (w .tables .views .expiry) (w .copies) (w .requests) d v n e
 
 pub record MessageOk (s : Setup) (w : World) (m : Message) : Type 0 where
   pub client : m .client < s .clients
@@ -264,25 +265,25 @@ pub record PairOk (s : Setup) (epoch version : List ℕ) (standing : List Bool) 
   -- who acknowledges the standing write cannot be brought a copy
   pub acked : (o : ℕ) → m .client ≡ g .client → Acking s epoch version standing o (m .kind) → Bringing requests (g .client) o (g .kind) → ⊥
 
--- ---- the same over a world
+-- ---- the same over whole tables
 
-abbrev pub CoveredIn : Setup → World → ℕ → ℕ → View → Type 0
-CoveredIn s w d v view = ViewOk s (clocksOf w) (w .tables .volumes .epoch) (w .tables .volumes .guard) (w .tables .sessions .expiry) (excusesOf w) (w .tables .objects .version) (w .tables .holders .lease) d v view
+abbrev pub CoveredIn : Setup → Tables → ℕ → ℕ → View → Type 0
+CoveredIn s t d v view = ViewOk s (clocksOf t) (t .volumes .epoch) (t .volumes .guard) (t .sessions .expiry) (excusesOf t) (t .objects .version) (t .holders .lease) d v view
 
-abbrev pub RemainsIn : Setup → World → ℕ → ℕ → View → Type 0
-RemainsIn s w d v view = Remains s (clocksOf w d) d v (w .tables .objects .version) (w .tables .holders .lease) view
+abbrev pub RemainsIn : Setup → Tables → ℕ → ℕ → View → Type 0
+RemainsIn s t d v view = Remains s (clocksOf t d) d v (t .objects .version) (t .holders .lease) view
 
-abbrev pub AnswersIn : World → ℕ → ℕ → ℕ → ℕ → Type 0
-AnswersIn w d v n e = Answers (w .tables .volumes .epoch) (w .tables .sessions .offer) d v n e
+abbrev pub HeaderIn : Tables → List Request → ℕ → ℕ → ℕ → ℕ → Type 0
+HeaderIn t requests d v n e = Header (t .volumes .epoch) (t .sessions .seen) requests d v n e
 
-abbrev pub AcknowledgesIn : Setup → World → ℕ → ℕ → ℕ → Type 0
-AcknowledgesIn s w o e ver = Acknowledges s (w .tables .volumes .epoch) (w .tables .objects .version) (w .tables .objects .standing) o e ver
+abbrev pub AnswersIn : Tables → ℕ → ℕ → ℕ → ℕ → Type 0
+AnswersIn t d v n e = Answers (t .volumes .epoch) (t .sessions .offer) d v n e
 
-abbrev pub AckingIn : Setup → World → ℕ → Kind → Type 0
-AckingIn s w o g = Acking s (w .tables .volumes .epoch) (w .tables .objects .version) (w .tables .objects .standing) o g
+abbrev pub AcknowledgesIn : Setup → Tables → ℕ → ℕ → ℕ → Type 0
+AcknowledgesIn s t o e ver = Acknowledges s (t .volumes .epoch) (t .objects .version) (t .objects .standing) o e ver
 
-abbrev pub HeaderIn : World → ℕ → ℕ → ℕ → ℕ → Type 0
-HeaderIn w d v n e = Header (w .tables .volumes .epoch) (w .tables .sessions .seen) (w .requests) d v n e
+abbrev pub AckingIn : Setup → Tables → ℕ → Kind → Type 0
+AckingIn s t o g = Acking s (t .volumes .epoch) (t .objects .version) (t .objects .standing) o g
 
 abbrev pub PairIn : Setup → World → Message → Message → Type 0
 PairIn s w m g = PairOk s (w .tables .volumes .epoch) (w .tables .objects .version) (w .tables .objects .standing) (w .requests) m g
@@ -304,7 +305,7 @@ pub record Inv (s : Setup) (w : World) : Type 0 where
   pub numbers : Numbers s (w .tables .sessions .seen) (w .requests)
   pub versions : Versions s (w .tables .objects .value) (w .tables .objects .version) (w .copies)
   pub offers : Offers s (w .tables .sessions .unreachable) (w .tables .sessions .offer)
-  pub writes : Writes s (w .tables .clock) (w .tables .volumes .guard) (w .tables .sessions .expiry) (excusesOf w) (w .tables .objects .standing) (w .tables .objects .end) (w .tables .holders .lease) (w .tables .holders .waiting)
-  pub views : Views s (clocksOf w) (w .tables .volumes .epoch) (w .tables .volumes .guard) (w .tables .sessions .expiry) (excusesOf w) (w .tables .objects .version) (w .tables .holders .lease) (w .tables .views .epoch) (w .tables .views .expiry) (w .copies)
+  pub writes : Writes s (w .tables .clock) (w .tables .volumes .guard) (w .tables .sessions .expiry) (excusesOf (w .tables)) (w .tables .objects .standing) (w .tables .objects .end) (w .tables .holders .lease) (w .tables .holders .waiting)
+  pub views : Views s (clocksOf (w .tables)) (w .tables .volumes .epoch) (w .tables .volumes .guard) (w .tables .sessions .expiry) (excusesOf (w .tables)) (w .tables .objects .version) (w .tables .holders .lease) (w .tables .views .epoch) (w .tables .views .expiry) (w .copies)
   pub messages : (m : Message) → Sent (w .tables .queue) m → MessageOk s w m
   pub pairs : (m g : Message) → Sent (w .tables .queue) m → Sent (w .tables .queue) g → PairIn s w m g

@@ -28,7 +28,7 @@ use Rattle.protocol.specs.Safety.Sending.{Keeps, each, acking-case, not-
 
 module _ (s : Setup) (range : Ranges s) (w : World) (inv : Inv s w) (shape : Shape (w .tables)) (d o : ℕ) (hd : d < s .clients) (ho : o < s .objects)
     (reachable : unreachableAt (w .tables) d (volumeOf s o) ≡ false) (free : standingAt (w .tables) o ≡ false)
-    (trusted : (i : ℕ) → i < s .objects → volumeOf s i ≡ volumeOf s o → excusesOf w d (volumeOf s o) i ≡ false)
+    (trusted : (i : ℕ) → i < s .objects → volumeOf s i ≡ volumeOf s o → excusesOf (w .tables) d (volumeOf s o) i ≡ false)
     (unwaited : (i : ℕ) → i < s .objects → volumeOf s i ≡ volumeOf s o → standingAt (w .tables) i ≡ true → waitingAt (w .tables) d i ≡ false) where
   abbrev v : ℕ
   v = volumeOf s o
@@ -97,7 +97,7 @@ module _ (s : Setup) (range : Ranges s) (w : World) (inv : Inv s w) (shape : Sha
   keeps k (Dropped u n e) z hk c = record {
     exists = c .exists;
     header = c .header;
-    written = λ a i h q b. rw (written-same k i h b) (c .written a i h q b);
+    writes = λ a i h q b. rw (written-same k i h b) (c .writes a i h q b);
     remains = λ a b. remains-by (c .remains a b) (λ i h. lease-grows k i hk (h .exists));
   }
 
@@ -157,7 +157,7 @@ module _ (s : Setup) (range : Ranges s) (w : World) (inv : Inv s w) (shape : Sha
         go (no q) = not-both (inv .offers d v hd hv q) reachable
 
     -- the client's epoch is the server's, so the server counted on its other copies
-    covers : Stands (w .requests) d n → CoveredIn s (withTables w t) d v (viewGranted s (w .copies) d o long (epochAt (w .tables) v) (versionAt (w .tables) o) longer)
+    covers : Stands (w .requests) d n → CoveredIn s t d v (viewGranted s (w .copies) d o long (epochAt (w .tables) v) (versionAt (w .tables) o) longer)
     unfolding objectRenewed volumeRenewed
     covers a = record {
       current = λ q. rw (at-place (at-session d v hv) refl refl) (omega arith);
@@ -172,7 +172,7 @@ module _ (s : Setup) (range : Ranges s) (w : World) (inv : Inv s w) (shape : Sha
         this : (i : ℕ) → i ≡ o → Owed i
         this i q = (rw q (updated-same (heldOf s (w .copies) d) o _), λ z. rw (q, updated-same (untilOf s (w .copies) d) o longer, at-place (at-lease d o ho) refl refl) (omega arith))
 
-        rest : (i : ℕ) → (i ≡ o → ⊥) → Held s (clocksOf w d) v (viewGranted s (w .copies) d o long (epochAt (w .tables) v) (versionAt (w .tables) o) longer) i → Owed i
+        rest : (i : ℕ) → (i ≡ o → ⊥) → Held s (clocksOf (w .tables) d) v (viewGranted s (w .copies) d o long (epochAt (w .tables) v) (versionAt (w .tables) o) longer) i → Owed i
         rest i q h =
             let cur = sym (renew .knows a) ∙ same in
             let c = inv .views d v hd hv .holds i (record {
@@ -205,5 +205,5 @@ module _ (s : Setup) (range : Ranges s) (w : World) (inv : Inv s w) (shape : Sha
         (λ g z. (not-acking (λ i a. a), record { acked = λ i p a b. unacknowledged i (b .0) (g .kind) a }))
       where
         -- nothing of the object would be acknowledged, as no write of it stands
-        unacknowledged : (i : ℕ) → o ≡ i → (g : Kind) → AckingIn s w i g → ⊥
+        unacknowledged : (i : ℕ) → o ≡ i → (g : Kind) → AckingIn s (w .tables) i g → ⊥
         unacknowledged i q = acking-case (λ _. ⊥) (λ f u a. not-both (rw (← q) at (a .stands)) free)

@@ -47,11 +47,11 @@ marks-keep s w un range marks inv = record {
   pairs = inv .pairs;
 }
   where
-    more : (d v o : ℕ) → d < s .clients → v < s .volumes → excusesOf w d v o ≡ true → excused un d v o ≡ true
+    more : (d v o : ℕ) → d < s .clients → v < s .volumes → excusesOf (w .tables) d v o ≡ true → excused un d v o ≡ true
     more d v o hd hv = excused-grows (w .tables .sessions .unreachable) un d v o (marks d v hd hv)
 
     fewer-trusted : (d v : ℕ) → d < s .clients → v < s .volumes → {clock epoch guard session : ℕ} {version lease : List ℕ} {view : View}
-        → Covered s clock d v epoch guard session (excusesOf w d v) version lease view → Covered s clock d v epoch guard session (excused un d v) version lease view
+        → Covered s clock d v epoch guard session (excusesOf (w .tables) d v) version lease view → Covered s clock d v epoch guard session (excused un d v) version lease view
     fewer-trusted d v hd hv c = covered-by c (omega arith) (λ o ho q. more d v o hd hv) (λ o h. omega arith)
 
     keeps : Keeps s w (withTables w (withSessions (w .tables) (record {

@@ -27,7 +27,7 @@ module _ (s : Setup) (w : World) (inv : Inv s w) (d n : ℕ) (full : length (w .
   grows : (k : ℕ) → seenAt (w .tables) k ≤ getD seen k 0
   grows k = ⊎-elim (λ a. let e = ap (seenAt (w .tables)) (a .0) in omega (arith, a .1)) (λ a. omega (arith, a .1)) (set-at (w .tables .sessions .seen) d n k 0 (omega arith))
 
-  header : (k v i e : ℕ) → HeaderIn w k v i e → Header (w .tables .volumes .epoch) seen (w .requests) k v i e
+  header : (k v i e : ℕ) → HeaderIn (w .tables) (w .requests) k v i e → Header (w .tables .volumes .epoch) seen (w .requests) k v i e
   header k v i e h = record { reached = h .reached; taken = h .taken; noticed = λ a. let b = h .noticed a in let c = grows k in omega arith }
 
   pub noted-keeps : Inv s (withTables w (noted (w .tables) d n))
@@ -63,7 +63,7 @@ module _ (s : Setup) (w : World) (inv : Inv s w) (d n : ℕ) (full : length (w .
       keeps k (Invalidate o e ver) z hk c = c
       keeps k (Ack o e ver) z hk c = c
       keeps k (Offer v i e) z hk c = record { exists = c .exists; header = header k v i e (c .header) }
-      keeps k (Dropped v i e) z hk c = record { exists = c .exists; header = header k v i e (c .header); written = c .written; remains = c .remains }
+      keeps k (Dropped v i e) z hk c = record { exists = c .exists; header = header k v i e (c .header); writes = c .writes; remains = c .remains }
 
 -- ---- an offer to a marked client
 module _ (s : Setup) (range : Ranges s) (w : World) (inv : Inv s w) (d v n : ℕ) (full : length (w .tables .sessions .offer) ≡ 128) (hd : d < s .clients) (hv : v < s .volumes)
@@ -75,7 +75,7 @@ module _ (s : Setup) (range : Ranges s) (w : World) (inv : Inv s w) (d v n : ℕ
   at-offer k u h = volume-set range hd hv (w .tables .sessions .offer) n 0 full k u h
 
   -- N1: a number above the highest seen is new. A message of the server's epoch does not have it, and the message's own number stands no more
-  new-number : (k u i e : ℕ) → k ≡ d → HeaderIn w k u i e → e ≡ epochAt (w .tables) u → (i ≡ n → ⊥) × (Stands (w .requests) k i → ⊥)
+  new-number : (k u i e : ℕ) → k ≡ d → HeaderIn (w .tables) (w .requests) k u i e → e ≡ epochAt (w .tables) u → (i ≡ n → ⊥) × (Stands (w .requests) k i → ⊥)
   new-number k u i e q h a =
       let b = h .noticed a in
       let f = ap (seenAt (w .tables)) q in
@@ -84,7 +84,7 @@ module _ (s : Setup) (range : Ranges s) (w : World) (inv : Inv s w) (d v n : ℕ
       (λ r. omega arith, λ r. let l = inv .numbers .last k hk (r .there) in let m = r .same in omega arith)
 
   -- so no DROPPED under way answers the offer
-  answered : (k u i e : ℕ) → u < s .volumes → HeaderIn w k u i e → Answers (w .tables .volumes .epoch) offer k u i e → AnswersIn w k u i e
+  answered : (k u i e : ℕ) → u < s .volumes → HeaderIn (w .tables) (w .requests) k u i e → Answers (w .tables .volumes .epoch) offer k u i e → AnswersIn (w .tables) k u i e
   answered k u i e hu h a =
       ⊎-elim (λ q. absurd (new-number k u i e (q .0) h (a .current) .0 (sym (a .same) ∙ q .2)))
       (λ q. record { current = a .current; nonzero = a .nonzero; same = sym (q .1) ∙ a .same }) (at-offer k u hu)
@@ -115,7 +115,7 @@ module _ (s : Setup) (range : Ranges s) (w : World) (inv : Inv s w) (d v n : ℕ
   keeps k (Dropped u i e) z hk c = record {
     exists = c .exists;
     header = c .header;
-    written = λ a. c .written (answered k u i e (c .exists) (c .header) a);
+    writes = λ a. c .writes (answered k u i e (c .exists) (c .header) a);
     remains = λ a. c .remains (answered k u i e (c .exists) (c .header) a);
   }
 

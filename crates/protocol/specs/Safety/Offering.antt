@@ -83,14 +83,14 @@ module _ (s : Setup) (range : Ranges s) (w : World) (inv : Inv s w) (shape : Wor
   }
 
   -- in the volume the client has no lease any more ..
-  inside : (u : ℕ) → u < s .volumes → u ≡ v → Empty s (clocksOf w d) u (viewAt s known expiry copies d u)
+  inside : (u : ℕ) → u < s .volumes → u ≡ v → Empty s (clocksOf (w .tables) d) u (viewAt s known expiry copies d u)
   inside u h q = record {
     volume = at-place (at-expiry d u h) refl q;
-    objects = λ i a. zero-dead-client (clocksOf w d) (ap (λ (c : Copy). c .expiry) (own-copy i (a .exists)) ∙ expire-inside s v _ i (a .inside ∙ q)) (a .alive);
+    objects = λ i a. zero-dead-client (clocksOf (w .tables) d) (ap (λ (c : Copy). c .expiry) (own-copy i (a .exists)) ∙ expire-inside s v _ i (a .inside ∙ q)) (a .alive);
   }
 
   -- .. and in every other it knows what it knew
-  outside : (u : ℕ) → u < s .volumes → (u ≡ v → ⊥) → Less s (clocksOf w d) u (viewAt s (w .tables .views .epoch) (w .tables .views .expiry) (w .copies) d u) (viewAt s known expiry copies d u)
+  outside : (u : ℕ) → u < s .volumes → (u ≡ v → ⊥) → Less s (clocksOf (w .tables) d) u (viewAt s (w .tables .views .epoch) (w .tables .views .expiry) (w .copies) d u) (viewAt s known expiry copies d u)
   outside u h m = view-less still (off-place (at-known d u h) (λ a b. m b)) (off-place (at-expiry d u h) (λ a b. m b))
     where
       still : Fewer s d u (w .copies) copies
@@ -130,7 +130,7 @@ module _ (s : Setup) (range : Ranges s) (w : World) (inv : Inv s w) (shape : Wor
         kind = record {
           exists = ok .exists;
           header = header s w inv _ (ended-moves (w .requests) d here) d v n e (ok .header);
-          written = λ a i h q b. left-none _;
+          writes = λ a i h q b. left-none _;
           remains = λ a b. remains-empty (inside v (ok .exists) refl);
         };
       })

@@ -29,7 +29,7 @@ pub record Moves (before after : List Request) : Type 0 where
   pub object : (d n : ℕ) → n < requestAt before d .next → Stands after d n → requestAt after d .object ≡ requestAt before d .object
 
 module _ (s : Setup) (w : World) (inv : Inv s w) (requests : List Request) (moves : Moves (w .requests) requests) where
-  pub header : (d v n e : ℕ) → HeaderIn w d v n e → Header (w .tables .volumes .epoch) (w .tables .sessions .seen) requests d v n e
+  pub header : (d v n e : ℕ) → HeaderIn (w .tables) (w .requests) d v n e → Header (w .tables .volumes .epoch) (w .tables .sessions .seen) requests d v n e
   header d v n e h = record { reached = h .reached; taken = omega (arith, h .taken, moves .next d); noticed = h .noticed }
 
   keeps : Keeps s w (requesting w requests)
@@ -56,7 +56,7 @@ module _ (s : Setup) (w : World) (inv : Inv s w) (requests : List Request) (move
   keeps d (Invalidate o e ver) z hd c = c
   keeps d (Ack o e ver) z hd c = c
   keeps d (Offer v n e) z hd c = record { exists = c .exists; header = header d v n e (c .header) }
-  keeps d (Dropped v n e) z hd c = record { exists = c .exists; header = header d v n e (c .header); written = c .written; remains = c .remains }
+  keeps d (Dropped v n e) z hd c = record { exists = c .exists; header = header d v n e (c .header); writes = c .writes; remains = c .remains }
 
   -- no GRANT gets to bring what it did not before
   brought : (d o : ℕ) (g : Kind) → KindOk s w d g → Bringing requests d o g → Bringing (w .requests) d o g

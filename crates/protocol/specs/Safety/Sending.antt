@@ -61,10 +61,10 @@ bringing-case P f (Dropped v n e) a = absurd a
 
 -- an ACK that would be taken now would have been before
 pub acked-before : (s : Setup) (w : World) (epoch version : List ℕ) (standing : List Bool) → Inv s w
-    → ((d o e ver : ℕ) → KindOk s w d (Ack o e ver) → Acknowledges s epoch version standing o e ver → AcknowledgesIn s w o e ver)
+    → ((d o e ver : ℕ) → KindOk s w d (Ack o e ver) → Acknowledges s epoch version standing o e ver → AcknowledgesIn s (w .tables) o e ver)
     → (m g : Message) → Sent (w .tables .queue) m → Sent (w .tables .queue) g → PairOk s epoch version standing (w .requests) m g
 acked-before s w epoch version standing inv before m g a b = record {
-  acked = λ o e k r. inv .pairs m g a b .acked o e (acking-case (λ (h : Kind). KindOk s w (m .client) h → AckingIn s w o h) (λ f ver l c. (refl, before _ o f ver c l)) (m .kind) k (inv .messages m a .kind)) r;
+  acked = λ o e k r. inv .pairs m g a b .acked o e (acking-case (λ (h : Kind). KindOk s w (m .client) h → AckingIn s (w .tables) o h) (λ f ver l c. (refl, before _ o f ver c l)) (m .kind) k (inv .messages m a .kind)) r;
 }
 
 -- a message that is no ACK, and one that is no GRANT
@@ -126,6 +126,6 @@ module _ (s : Setup) (w : World) (inv : Inv s w) where
 
   -- .. where it is neither an ACK nor a GRANT
   pub send-single : (m : Message) → length (w .tables .queue .items) ≡ 64 → MessageOk s w m
-      → ((o : ℕ) → AckingIn s w o (m .kind) → ⊥) → ((d o : ℕ) → Bringing (w .requests) d o (m .kind) → ⊥)
+      → ((o : ℕ) → AckingIn s (w .tables) o (m .kind) → ⊥) → ((d o : ℕ) → Bringing (w .requests) d o (m .kind) → ⊥)
       → Inv s (listing w (pushed (w .tables .queue) m))
   send-single m n ok a b = send m n ok (λ g z. (not-acking a, not-bringing b))

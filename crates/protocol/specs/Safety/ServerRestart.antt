@@ -51,7 +51,7 @@ module _ (s : Setup) (range : Ranges s) (w : World) (inv : Inv s w) (shape : Sha
   reached : (v e : ℕ) → v < s .volumes → e ≤ epochAt (w .tables) v → e ≤ getD epoch v 0
   reached v e hv h = let g = grown v hv in omega arith
 
-  header : (d v n e : ℕ) → v < s .volumes → HeaderIn w d v n e → Header epoch (replicate 16 0) (w .requests) d v n e
+  header : (d v n e : ℕ) → v < s .volumes → HeaderIn (w .tables) (w .requests) d v n e → Header epoch (replicate 16 0) (w .requests) d v n e
   header d v n e hv h = record { reached = reached v e hv (h .reached); taken = h .taken; noticed = λ a. absurd (before v e hv (h .reached) a) }
 
   invalidate : (o e ver : ℕ) → InvalidateOk s (w .tables .volumes .epoch) (w .tables .objects .version) (w .tables .objects .standing) o e ver
@@ -60,7 +60,7 @@ module _ (s : Setup) (range : Ranges s) (w : World) (inv : Inv s w) (shape : Sha
       let hv = range .within o (c .exists) in
       record { exists = c .exists; reached = reached _ e hv (c .reached); recent = λ a. absurd (before _ e hv (c .reached) a) }
 
-  covered : (d v : ℕ) (view : View) → d < s .clients → v < s .volumes → view .known ≤ epochAt (w .tables) v → CoveredIn s w d v view → CoveredIn s (withTables w (serverRestarted s (w .tables))) d v view
+  covered : (d v : ℕ) (view : View) → d < s .clients → v < s .volumes → view .known ≤ epochAt (w .tables) v → CoveredIn s (w .tables) d v view → CoveredIn s (serverRestarted s (w .tables)) d v view
   unfolding serverRestarted
   covered d v view hd hv h c = covered-restarted c h (grown v hv) (inv .bounds .guards v hv) (inv .bounds .sessions d v hd hv)
 
@@ -92,7 +92,7 @@ module _ (s : Setup) (range : Ranges s) (w : World) (inv : Inv s w) (shape : Sha
   keeps d (Dropped v n e) z hd c = record {
     exists = c .exists;
     header = header d v n e (c .exists) (c .header);
-    written = λ a. absurd (before v e (c .exists) (c .header .reached) (a .current));
+    writes = λ a. absurd (before v e (c .exists) (c .header .reached) (a .current));
     remains = λ a. absurd (before v e (c .exists) (c .header .reached) (a .current));
   }
 

@@ -119,6 +119,6 @@ unfolding showable
 reads-current s i w sound inv d o hd ho e =
     let c = copyAt s (w .copies) d o in
     let a = and-true (not (eqb (c .version) 0)) _ e in
-    let b = and-true (clientAlive (clocksOf w d) (viewExpiryAt (w .tables) d (volumeOf s o))) (clientAlive (clocksOf w d) (c .expiry)) (a .1) in
+    let b = and-true (clientAlive (clocksOf (w .tables) d) (viewExpiryAt (w .tables) d (volumeOf s o))) (clientAlive (clocksOf (w .tables) d) (c .expiry)) (a .1) in
     let h = inv .views d (volumeOf s o) hd (ranges s i .within o ho) .holds o (record { exists = ho; inside = refl; copy = eqb-false _ _ (not-true _ (a .0)); alive = b .1 }) (inl (b .0)) in
     inv .versions .values d o hd ho (h .0)

@@ -51,10 +51,10 @@ module _ (s : Setup) (range : Ranges s) (w : World) (inv : Inv s w) (d : ℕ) (i
     pub epochs : (v : ℕ) → v < s .volumes → getD known (byVolume d v) 0 ≤ epochAt (w .tables) v
     pub reached : (o : ℕ) → o < s .objects → copyAt s copies d o .version ≤ versionAt (w .tables) o
     pub values : (o : ℕ) → o < s .objects → copyAt s copies d o .version ≡ versionAt (w .tables) o → copyAt s copies d o .value ≡ valueAt (w .tables) o
-    pub views : (v : ℕ) → v < s .volumes → CoveredIn s w d v (viewAt s known expiry copies d v)
-    pub erased : (o e ver : ℕ) → Sent (w .tables .queue) (from d (Ack o e ver)) → AcknowledgesIn s w o e ver → copyAt s copies d o .version ≡ 0
-    pub remains : (v n e : ℕ) → v < s .volumes → Sent (w .tables .queue) (from d (Dropped v n e)) → AnswersIn w d v n e → getD known (byVolume d v) 0 ≡ epochAt (w .tables) v
-        → RemainsIn s w d v (viewAt s known expiry copies d v)
+    pub views : (v : ℕ) → v < s .volumes → CoveredIn s (w .tables) d v (viewAt s known expiry copies d v)
+    pub erased : (o e ver : ℕ) → Sent (w .tables .queue) (from d (Ack o e ver)) → AcknowledgesIn s (w .tables) o e ver → copyAt s copies d o .version ≡ 0
+    pub remains : (v n e : ℕ) → v < s .volumes → Sent (w .tables .queue) (from d (Dropped v n e)) → AnswersIn (w .tables) d v n e → getD known (byVolume d v) 0 ≡ epochAt (w .tables) v
+        → RemainsIn s (w .tables) d v (viewAt s known expiry copies d v)
 
   busy : (k n : ℕ) → Stands (w .requests) k n → k ≡ d → ⊥
   busy k n a e = idle n (rw e at a)
@@ -93,7 +93,7 @@ module _ (s : Setup) (range : Ranges s) (w : World) (inv : Inv s w) (d : ℕ) (i
   keeps own k (Dropped v n e) z hk c = record {
     exists = c .exists;
     header = c .header;
-    written = c .written;
+    writes = c .writes;
     remains = λ a b. ⊎-elim (λ h. let z′ = rw h at z in let a′ = rw h at a in let b′ = rw h at b in rw h (own .remains v n e (c .exists) z′ a′ b′))
         (λ m. remains-less (view-less (same-copies k v m) (others .known k v m (c .exists)) (others .expiry k v m (c .exists))) (c .remains a (sym (others .known k v m (c .exists)) ∙ b)))
         (same? k d);

@@ -64,6 +64,6 @@ clock-keeps s w later h inv = record {
     keeps d (Dropped v n e) z hd c = record {
       exists = c .exists;
       header = c .header;
-      written = c .written;
+      writes = c .writes;
       remains = λ a b. remains-later (w .tables .clock) later d h (c .remains a b);
     }
