@@ -13,14 +13,14 @@ use Rattle.protocol.specs.Soundness.Steps.{Ranges}
 use Rattle.protocol.specs.Soundness.Shape.{WorldShape}
 use Rattle.protocol.specs.Safety.Invariant.{Inv, copyAt, requestAt}
 use Rattle.protocol.specs.Safety.Sending.{send-single}
-use Rattle.protocol.specs.Safety.Requests.{requesting, request-taken, same-record}
+use Rattle.protocol.specs.Safety.Requests.{requesting, has-record, request-taken, same-record}
 
 module _ (s : Setup) (range : Ranges s) (w : World) (inv : Inv s w) (shape : WorldShape s w) (d o : ℕ) (hd : d < s .clients) (ho : o < s .objects) where
   abbrev request : Request
   request = requestAt (w .requests) d
 
   here : d < length (w .requests)
-  here = rw (shape .requests) hd
+  here = has-record shape hd
 
   this : requestAt (set (w .requests) d (numbered request o)) d ≡ numbered request o
   this = same-record (w .requests) d here (numbered request o)

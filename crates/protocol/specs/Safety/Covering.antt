@@ -4,7 +4,7 @@ use native.Mathlib.Omega.{arith}
 use mathlib.Core.Bool.{Bool, true, false}
 use mathlib.Core.List.{List}
 use mathlib.Core.Logic.{_⊎_, inl, inr, ⊎-elim}
-use mathlib.Core.Path.{_≡_, refl, sym, ap, _∙_}
+use mathlib.Core.Path.{_≡_, refl, sym, _∙_}
 use lib.ListN.{getD}
 use Rattle.laws.specs.Choice.{true-or-false, not-both}
 use Rattle.protocol.specs.declared.message.Payload.{Payload}
@@ -14,6 +14,7 @@ use Rattle.protocol.specs.declared.setup.Setup.{Setup}
 use Rattle.protocol.specs.Setup.{volumeOf}
 use Rattle.protocol.specs.Tables.{byObject}
 use Rattle.protocol.specs.Safety.Invariant.{Stands, copyAt, left, heldOf, untilOf, View, viewOf, viewGranted, Held, Claimed, Covered, ViewOk, GrantOk, Remains}
+use Rattle.protocol.specs.Safety.Stores.{same-version, same-expiry}
 use Rattle.protocol.specs.Safety.Tools.{updated-other, updated-agree, left-grows}
 
 -- ---- a view that says the same, perhaps without some copies
@@ -59,14 +60,14 @@ module _ {s : Setup} {clock d v : ℕ} {copies copies′ : List Copy} (fewer : F
   view-less k e = record {
     known = k;
     expiry = e;
-    copies = λ o h. ⊎-elim (λ p. absurd (h .copy p)) (λ p. (ap (λ (c : Copy). c .version) p, ap (λ (c : Copy). c .expiry) p)) (fewer .each o (h .exists) (h .inside));
+    copies = λ o h. ⊎-elim (λ p. absurd (h .copy p)) (λ p. (same-version p, same-expiry p)) (fewer .each o (h .exists) (h .inside));
   }
 
   pub granted-less : (o x e ver y : ℕ) → Less s clock v (viewGranted s copies d o x e ver y) (viewGranted s copies′ d o x e ver y)
   granted-less o x e ver y = record {
     known = refl;
     expiry = refl;
-    copies = λ i h. (updated-agree (heldOf s copies′ d) (heldOf s copies d) o i ver (λ q. ap (λ (c : Copy). c .version) (still i h q)), updated-agree (untilOf s copies′ d) (untilOf s copies d) o i y (λ q. ap (λ (c : Copy). c .expiry) (still i h q)));
+    copies = λ i h. (updated-agree (heldOf s copies′ d) (heldOf s copies d) o i ver (λ q. same-version (still i h q)), updated-agree (untilOf s copies′ d) (untilOf s copies d) o i y (λ q. same-expiry (still i h q)));
   }
     where
       still : (i : ℕ) → Held s clock v (viewGranted s copies′ d o x e ver y) i → (i ≡ o → ⊥) → copyAt s copies′ d i ≡ copyAt s copies d i

@@ -1,7 +1,7 @@
 -- The invariant holds of fresh tables: nothing is known, held, asked or under way.
 use Prim.Native.Nat.{ℕ, _+_, _*_, _<_}
 use native.Mathlib.Omega.{arith}
-use mathlib.Core.Path.{_≡_, refl, sym, ap, _∙_}
+use mathlib.Core.Path.{_≡_, refl, sym, _∙_}
 use lib.ListN.{getD, replicate, getD-replicate}
 use Rattle.laws.specs.Choice.{not-both}
 use Rattle.protocol.specs.declared.message.Message.{Message}
@@ -13,7 +13,7 @@ use Rattle.protocol.specs.Tables.{noCopy, noRequest, freshRequest, fresh
 use Rattle.protocol.specs.World.{freshWorld}
 use Rattle.protocol.specs.Soundness.Steps.{Ranges}
 use Rattle.protocol.specs.Safety.Invariant.{Inv, Sent, copyAt, requestAt}
-use Rattle.protocol.specs.Safety.Stores.{row-below, nothing-stands, object-fits, volume-fits, zero-holder, zero-session}
+use Rattle.protocol.specs.Safety.Stores.{same-version, row-below, nothing-stands, object-fits, volume-fits, zero-holder, zero-session}
 use Rattle.protocol.specs.Safety.Covering.{covered-empty}
 
 module _ (s : Setup) (range : Ranges s) where
@@ -24,7 +24,7 @@ module _ (s : Setup) (range : Ranges s) where
   no-copy d o hd ho = getD-replicate {A = Copy} (s .clients * s .objects) (d * s .objects + o) noCopy noCopy (row-below (s .objects) d (s .clients) o hd ho)
 
   no-version : (d o : ℕ) → d < s .clients → o < s .objects → copyAt s (freshWorld s .copies) d o .version ≡ 0
-  no-version d o hd ho = ap (λ (c : Copy). c .version) (no-copy d o hd ho)
+  no-version d o hd ho = same-version (no-copy d o hd ho)
 
   no-request : (d : ℕ) → d < s .clients → requestAt (freshWorld s .requests) d ≡ freshRequest
   no-request d hd = getD-replicate {A = Request} (s .clients) d freshRequest noRequest hd

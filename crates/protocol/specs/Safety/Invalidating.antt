@@ -18,10 +18,10 @@ use Rattle.protocol.specs.Client.{forgotten}
 use Rattle.protocol.specs.World.{World}
 use Rattle.protocol.specs.Soundness.Shape.{WorldShape}
 use Rattle.protocol.specs.Safety.Invariant.{Inv, Stands, copyAt, requestAt, KindOk, Bringing}
-use Rattle.protocol.specs.Safety.Stores.{After, at-place, copy-set}
+use Rattle.protocol.specs.Safety.Stores.{After, at-place, copy-set, same-version}
 use Rattle.protocol.specs.Safety.Covering.{Fewer, view-less, granted-less, covered-less, remains-less}
 use Rattle.protocol.specs.Safety.Sending.{Keeps, each, bringing-case, not-bringing, send}
-use Rattle.protocol.specs.Safety.Requests.{requesting, request-forgotten, forgotten-gone}
+use Rattle.protocol.specs.Safety.Requests.{requesting, has-record, request-forgotten, forgotten-gone}
 use Rattle.protocol.specs.Safety.Taking.{names-same}
 
 -- ---- a copy is erased for which no request stands
@@ -34,14 +34,14 @@ module _ (s : Setup) (w : World) (inv : Inv s w) (full : length (w .copies) ≡ 
   at-copy k i h = copy-set s hd ho (w .copies) noCopy full k i h
 
   less : (k i : ℕ) → i < s .objects → (copyAt s copies k i .version ≡ 0) ⊎ (copyAt s copies k i ≡ copyAt s (w .copies) k i)
-  less k i h = ⊎-elim (λ a. inl (ap (λ (c : Copy). c .version) (a .2))) (λ a. inr (a .1)) (at-copy k i h)
+  less k i h = ⊎-elim (λ a. inl (same-version (a .2))) (λ a. inr (a .1)) (at-copy k i h)
 
   fewer : (k v : ℕ) → Fewer s k v (w .copies) copies
   fewer k v = record { each = λ i h q. less k i h }
 
   -- a copy that the standing request is about stays
   about : (k n i : ℕ) → Stands (w .requests) k n → requestAt (w .requests) k .object ≡ i → i < s .objects → copyAt s copies k i .version ≡ copyAt s (w .copies) k i .version
-  about k n i a b h = ⊎-elim (λ q. absurd (idle n (rw (q .0) at a) (rw (q .0, q .1) at b))) (λ q. ap (λ (c : Copy). c .version) (q .1)) (at-copy k i h)
+  about k n i a b h = ⊎-elim (λ q. absurd (idle n (rw (q .0) at a) (rw (q .0, q .1) at b))) (λ q. same-version (q .1)) (at-copy k i h)
 
   abbrev erasing : World
   erasing = record { tables = w .tables; copies = copies; requests = w .requests }
@@ -68,7 +68,7 @@ module _ (s : Setup) (w : World) (inv : Inv s w) (full : length (w .copies) ≡ 
   keeps k (Invalidate i e ver) z hk c = c
   keeps k (Ack i e ver) z hk c = record {
     invalidate = c .invalidate;
-    erased = λ a. ⊎-elim (λ q. q) (λ q. ap (λ (c : Copy). c .version) q ∙ c .erased a) (less k i (c .invalidate .exists));
+    erased = λ a. ⊎-elim (λ q. q) (λ q. same-version q ∙ c .erased a) (less k i (c .invalidate .exists));
   }
   keeps k (Offer v n e) z hk c = c
   keeps k (Dropped v n e) z hk c = record {
@@ -87,7 +87,7 @@ module _ (s : Setup) (w : World) (inv : Inv s w) (full : length (w .copies) ≡ 
       positive = inv .versions .positive;
       reached = λ k i hk hi. ⊎-elim (λ q. rw q (omega arith)) (λ q. rw q (inv .versions .reached k i hk hi)) (less k i hi);
       values = λ k i hk hi e. ⊎-elim (λ q. let b = inv .versions .positive i hi in let r = sym e ∙ q in absurd (omega arith))
-          (λ q. ap (λ (c : Copy). c .value) q ∙ inv .versions .values k i hk hi (sym (ap (λ (c : Copy). c .version) q) ∙ e)) (less k i hi);
+          (λ q. ap (λ (c : Copy). c .value) q ∙ inv .versions .values k i hk hi (sym (same-version q) ∙ e)) (less k i hi);
     };
     offers = inv .offers;
     writes = inv .writes;
@@ -99,7 +99,7 @@ module _ (s : Setup) (w : World) (inv : Inv s w) (full : length (w .copies) ≡ 
 -- ---- INVALIDATE of client d
 module _ (s : Setup) (w : World) (inv : Inv s w) (shape : WorldShape s w) (d o e ver : ℕ) (hd : d < s .clients) (ok : KindOk s w d (Invalidate o e ver)) where
   here : d < length (w .requests)
-  here = rw (shape .requests) hd
+  here = has-record shape hd
 
   abbrev requests : List Request
   requests = set (w .requests) d (forgotten (requestAt (w .requests) d) o)
@@ -126,6 +126,6 @@ module _ (s : Setup) (w : World) (inv : Inv s w) (shape : WorldShape s w) (d o e
       send s after erased (message d (Ack o e ver)) (shape .tables .queue .items)
       (record {
         client = hd;
-        kind = record { invalidate = ok; erased = λ a. ap (λ (c : Copy). c .version) (at-place (copy-set s hd (ok .exists) (w .copies) noCopy (shape .copies) d o (ok .exists)) refl refl) };
+        kind = record { invalidate = ok; erased = λ a. same-version (at-place (copy-set s hd (ok .exists) (w .copies) noCopy (shape .copies) d o (ok .exists)) refl refl) };
       })
       (λ g z. (record { acked = λ i p a b. unasked (g .client) i (g .kind) p (a .0) (erased .messages g z .kind) b }, not-bringing (λ k i b. b)))

@@ -16,6 +16,7 @@ use Rattle.protocol.specs.declared.setup.Setup.{Setup}
 use Rattle.protocol.specs.Tables.{noRequest}
 use Rattle.protocol.specs.Client.{numbered, ended, forgotten, asksFor}
 use Rattle.protocol.specs.World.{World}
+use Rattle.protocol.specs.Soundness.Shape.{WorldShape}
 use Rattle.protocol.specs.Safety.Invariant.{Inv, Stands, requestAt, Numbers, Header, HeaderIn, KindOk, Bringing}
 use Rattle.protocol.specs.Safety.Sending.{Keeps, each, bringing-case}
 
@@ -76,6 +77,10 @@ module _ (s : Setup) (w : World) (inv : Inv s w) (requests : List Request) (move
   }
 
 -- ---- one record replaced
+
+pub has-record : {s : Setup} {w : World} {d : ℕ} → WorldShape s w → d < s .clients → d < length (w .requests)
+has-record shape hd = rw (shape .requests) hd
+
 module _ (requests : List Request) (d : ℕ) (here : d < length requests) where
   abbrev pub with-record : Request → List Request
   with-record r = set requests d r

@@ -6,7 +6,7 @@ use native.Mathlib.Omega.{arith}
 use mathlib.Core.Bool.{Bool, true, false}
 use mathlib.Core.List.{List}
 use mathlib.Core.Logic.{_⊎_, inl, inr, ⊎-elim}
-use mathlib.Core.Path.{_≡_}
+use mathlib.Core.Path.{_≡_, ap}
 use lib.ListN.{length, getD, set, replicate, getD-replicate}
 use Rattle.laws.specs.Choice.{not-both}
 use Rattle.laws.specs.Store.{set-at}
@@ -93,6 +93,14 @@ module _ {s : Setup} (range : Ranges s) where
         (set-at l (byObject d o) x (byObject k i) y (omega arith))
 
 -- ---- a copy stored
+
+-- a field of a copy
+pub same-version : {a b : Copy} → a ≡ b → a .version ≡ b .version
+same-version e = ap (λ (c : Copy). c .version) e
+
+pub same-expiry : {a b : Copy} → a ≡ b → a .expiry ≡ b .expiry
+same-expiry e = ap (λ (c : Copy). c .expiry) e
+
 pub copy-set : (s : Setup) {d o : ℕ} → d < s .clients → o < s .objects → (copies : List Copy) (x : Copy) → length copies ≡ s .clients * s .objects → (k i : ℕ) → i < s .objects
     → After d o k i (copyAt s (set copies (d * s .objects + o) x) k i) x (copyAt s copies k i)
 copy-set s {d} {o} hd ho copies x n k i hi =
