@@ -19,14 +19,14 @@ use Rattle.protocol.specs.Server.{ackTaken, acked}
 use Rattle.protocol.specs.World.{World}
 use Rattle.protocol.specs.Soundness.Steps.{Ranges}
 use Rattle.protocol.specs.Soundness.Shape.{Shape}
-use Rattle.protocol.specs.Safety.Invariant.{Inv, Sent, from, copyAt, heldOf, View, Held, Acknowledges, Bringing}
+use Rattle.protocol.specs.Safety.Invariant.{Inv, Sent, from, copyAt, heldOf, View, Held, Bringing, AcknowledgesIn}
 use Rattle.protocol.specs.Safety.Stores.{After, object-set}
 use Rattle.protocol.specs.Safety.Tools.{updated-other, zero-dead, left-below}
 use Rattle.protocol.specs.Safety.Replaced.{withTables}
 use Rattle.protocol.specs.Safety.Covering.{covered-by, remains-by, grant-covered}
 use Rattle.protocol.specs.Safety.Sending.{Keeps, each}
 
-pub ack-taken : (s : Setup) (t : Tables) (o e ver : ℕ) → ackTaken s t o e ver ≡ true → Acknowledges s (t .volumes .epoch) (t .objects .version) (t .objects .standing) o e ver
+pub ack-taken : (s : Setup) (t : Tables) (o e ver : ℕ) → ackTaken s t o e ver ≡ true → AcknowledgesIn s t o e ver
 unfolding ackTaken
 ack-taken s t o e ver h =
     let a = and-true (standingAt t o) (eqb e (epochAt t (volumeOf s o)) && eqb ver (versionAt t o + 1)) h in

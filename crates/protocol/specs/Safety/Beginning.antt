@@ -51,12 +51,12 @@ ends-after-leases s w o d range inv ho hd _ =
     omega arith
 
 -- ---- the write of o stands
-module _ (s : Setup) (o : ℕ) {epoch version : List ℕ} {standing standing′ : List Bool} (vacant : getD standing o false ≡ false) (x : Replaced o true false standing standing′) where
+module _ (s : Setup) (o : ℕ) {epoch version : List ℕ} {standing standing′ : List Bool} (vacant : getD standing o false ≡ false) (standings : Replaced o true false standing standing′) where
   invalidate-begun : {j e ver : ℕ} → InvalidateOk s epoch version standing j e ver → InvalidateOk s epoch version standing′ j e ver
   invalidate-begun {j} c = record {
     exists = c .exists;
     reached = c .reached;
-    recent = λ a. ⊎-elim inl (λ p. inr (x .other j (λ q. not-both (rw q at (p .0)) vacant) ∙ p .0, p .1)) (c .recent a);
+    recent = λ a. ⊎-elim inl (λ p. inr (standings .other j (λ q. not-both (rw q at (p .0)) vacant) ∙ p .0, p .1)) (c .recent a);
   }
 
   -- no ACK for a write that has just begun is under way
@@ -66,9 +66,9 @@ module _ (s : Setup) (o : ℕ) {epoch version : List ℕ} {standing standing′ 
       early : ver ≤ getD version j 0 → getD standing j false ≡ true
       early h = let n = a .next in absurd (omega arith)
 
-module _ (s : Setup) (w : World) (o x : ℕ) (range : Ranges s) (shape : Shape (w .tables)) (ho : o < s .objects) (vacant : standingAt (w .tables) o ≡ false) (inv : Inv s w) where
+module _ (s : Setup) (w : World) (o new : ℕ) (range : Ranges s) (shape : Shape (w .tables)) (ho : o < s .objects) (vacant : standingAt (w .tables) o ≡ false) (inv : Inv s w) where
   abbrev after : World
-  after = withTables w (begun s (w .tables) o x)
+  after = withTables w (begun s (w .tables) o new)
 
   standing : Replaced o true false (w .tables .objects .standing) (after .tables .objects .standing)
   unfolding opened awaited
@@ -135,9 +135,9 @@ notified-keeps s w o ho st n inv =
         ))
         (λ e. k)
 
-pub written-keeps : (s : Setup) (w : World) (o x : ℕ) → Ranges s → Shape (w .tables) → o < s .objects → standingAt (w .tables) o ≡ false → Inv s w
-    → Inv s (withTables w (written s (w .tables) o x))
+pub written-keeps : (s : Setup) (w : World) (o new : ℕ) → Ranges s → Shape (w .tables) → o < s .objects → standingAt (w .tables) o ≡ false → Inv s w
+    → Inv s (withTables w (written s (w .tables) o new))
 unfolding written opened
-written-keeps s w o x range shape ho vacant inv =
-    notified-keeps s (withTables w (begun s (w .tables) o x)) o ho (standing s w o x range shape ho vacant inv .here) (begun-shape s (w .tables) o x shape)
-    (begun-keeps s w o x range shape ho vacant inv)
+written-keeps s w o new range shape ho vacant inv =
+    notified-keeps s (withTables w (begun s (w .tables) o new)) o ho (standing s w o new range shape ho vacant inv .here) (begun-shape s (w .tables) o new shape)
+    (begun-keeps s w o new range shape ho vacant inv)

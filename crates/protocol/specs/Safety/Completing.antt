@@ -19,7 +19,7 @@ use Rattle.protocol.specs.Writes.{posted, released, deserted, completed}
 use Rattle.protocol.specs.World.{World}
 use Rattle.protocol.specs.Soundness.Steps.{Ranges}
 use Rattle.protocol.specs.Soundness.Shape.{Shape, ObjectsShape, HoldersShape}
-use Rattle.protocol.specs.Safety.Invariant.{left, View, Held, Claimed, ViewOk, PayloadOk, InvalidateOk, Acknowledges, Remains, clocksOf, excusesOf, CoveredIn, RemainsIn, Inv}
+use Rattle.protocol.specs.Safety.Invariant.{left, View, Held, Claimed, ViewOk, PayloadOk, Recent, InvalidateOk, Acknowledges, Remains, clocksOf, excusesOf, CoveredIn, RemainsIn, Inv}
 use Rattle.protocol.specs.Safety.Tools.{client-server, longer-alive, lesser-alive, over-dead, zero-dead-client}
 use Rattle.protocol.specs.Safety.Replaced.{withTables, Replaced, ReplacedFor, here-at, here-for, set-replaced, store-replaced}
 use Rattle.protocol.specs.Safety.Marks.{deserted-marks, deserted-keeps}
@@ -31,53 +31,55 @@ Completes s t o =
     (((d : ℕ) → d < s .clients → waitingAt t d o ≡ false) × (serverAlive (t .clock) (guardAt t (volumeOf s o)) ≡ false))
     ⊎ (endOver (t .clock) (endAt t o) ≡ true)
 
+-- whom the write of o waits for is not counted on
+abbrev Uncounted : Setup → Tables → ℕ → Type 0
+Uncounted s t o = (d : ℕ) → d < s .clients → waitingAt t d o ≡ true → excusesOf t d (volumeOf s o) o ≡ true
+
 -- the write of o stands no more
 still-other : {o : ℕ} {standing standing′ : List Bool} → Replaced o false false standing standing′ → (j : ℕ) → getD standing′ j false ≡ true → j ≡ o → ⊥
-still-other y j e q = not-both e (here-at y j q)
+still-other standings j e q = not-both e (here-at standings j q)
 
 -- the new version
 next : {o : ℕ} {version version′ : List ℕ} → Replaced o (getD version o 0 + 1) 0 version version′ → (j : ℕ) → j ≡ o → getD version′ j 0 ≡ getD version j 0 + 1
-next x j q = rw q (x .here)
+next versions j q = rw q (versions .here)
 
 -- no version falls
 grown : {o : ℕ} {version version′ : List ℕ} → Replaced o (getD version o 0 + 1) 0 version version′ → (j : ℕ) → getD version j 0 ≤ getD version′ j 0
-grown {o} x j = ⊎-elim (λ q. let a = next x j q in omega arith) (λ q. let a = x .other j q in omega arith) (same? j o)
+grown {o} versions j = ⊎-elim (λ q. let a = next versions j q in omega arith) (λ q. let a = versions .other j q in omega arith) (same? j o)
 
 -- what a message says of o was of the old version
 payload-posted : (o ver : ℕ) (p : Payload) {value version : List ℕ} {new : ℕ} (value′ version′ : List ℕ) (j : ℕ) → Replaced o new 0 value value′
     → Replaced o (getD version o 0 + 1) 0 version version′ → ver ≤ getD version j 0 → PayloadOk value version j ver p → PayloadOk value′ version′ j ver p
-payload-posted o ver Same value′ version′ j x y h k = tt
-payload-posted o ver (Value z) value′ version′ j x y h k = λ e. ⊎-elim (here e) (λ q. rw (x .other j q) (k (e ∙ y .other j q))) (same? j o)
+payload-posted o ver Same value′ version′ j values versions h c = tt
+payload-posted o ver (Value x) value′ version′ j values versions h c = λ e. ⊎-elim (here e) (λ q. rw (values .other j q) (c (e ∙ versions .other j q))) (same? j o)
   where
-    here : ver ≡ getD version′ j 0 → j ≡ o → z ≡ getD value′ j 0
+    here : ver ≡ getD version′ j 0 → j ≡ o → x ≡ getD value′ j 0
     here e q =
-        let a = next y j q in
+        let a = next versions j q in
         absurd (omega arith)
 
-module _ (s : Setup) (o : ℕ) {epoch version version′ : List ℕ} {standing standing′ : List Bool} (x : Replaced o (getD version o 0 + 1) 0 version version′)
-    (y : Replaced o false false standing standing′) where
+module _ (s : Setup) (o : ℕ) {epoch version version′ : List ℕ} {standing standing′ : List Bool} (versions : Replaced o (getD version o 0 + 1) 0 version version′)
+    (standings : Replaced o false false standing standing′) where
   invalidate-posted : {j e ver : ℕ} → InvalidateOk s epoch version standing j e ver → InvalidateOk s epoch version′ standing′ j e ver
-  invalidate-posted {j} {e} {ver} k = record { exists = k .exists; reached = k .reached; recent = λ c. ⊎-elim (here (k .recent c)) (other (k .recent c)) (same? j o) }
+  invalidate-posted {j} {e} {ver} c = record { exists = c .exists; reached = c .reached; recent = λ a. ⊎-elim (here (c .recent a)) (other (c .recent a)) (same? j o) }
     where
-      here : (ver ≤ getD version j 0) ⊎ ((getD standing j false ≡ true) × (ver ≤ getD version j 0 + 1)) → j ≡ o
-          → (ver ≤ getD version′ j 0) ⊎ ((getD standing′ j false ≡ true) × (ver ≤ getD version′ j 0 + 1))
+      here : Recent version standing j ver → j ≡ o → Recent version′ standing′ j ver
       here r q =
-          let a = next x j q in
+          let a = next versions j q in
           inl (⊎-elim (λ b. omega arith) (λ b. let d = b .1 in omega arith) r)
 
-      other : (ver ≤ getD version j 0) ⊎ ((getD standing j false ≡ true) × (ver ≤ getD version j 0 + 1)) → (j ≡ o → ⊥)
-          → (ver ≤ getD version′ j 0) ⊎ ((getD standing′ j false ≡ true) × (ver ≤ getD version′ j 0 + 1))
-      other r q = rw (x .other j q, y .other j q) r
+      other : Recent version standing j ver → (j ≡ o → ⊥) → Recent version′ standing′ j ver
+      other r q = rw (versions .other j q, standings .other j q) r
 
   -- an ACK that would be taken would have been before
   acknowledges-posted : {j e ver : ℕ} → Acknowledges s epoch version′ standing′ j e ver → Acknowledges s epoch version standing j e ver
-  acknowledges-posted {j} k =
-      let n = still-other y j (k .stands) in
-      record { stands = sym (y .other j n) ∙ k .stands; current = k .current; next = rw (x .other j n) at (k .next) }
+  acknowledges-posted {j} a =
+      let m = still-other standings j (a .stands) in
+      record { stands = sym (standings .other j m) ∙ a .stands; current = a .current; next = rw (versions .other j m) at (a .next) }
 
 -- ---- the write of o completes, and who is waited for is not counted on
-module _ (s : Setup) (w : World) (o : ℕ) (inv : Inv s w) (ho : o < s .objects) (stands : standingAt (w .tables) o ≡ true) (c : Completes s (w .tables) o)
-    (mark : (d : ℕ) → d < s .clients → waitingAt (w .tables) d o ≡ true → excusesOf (w .tables) d (volumeOf s o) o ≡ true) where
+module _ (s : Setup) (w : World) (o : ℕ) (inv : Inv s w) (ho : o < s .objects) (stands : standingAt (w .tables) o ≡ true) (may : Completes s (w .tables) o)
+    (mark : Uncounted s (w .tables) o) where
   -- what a client holds to be alive, the server does, and anything later
   alive : (d : ℕ) {e f : ℕ} → clientAlive (clocksOf (w .tables) d) e ≡ true → e ≤ f → serverAlive (w .tables .clock) f ≡ true
   alive d {e} a h = longer-alive (w .tables .clock) h (client-server (w .tables .clock) d e a)
@@ -90,7 +92,7 @@ module _ (s : Setup) (w : World) (o : ℕ) (inv : Inv s w) (ho : o < s .objects)
       waited : waitingAt (w .tables) d o ≡ true → ⊥
       waited e =
           ⊎-elim (λ p. not-both e (p .0 d hd))
-          (λ p. not-both (lesser-alive (w .tables .clock) _ _ a b) (over-dead (w .tables .clock) (endAt (w .tables) o) _ p (inv .writes .waits d o hd ho stands e))) c
+          (λ p. not-both (lesser-alive (w .tables .clock) _ _ a b) (over-dead (w .tables .clock) (endAt (w .tables) o) _ p (inv .writes .waits d o hd ho stands e))) may
 
       unwaited : waitingAt (w .tables) d o ≡ false → ⊥
       unwaited e = ⊎-elim (λ p. not-both a p) (λ p. not-both b (p .0)) (inv .writes .others d o hd ho stands e)
@@ -98,7 +100,7 @@ module _ (s : Setup) (w : World) (o : ℕ) (inv : Inv s w) (ho : o < s .objects)
   -- no lease from before the last restart is alive
   not-guarded : serverAlive (w .tables .clock) (guardAt (w .tables) (volumeOf s o)) ≡ true → ⊥
   not-guarded a =
-      ⊎-elim (λ p. not-both a (p .1)) (λ p. not-both a (over-dead (w .tables .clock) (endAt (w .tables) o) _ p (inv .writes .guards o ho stands))) c
+      ⊎-elim (λ p. not-both a (p .1)) (λ p. not-both a (over-dead (w .tables .clock) (endAt (w .tables) o) _ p (inv .writes .guards o ho stands))) may
 
   -- no client with the object's lease is counted on
   not-counted : (d : ℕ) → d < s .clients → serverAlive (w .tables .clock) (leaseAt (w .tables) d o) ≡ true → excusesOf (w .tables) d (volumeOf s o) o ≡ false → ⊥
@@ -110,42 +112,43 @@ module _ (s : Setup) (w : World) (o : ℕ) (inv : Inv s w) (ho : o < s .objects)
       unwaited : waitingAt (w .tables) d o ≡ false → ⊥
       unwaited e = ⊎-elim (λ p. not-both a p) (λ p. not-both (p .1) b) (inv .writes .others d o hd ho stands e)
 
-  module _ {version lease : List ℕ} (x : Replaced o (versionAt (w .tables) o + 1) 0 (w .tables .objects .version) version) (y : ReplacedFor s o (λ _. 0) 0 (w .tables .holders .lease) lease)
+  module _ {version lease : List ℕ} (versions : Replaced o (versionAt (w .tables) o + 1) 0 (w .tables .objects .version) version)
+      (leases : ReplacedFor s o (λ _. 0) 0 (w .tables .holders .lease) lease)
       (d v : ℕ) (view : View) (hd : d < s .clients) where
     -- no view claims a copy of o
     unclaimed : view .known ≤ epochAt (w .tables) v → CoveredIn s (w .tables) d v view → Held s (clocksOf (w .tables) d) v view o → Claimed (clocksOf (w .tables) d) (epochAt (w .tables) v) (excusesOf (w .tables) d v) view o → ⊥
-    unclaimed reached k h l = ⊎-elim (λ b. ⊎-elim (live b) (older b) (same? (view .known) (epochAt (w .tables) v))) (λ b. not-counted d hd (leased (b .0)) (rw (h .inside) (b .1))) l
+    unclaimed reached c h l = ⊎-elim (λ b. ⊎-elim (live b) (older b) (same? (view .known) (epochAt (w .tables) v))) (λ b. not-counted d hd (leased (b .0)) (rw (h .inside) (b .1))) l
       where
         leased : view .known ≡ epochAt (w .tables) v → serverAlive (w .tables .clock) (leaseAt (w .tables) d o) ≡ true
-        leased q = alive d (h .alive) (k .holds o h l .1 q)
+        leased q = alive d (h .alive) (c .holds o h l .1 q)
 
         live : clientAlive (clocksOf (w .tables) d) (view .expiry) ≡ true → view .known ≡ epochAt (w .tables) v → ⊥
-        live b q = not-both-leases d hd (leased q) (rw (h .inside) (alive d b (k .current q)))
+        live b q = not-both-leases d hd (leased q) (rw (h .inside) (alive d b (c .current q)))
 
         older : clientAlive (clocksOf (w .tables) d) (view .expiry) ≡ true → (view .known ≡ epochAt (w .tables) v → ⊥) → ⊥
-        older b q = not-guarded (rw (h .inside) (alive d b (k .older (omega arith))))
+        older b q = not-guarded (rw (h .inside) (alive d b (c .older (omega arith))))
 
     covered-posted : view .known ≤ epochAt (w .tables) v → CoveredIn s (w .tables) d v view
         → ViewOk s (clocksOf (w .tables)) (w .tables .volumes .epoch) (w .tables .volumes .guard) (w .tables .sessions .expiry) (excusesOf (w .tables)) version lease d v view
-    covered-posted reached k = record {
-      current = k .current;
-      older = k .older;
+    covered-posted reached c = record {
+      current = c .current;
+      older = c .older;
       holds = λ j h l.
-          ⊎-elim (λ q. absurd (unclaimed reached k (rw q at h) (rw q at l))) (λ q. rw (x .other j q, y .other d j (h .exists) q) (k .holds j h l)) (same? j o);
+          ⊎-elim (λ q. absurd (unclaimed reached c (rw q at h) (rw q at l))) (λ q. rw (versions .other j q, leases .other d j (h .exists) q) (c .holds j h l)) (same? j o);
     }
 
     -- nor does what a DROPPED leaves include a lease on o
     remains-posted : (volumeOf s o ≡ v → left (leaseAt (w .tables) d o) ≡ 0) → RemainsIn s (w .tables) d v view → Remains s (clocksOf (w .tables) d) d v version lease view
-    remains-posted none k = record {
-      volume = k .volume;
-      objects = λ j h. ⊎-elim (λ q. absurd (dead (rw q at h))) (λ q. rw (x .other j q, y .other d j (h .exists) q) (k .objects j h)) (same? j o);
+    remains-posted none c = record {
+      volume = c .volume;
+      objects = λ j h. ⊎-elim (λ q. absurd (dead (rw q at h))) (λ q. rw (versions .other j q, leases .other d j (h .exists) q) (c .objects j h)) (same? j o);
     }
       where
         dead : Held s (clocksOf (w .tables) d) v view o → ⊥
-        dead h = let a = k .objects o h .1 in let b = none (h .inside) in zero-dead-client (clocksOf (w .tables) d) (omega arith) (h .alive)
+        dead h = let a = c .objects o h .1 in let b = none (h .inside) in zero-dead-client (clocksOf (w .tables) d) (omega arith) (h .alive)
 
 module _ (s : Setup) (w : World) (o : ℕ) (range : Ranges s) (objects : ObjectsShape (w .tables .objects)) (holders : HoldersShape (w .tables .holders)) (inv : Inv s w) (ho : o < s .objects)
-    (stands : standingAt (w .tables) o ≡ true) (c : Completes s (w .tables) o) (mark : (d : ℕ) → d < s .clients → waitingAt (w .tables) d o ≡ true → excusesOf (w .tables) d (volumeOf s o) o ≡ true) where
+    (stands : standingAt (w .tables) o ≡ true) (may : Completes s (w .tables) o) (mark : Uncounted s (w .tables) o) where
   abbrev after : World
   after = withTables w (withHolders (withObjects (w .tables) (posted (w .tables) o)) (released s (w .tables) o))
 
@@ -178,28 +181,28 @@ module _ (s : Setup) (w : World) (o : ℕ) (range : Ranges s) (objects : Objects
 
   keeps : Keeps s w after
   unfolding posted released
-  keeps d (Renew j n e ver) z hd k = k
-  keeps d (Grant j n x e ver y p) z hd k = record {
-    exists = k .exists;
-    header = k .header;
-    reached = let a = k .reached in let b = grown version j in omega arith;
-    payload = payload-posted o ver p _ _ j value version (k .reached) (k .payload);
-    object = k .object;
-    unoffered = k .unoffered;
-    held = k .held;
-    covered = λ a. covered-posted s w o inv ho stands c mark version lease d (volumeOf s j) _ hd (k .header .reached) (k .covered a);
+  keeps d (Renew j n e ver) z hd c = c
+  keeps d (Grant j n x e ver y p) z hd c = record {
+    exists = c .exists;
+    header = c .header;
+    reached = let a = c .reached in let b = grown version j in omega arith;
+    payload = payload-posted o ver p _ _ j value version (c .reached) (c .payload);
+    object = c .object;
+    unoffered = c .unoffered;
+    held = c .held;
+    covered = λ a. covered-posted s w o inv ho stands may mark version lease d (volumeOf s j) _ hd (c .header .reached) (c .covered a);
   }
-  keeps d (Invalidate j e ver) z hd k = invalidate-posted s o version standing k
-  keeps d (Ack j e ver) z hd k = record {
-    invalidate = invalidate-posted s o version standing (k .invalidate);
-    erased = λ a. k .erased (acknowledges-posted s o version standing a);
+  keeps d (Invalidate j e ver) z hd c = invalidate-posted s o version standing c
+  keeps d (Ack j e ver) z hd c = record {
+    invalidate = invalidate-posted s o version standing (c .invalidate);
+    erased = λ a. c .erased (acknowledges-posted s o version standing a);
   }
-  keeps d (Offer v n e) z hd k = k
-  keeps d (Dropped v n e) z hd k = record {
-    exists = k .exists;
-    header = k .header;
-    writes = λ a j h q b. let m = still-other standing j b in rw (lease .other d j h m) (k .writes a j h q (sym (standing .other j m) ∙ b));
-    remains = λ a b. remains-posted s w o inv ho stands c mark version lease d v _ hd (λ q. k .writes a o ho q stands) (k .remains a b);
+  keeps d (Offer v n e) z hd c = c
+  keeps d (Dropped v n e) z hd c = record {
+    exists = c .exists;
+    header = c .header;
+    writes = λ a j h q b. let m = still-other standing j b in rw (lease .other d j h m) (c .writes a j h q (sym (standing .other j m) ∙ b));
+    remains = λ a b. remains-posted s w o inv ho stands may mark version lease d v _ hd (λ q. c .writes a o ho q stands) (c .remains a b);
   }
 
   -- the write's value is posted, and all leases on its object go
@@ -235,15 +238,15 @@ module _ (s : Setup) (w : World) (o : ℕ) (range : Ranges s) (objects : Objects
           let m = still-other standing j st in
           rw (lease .other d j hj m) (inv .writes .others d j hd hj (sym (standing .other j m) ∙ st) (sym (waiting .other d j hj m) ∙ wt));
     };
-    views = λ d v hd hv. covered-posted s w o inv ho stands c mark version lease d v _ hd (inv .epochs d v hd hv) (inv .views d v hd hv);
+    views = λ d v hd hv. covered-posted s w o inv ho stands may mark version lease d v _ hd (inv .epochs d v hd hv) (inv .views d v hd hv);
     messages = each inv keeps;
-    pairs = acked-before s w _ _ _ inv (λ d j e ver k a. acknowledges-posted s o version standing a);
+    pairs = acked-before s w _ _ _ inv (λ d j e ver c a. acknowledges-posted s o version standing a);
   }
 
 -- completing marks, then posts and releases
 pub completed-keeps : (s : Setup) (w : World) (o : ℕ) → Ranges s → Shape (w .tables) → o < s .objects → standingAt (w .tables) o ≡ true → Completes s (w .tables) o → Inv s w
     → Inv s (withTables w (completed s (w .tables) o))
 unfolding completed posted released deserted
-completed-keeps s w o range shape ho stands c inv =
+completed-keeps s w o range shape ho stands may inv =
     posted-keeps s (withTables w (withSessions (w .tables) (deserted s (w .tables) o))) o range (shape .objects) (shape .holders)
-    (deserted-keeps s w o range ho (shape .sessions .unreachable) inv) ho stands c (deserted-marks s (w .tables) o range ho (shape .sessions .unreachable))
+    (deserted-keeps s w o range ho (shape .sessions .unreachable) inv) ho stands may (deserted-marks s (w .tables) o range ho (shape .sessions .unreachable))

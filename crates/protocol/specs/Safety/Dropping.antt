@@ -20,14 +20,14 @@ use Rattle.protocol.specs.Server.{dropTaken, ofVolume, disowned, dropped
 use Rattle.protocol.specs.World.{World}
 use Rattle.protocol.specs.Soundness.Steps.{Ranges}
 use Rattle.protocol.specs.Soundness.Shape.{Shape}
-use Rattle.protocol.specs.Safety.Invariant.{Inv, left, excusesOf, View, viewAt, Answers, AnswersIn, KindOk, CoveredIn}
+use Rattle.protocol.specs.Safety.Invariant.{Inv, left, excusesOf, View, viewIn, AnswersIn, KindOk, CoveredIn}
 use Rattle.protocol.specs.Safety.Stores.{After, at-place, off-place, volume-set, object-fits}
 use Rattle.protocol.specs.Safety.Tools.{zero-dead, left-below, excused-grows}
 use Rattle.protocol.specs.Safety.Replaced.{withTables}
 use Rattle.protocol.specs.Safety.Covering.{covered-by, remains-by, covered-left, covered-older}
 use Rattle.protocol.specs.Safety.Sending.{Keeps, each}
 
-pub drop-taken : (t : Tables) (d v n e : ℕ) → dropTaken t d v n e ≡ true → Answers (t .volumes .epoch) (t .sessions .offer) d v n e
+pub drop-taken : (t : Tables) (d v n e : ℕ) → dropTaken t d v n e ≡ true → AnswersIn t d v n e
 unfolding dropTaken
 drop-taken t d v n e h =
     let a = and-true (eqb e (epochAt t v)) (not (eqb n 0) && eqb n (offerAt t d v)) h in
@@ -102,25 +102,25 @@ module _ (s : Setup) (range : Ranges s) (w : World) (inv : Inv s w) (shape : Sha
       (λ i a. omega (arith, same-lease k i (a .exists) (λ p q. m p (sym (a .inside) ∙ q))))
 
   -- the client that dropped its leases: of this epoch it needs what is left, and of an older one the guard covers it
-  here : CoveredIn s t d v (viewAt s (w .tables .views .epoch) (w .tables .views .expiry) (w .copies) d v)
+  here : CoveredIn s t d v (viewIn s w d v)
   unfolding dropped
   here = go (ℕ-discrete (getD (w .tables .views .epoch) (byVolume d v) 0) (epochAt (w .tables) v))
     where
-      go : Dec (getD (w .tables .views .epoch) (byVolume d v) 0 ≡ epochAt (w .tables) v) → CoveredIn s t d v (viewAt s (w .tables .views .epoch) (w .tables .views .expiry) (w .copies) d v)
+      go : Dec (getD (w .tables .views .epoch) (byVolume d v) 0 ≡ epochAt (w .tables) v) → CoveredIn s t d v (viewIn s w d v)
       go (yes q) = covered-left (ok .remains answers q) (λ i a. at-place (at-lease d i (a .exists)) refl (a .inside))
       go (no q) = covered-older q (inv .views d v hd hv)
 
   -- whatever else answers an offer answers another one
-  answered : (k u m f : ℕ) → u < s .volumes → Answers (t .volumes .epoch) (t .sessions .offer) k u m f → AnswersIn (w .tables) k u m f × (k ≡ d → u ≡ v → ⊥)
+  answered : (k u n′ f : ℕ) → u < s .volumes → AnswersIn t k u n′ f → AnswersIn (w .tables) k u n′ f × (k ≡ d → u ≡ v → ⊥)
   unfolding dropped
-  answered k u m f h a =
+  answered k u n′ f h a =
       ⊎-elim (λ q. absurd (a .nonzero (sym (a .same) ∙ q .2)))
       (λ q. (record { current = a .current; nonzero = a .nonzero; same = sym (q .1) ∙ a .same }, q .0)) (at-offer k u h)
 
   keeps : Keeps s w (withTables w t)
   unfolding dropped
-  keeps k (Renew i m f ver) z hk c = c
-  keeps k (Grant i m x f ver y p) z hk c =
+  keeps k (Renew i n′ f ver) z hk c = c
+  keeps k (Grant i n′ x f ver y p) z hk c =
       let hu = range .within i (c .exists) in
       record {
         exists = c .exists;
@@ -138,12 +138,12 @@ module _ (s : Setup) (range : Ranges s) (w : World) (inv : Inv s w) (shape : Sha
       offered k u p q a = answers .nonzero (sym (answers .same) ∙ rw (p, q) at a)
   keeps k (Invalidate i f ver) z hk c = c
   keeps k (Ack i f ver) z hk c = c
-  keeps k (Offer u m f) z hk c = c
-  keeps k (Dropped u m f) z hk c = record {
+  keeps k (Offer u n′ f) z hk c = c
+  keeps k (Dropped u n′ f) z hk c = record {
     exists = c .exists;
     header = c .header;
-    writes = λ a i h q b. let g = answered k u m f (c .exists) a in rw (same-lease k i h (λ p r. g .1 p (sym q ∙ r))) (c .writes (g .0) i h q b);
-    remains = λ a b. let g = answered k u m f (c .exists) a in remains-by (c .remains (g .0) b) (λ i h. omega (arith, same-lease k i (h .exists) (λ p r. g .1 p (sym (h .inside) ∙ r))));
+    writes = λ a i h q b. let g = answered k u n′ f (c .exists) a in rw (same-lease k i h (λ p r. g .1 p (sym q ∙ r))) (c .writes (g .0) i h q b);
+    remains = λ a b. let g = answered k u n′ f (c .exists) a in remains-by (c .remains (g .0) b) (λ i h. omega (arith, same-lease k i (h .exists) (λ p r. g .1 p (sym (h .inside) ∙ r))));
   }
 
   pub dropped-keeps : Inv s (withTables w t)

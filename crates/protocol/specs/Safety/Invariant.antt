@@ -1,7 +1,8 @@
 -- What holds after every step of every run: of the tables, of each message under way, and of each two. Each clause is stated over what it reads, so what
 -- a step leaves alone needs no proof.
 -- Letters in this folder: s a setup, w a world, t tables, q a message list, m a message, g another or its kind; d and k clients, v and u volumes, o, i and j objects. Of a
--- message n is the number, e the epoch (f another's), x the volume expiry, ver the version, y the object expiry, p the payload. z says that it is sent.
+-- message n is the number, e the epoch (n′ and f another's), x the volume expiry, ver the version, y the object expiry, p the payload; z says that it is sent
+-- and c is its clause.
 use Prim.Native.Nat.{ℕ, _+_, _*_, _<_, _≤_, min}
 use mathlib.Core.Bool.{Bool, true, false}
 use mathlib.Core.List.{List}
@@ -179,11 +180,15 @@ pub record GrantOk (s : Setup) (clocks : ℕ → ℕ) (epoch guard seen session 
   pub held : Stands requests d n → NamesHeld (copyAt s copies d o .version) ver p
   pub covered : Stands requests d n → ViewOk s clocks epoch guard session excuse version lease d (volumeOf s o) (viewGranted s copies d o x e ver y)
 
--- an INVALIDATE or an ACK is of a version that has been, or of the one that a standing write makes
+-- a version that has been, or the one that a standing write makes
+abbrev pub Recent : List ℕ → List Bool → ℕ → ℕ → Type 0
+Recent version standing o ver = (ver ≤ getD version o 0) ⊎ ((getD standing o false ≡ true) × (ver ≤ getD version o 0 + 1))
+
+-- an INVALIDATE or an ACK
 pub record InvalidateOk (s : Setup) (epoch version : List ℕ) (standing : List Bool) (o e ver : ℕ) : Type 0 where
   pub exists : o < s .objects
   pub reached : e ≤ getD epoch (volumeOf s o) 0
-  pub recent : e ≡ getD epoch (volumeOf s o) 0 → (ver ≤ getD version o 0) ⊎ ((getD standing o false ≡ true) × (ver ≤ getD version o 0 + 1))
+  pub recent : e ≡ getD epoch (volumeOf s o) 0 → Recent version standing o ver
 
 -- an ACK that would be taken
 pub record Acknowledges (s : Setup) (epoch version : List ℕ) (standing : List Bool) (o e ver : ℕ) : Type 0 where
@@ -265,7 +270,10 @@ pub record PairOk (s : Setup) (epoch version : List ℕ) (standing : List Bool) 
   -- who acknowledges the standing write cannot be brought a copy
   pub acked : (o : ℕ) → m .client ≡ g .client → Acking s epoch version standing o (m .kind) → Bringing requests (g .client) o (g .kind) → ⊥
 
--- ---- the same over whole tables
+-- ---- the same over whole tables, or a world
+
+abbrev pub viewIn : Setup → World → ℕ → ℕ → View
+viewIn s w d v = viewAt s (w .tables .views .epoch) (w .tables .views .expiry) (w .copies) d v
 
 abbrev pub CoveredIn : Setup → Tables → ℕ → ℕ → View → Type 0
 CoveredIn s t d v view = ViewOk s (clocksOf t) (t .volumes .epoch) (t .volumes .guard) (t .sessions .expiry) (excusesOf t) (t .objects .version) (t .holders .lease) d v view

@@ -17,55 +17,54 @@ use Rattle.protocol.specs.Tables.{byVolume, unreachableAt, waitingAt, wi
 use Rattle.protocol.specs.Writes.{markIfWaiting, deserted}
 use Rattle.protocol.specs.World.{World}
 use Rattle.protocol.specs.Soundness.Steps.{Ranges}
-use Rattle.protocol.specs.Safety.Invariant.{excused, excusesOf, View, Covered, Inv}
+use Rattle.protocol.specs.Safety.Invariant.{excused, excusesOf, View, CoveredIn, Inv}
 use Rattle.protocol.specs.Safety.Tools.{marked-excused, excused-grows}
 use Rattle.protocol.specs.Safety.Replaced.{withTables}
 use Rattle.protocol.specs.Safety.Covering.{covered-by, grant-covered}
 use Rattle.protocol.specs.Safety.Sending.{Keeps, each}
 
-pub marks-keep : (s : Setup) (w : World) (un : List Bool) → Ranges s
-    → ((d v : ℕ) → d < s .clients → v < s .volumes → unreachableAt (w .tables) d v ≡ true → getD un (byVolume d v) false ≡ true) → Inv s w
-    → Inv s (withTables w (withSessions (w .tables) (record {
-      seen = w .tables .sessions .seen;
-      expiry = w .tables .sessions .expiry;
-      unreachable = un;
-      offer = w .tables .sessions .offer;
-    })))
-marks-keep s w un range marks inv = record {
-  bounds = inv .bounds;
-  epochs = inv .epochs;
-  numbers = inv .numbers;
-  versions = inv .versions;
-  offers = λ d v hd hv n. marks d v hd hv (inv .offers d v hd hv n);
-  writes = record {
-    guards = inv .writes .guards;
-    waits = inv .writes .waits;
-    others = λ d o hd ho st wt. ⊎-elim inl (λ a. inr (a .0, more d (volumeOf s o) o hd (range .within o ho) (a .1))) (inv .writes .others d o hd ho st wt);
-  };
-  views = λ d v hd hv. fewer-trusted d v hd hv (inv .views d v hd hv);
-  messages = each inv keeps;
-  pairs = inv .pairs;
-}
-  where
-    more : (d v o : ℕ) → d < s .clients → v < s .volumes → excusesOf (w .tables) d v o ≡ true → excused un d v o ≡ true
-    more d v o hd hv = excused-grows (w .tables .sessions .unreachable) un d v o (marks d v hd hv)
+abbrev pub marking : World → List Bool → World
+marking w un = withTables w (withSessions (w .tables) (record {
+  seen = w .tables .sessions .seen;
+  expiry = w .tables .sessions .expiry;
+  unreachable = un;
+  offer = w .tables .sessions .offer;
+}))
 
-    fewer-trusted : (d v : ℕ) → d < s .clients → v < s .volumes → {clock epoch guard session : ℕ} {version lease : List ℕ} {view : View}
-        → Covered s clock d v epoch guard session (excusesOf (w .tables) d v) version lease view → Covered s clock d v epoch guard session (excused un d v) version lease view
-    fewer-trusted d v hd hv c = covered-by c (omega arith) (λ o ho q. more d v o hd hv) (λ o h. omega arith)
+module _ (s : Setup) (w : World) (un : List Bool) (range : Ranges s)
+    (marks : (d v : ℕ) → d < s .clients → v < s .volumes → unreachableAt (w .tables) d v ≡ true → getD un (byVolume d v) false ≡ true) (inv : Inv s w) where
+  more : (d v o : ℕ) → d < s .clients → v < s .volumes → excusesOf (w .tables) d v o ≡ true → excused un d v o ≡ true
+  more d v o hd hv = excused-grows (w .tables .sessions .unreachable) un d v o (marks d v hd hv)
 
-    keeps : Keeps s w (withTables w (withSessions (w .tables) (record {
-      seen = w .tables .sessions .seen;
-      expiry = w .tables .sessions .expiry;
-      unreachable = un;
-      offer = w .tables .sessions .offer;
-    })))
-    keeps d (Renew o n e ver) z hd c = c
-    keeps d (Grant o n x e ver y p) z hd c = grant-covered c (λ a. fewer-trusted d (volumeOf s o) hd (range .within o (c .exists)) (c .covered a))
-    keeps d (Invalidate o e ver) z hd c = c
-    keeps d (Ack o e ver) z hd c = c
-    keeps d (Offer v n e) z hd c = c
-    keeps d (Dropped v n e) z hd c = c
+  covered : (d v : ℕ) (view : View) → d < s .clients → v < s .volumes → CoveredIn s (w .tables) d v view → CoveredIn s (marking w un .tables) d v view
+  covered d v view hd hv c = covered-by c (omega arith) (λ o ho q. more d v o hd hv) (λ o h. omega arith)
+
+  keeps : Keeps s w (marking w un)
+  keeps d (Renew o n e ver) z hd c = c
+  keeps d (Grant o n x e ver y p) z hd c = grant-covered c (λ a. covered d (volumeOf s o) _ hd (range .within o (c .exists)) (c .covered a))
+  keeps d (Invalidate o e ver) z hd c = c
+  keeps d (Ack o e ver) z hd c = c
+  keeps d (Offer v n e) z hd c = c
+  keeps d (Dropped v n e) z hd c = c
+
+  pub marks-keep : Inv s (marking w un)
+  marks-keep = record {
+    bounds = inv .bounds;
+    epochs = inv .epochs;
+    numbers = inv .numbers;
+    versions = inv .versions;
+    offers = λ d v hd hv m. marks d v hd hv (inv .offers d v hd hv m);
+    writes = record {
+      guards = inv .writes .guards;
+      waits = inv .writes .waits;
+      others = λ d o hd ho st wt. ⊎-elim inl (λ a. inr (a .0, more d (volumeOf s o) o hd (range .within o ho) (a .1))) (inv .writes .others d o hd ho st wt);
+    };
+    views = λ d v hd hv. covered d v _ hd hv (inv .views d v hd hv);
+    messages = each inv keeps;
+    pairs = inv .pairs;
+  }
+
+-- ---- those marked whom a write that completes still waits for
 
 -- a mark leaves every other mark
 marked-stays : (l : List Bool) (k j : ℕ) → k < length l → getD l j false ≡ true → getD (set l k true) j false ≡ true
@@ -74,9 +73,9 @@ marked-stays l k j h e = ⊎-elim (λ p. p .1) (λ p. p .1 ∙ e) (set-at l k tr
 marked-there : (l : List Bool) (k : ℕ) → k < length l → getD (set l k true) k false ≡ true
 marked-there l k h = ⊎-elim (λ p. p .1) (λ p. absurd (p .0 refl)) (set-at l k true k false h)
 
-module _ (s : Setup) (t : Tables) (o : ℕ) (r : Ranges s) (ho : o < s .objects) (n : length (t .sessions .unreachable) ≡ 128) where
+module _ (s : Setup) (t : Tables) (o : ℕ) (range : Ranges s) (ho : o < s .objects) (n : length (t .sessions .unreachable) ≡ 128) where
   place : (d : ℕ) → d < s .clients → byVolume d (volumeOf s o) < 128
-  place d hd = let b = r .within o ho in omega arith
+  place d hd = let b = range .within o ho in omega arith
 
   turn-length : (l : List Bool) (d : ℕ) → d < s .clients → length l ≡ 128 → length (markIfWaiting s t o l d) ≡ 128
   turn-length l d hd k = cond-keeps (λ (m : List Bool). length m ≡ 128) (waitingAt t d o) (λ e. length-set l _ _ ∙ k) (λ e. k)

@@ -27,8 +27,8 @@ module _ (s : Setup) (w : World) (inv : Inv s w) (d n : ℕ) (full : length (w .
   grows : (k : ℕ) → seenAt (w .tables) k ≤ getD seen k 0
   grows k = ⊎-elim (λ a. let e = ap (seenAt (w .tables)) (a .0) in omega (arith, a .1)) (λ a. omega (arith, a .1)) (set-at (w .tables .sessions .seen) d n k 0 (omega arith))
 
-  header : (k v i e : ℕ) → HeaderIn (w .tables) (w .requests) k v i e → Header (w .tables .volumes .epoch) seen (w .requests) k v i e
-  header k v i e h = record { reached = h .reached; taken = h .taken; noticed = λ a. let b = h .noticed a in let c = grows k in omega arith }
+  header : (k v n′ e : ℕ) → HeaderIn (w .tables) (w .requests) k v n′ e → Header (w .tables .volumes .epoch) seen (w .requests) k v n′ e
+  header k v n′ e h = record { reached = h .reached; taken = h .taken; noticed = λ a. let b = h .noticed a in let c = grows k in omega arith }
 
   pub noted-keeps : Inv s (withTables w (noted (w .tables) d n))
   unfolding noted
@@ -49,10 +49,10 @@ module _ (s : Setup) (w : World) (inv : Inv s w) (d n : ℕ) (full : length (w .
   }
     where
       keeps : Keeps s w (withTables w (noted (w .tables) d n))
-      keeps k (Renew o i e ver) z hk c = c
-      keeps k (Grant o i x e ver y p) z hk c = record {
+      keeps k (Renew o n′ e ver) z hk c = c
+      keeps k (Grant o n′ x e ver y p) z hk c = record {
         exists = c .exists;
-        header = header k _ i e (c .header);
+        header = header k _ n′ e (c .header);
         reached = c .reached;
         payload = c .payload;
         object = c .object;
@@ -62,8 +62,15 @@ module _ (s : Setup) (w : World) (inv : Inv s w) (d n : ℕ) (full : length (w .
       }
       keeps k (Invalidate o e ver) z hk c = c
       keeps k (Ack o e ver) z hk c = c
-      keeps k (Offer v i e) z hk c = record { exists = c .exists; header = header k v i e (c .header) }
-      keeps k (Dropped v i e) z hk c = record { exists = c .exists; header = header k v i e (c .header); writes = c .writes; remains = c .remains }
+      keeps k (Offer v n′ e) z hk c = record { exists = c .exists; header = header k v n′ e (c .header) }
+      keeps k (Dropped v n′ e) z hk c = record { exists = c .exists; header = header k v n′ e (c .header); writes = c .writes; remains = c .remains }
+
+-- ---- N1: a number above the highest seen is new. A message of the server's epoch does not have it, and the message's own number stands no more
+new-number : (s : Setup) (w : World) → Inv s w → (d n : ℕ) → d < s .clients → seenAt (w .tables) d < n → n < requestAt (w .requests) d .next
+    → (v n′ e : ℕ) → HeaderIn (w .tables) (w .requests) d v n′ e → e ≡ epochAt (w .tables) v → (n′ ≡ n → ⊥) × (Stands (w .requests) d n′ → ⊥)
+new-number s w inv d n hd new taken v n′ e h a =
+    let b = h .noticed a in
+    (λ q. omega arith, λ q. let l = inv .numbers .last d hd (q .there) in let m = q .same in omega arith)
 
 -- ---- an offer to a marked client
 module _ (s : Setup) (range : Ranges s) (w : World) (inv : Inv s w) (d v n : ℕ) (full : length (w .tables .sessions .offer) ≡ 128) (hd : d < s .clients) (hv : v < s .volumes)
@@ -74,19 +81,13 @@ module _ (s : Setup) (range : Ranges s) (w : World) (inv : Inv s w) (d v n : ℕ
   at-offer : (k u : ℕ) → u < s .volumes → After d v k u (getD offer (byVolume k u) 0) n (offerAt (w .tables) k u)
   at-offer k u h = volume-set range hd hv (w .tables .sessions .offer) n 0 full k u h
 
-  -- N1: a number above the highest seen is new. A message of the server's epoch does not have it, and the message's own number stands no more
-  new-number : (k u i e : ℕ) → k ≡ d → HeaderIn (w .tables) (w .requests) k u i e → e ≡ epochAt (w .tables) u → (i ≡ n → ⊥) × (Stands (w .requests) k i → ⊥)
-  new-number k u i e q h a =
-      let b = h .noticed a in
-      let f = ap (seenAt (w .tables)) q in
-      let g = ap (λ (j : ℕ). requestAt (w .requests) j .next) q in
-      let hk : k < s .clients = rw q hd in
-      (λ r. omega arith, λ r. let l = inv .numbers .last k hk (r .there) in let m = r .same in omega arith)
+  unused : (k u n′ e : ℕ) → k ≡ d → HeaderIn (w .tables) (w .requests) k u n′ e → e ≡ epochAt (w .tables) u → (n′ ≡ n → ⊥) × (Stands (w .requests) k n′ → ⊥)
+  unused k u n′ e q h a = let h′ = rw q at h in rw q (new-number s w inv d n hd new taken u n′ e h′ a)
 
   -- so no DROPPED under way answers the offer
-  answered : (k u i e : ℕ) → u < s .volumes → HeaderIn (w .tables) (w .requests) k u i e → Answers (w .tables .volumes .epoch) offer k u i e → AnswersIn (w .tables) k u i e
-  answered k u i e hu h a =
-      ⊎-elim (λ q. absurd (new-number k u i e (q .0) h (a .current) .0 (sym (a .same) ∙ q .2)))
+  answered : (k u n′ e : ℕ) → u < s .volumes → HeaderIn (w .tables) (w .requests) k u n′ e → Answers (w .tables .volumes .epoch) offer k u n′ e → AnswersIn (w .tables) k u n′ e
+  answered k u n′ e hu h a =
+      ⊎-elim (λ q. absurd (unused k u n′ e (q .0) h (a .current) .0 (sym (a .same) ∙ q .2)))
       (λ q. record { current = a .current; nonzero = a .nonzero; same = sym (q .1) ∙ a .same }) (at-offer k u hu)
 
   abbrev offering : World
@@ -98,25 +99,25 @@ module _ (s : Setup) (range : Ranges s) (w : World) (inv : Inv s w) (d v n : ℕ
   }))
 
   keeps : Keeps s w offering
-  keeps k (Renew o i e ver) z hk c = c
-  keeps k (Grant o i x e ver y p) z hk c = record {
+  keeps k (Renew o n′ e ver) z hk c = c
+  keeps k (Grant o n′ x e ver y p) z hk c = record {
     exists = c .exists;
     header = c .header;
     reached = c .reached;
     payload = c .payload;
     object = c .object;
-    unoffered = λ a b. ⊎-elim (λ q. absurd (new-number k _ i e (q .0) (c .header) b .1 a)) (λ q. q .1 ∙ c .unoffered a b) (at-offer k (volumeOf s o) (range .within o (c .exists)));
+    unoffered = λ a b. ⊎-elim (λ q. absurd (unused k _ n′ e (q .0) (c .header) b .1 a)) (λ q. q .1 ∙ c .unoffered a b) (at-offer k (volumeOf s o) (range .within o (c .exists)));
     held = c .held;
     covered = c .covered;
   }
   keeps k (Invalidate o e ver) z hk c = c
   keeps k (Ack o e ver) z hk c = c
-  keeps k (Offer u i e) z hk c = c
-  keeps k (Dropped u i e) z hk c = record {
+  keeps k (Offer u n′ e) z hk c = c
+  keeps k (Dropped u n′ e) z hk c = record {
     exists = c .exists;
     header = c .header;
-    writes = λ a. c .writes (answered k u i e (c .exists) (c .header) a);
-    remains = λ a. c .remains (answered k u i e (c .exists) (c .header) a);
+    writes = λ a. c .writes (answered k u n′ e (c .exists) (c .header) a);
+    remains = λ a. c .remains (answered k u n′ e (c .exists) (c .header) a);
   }
 
   pub offer-keeps : Inv s offering

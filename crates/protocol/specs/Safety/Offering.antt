@@ -78,7 +78,7 @@ module _ (s : Setup) (range : Ranges s) (w : World) (inv : Inv s w) (shape : Wor
     values = λ i h q. rw (kept-version i h, kept-value i h) (inv .versions .values d i hd h);
     view = covered-empty empty;
     erased = λ i f ver z q a. kept-version i (inv .messages _ z .kind .invalidate .exists) ∙ inv .messages _ z .kind .erased a;
-    remains = λ i f z a b. remains-empty empty;
+    remains = λ n′ f z a b. remains-empty empty;
   }
 
   abbrev after : World

@@ -15,7 +15,7 @@ use Rattle.protocol.specs.declared.message.Kind.the-variants.{Renew}
 use Rattle.protocol.specs.declared.setup.Setup.{Setup}
 use Rattle.protocol.specs.declared.tables.Tables.{Tables}
 use Rattle.protocol.specs.Setup.{volumeOf}
-use Rattle.protocol.specs.Tables.{byVolume, epochAt, seenAt, unreachableAt, standingAt, waitingAt, withSessions}
+use Rattle.protocol.specs.Tables.{byVolume, epochAt, seenAt, unreachableAt, standingAt, waitingAt}
 use Rattle.protocol.specs.Writes.{marked, invalidation}
 use Rattle.protocol.specs.Server.{sent, noted, offered, offering, waitedIn, lowestWaited, mustDrop, granted, renewedBy, renewed, stale, beingWritten}
 use Rattle.protocol.specs.World.{World}
@@ -25,7 +25,7 @@ use Rattle.protocol.specs.Safety.Invariant.{Inv, KindOk}
 use Rattle.protocol.specs.Safety.Stores.{After, at-place, volume-set, client-fits}
 use Rattle.protocol.specs.Safety.Tools.{unmarked-trusted}
 use Rattle.protocol.specs.Safety.Replaced.{withTables}
-use Rattle.protocol.specs.Safety.Marks.{marks-keep}
+use Rattle.protocol.specs.Safety.Marks.{marking, marks-keep}
 use Rattle.protocol.specs.Safety.Sending.{send-single}
 use Rattle.protocol.specs.Safety.Noting.{noted-keeps, offer-keeps}
 use Rattle.protocol.specs.Safety.Leasing.{granted-keeps}
@@ -58,12 +58,7 @@ module _ (s : Setup) (range : Ranges s) (w : World) (inv : Inv s w) (shape : Sha
   at-un : (k u : ℕ) → u < s .volumes → After d v k u (getD un (byVolume k u) false) true (unreachableAt (w .tables) k u)
   at-un k u h = volume-set range hd hv (w .tables .sessions .unreachable) true false (shape .sessions .unreachable) k u h
 
-  marks : Inv s (withTables w (withSessions (w .tables) (record {
-    seen = w .tables .sessions .seen;
-    expiry = w .tables .sessions .expiry;
-    unreachable = un;
-    offer = w .tables .sessions .offer;
-  })))
+  marks : Inv s (marking w un)
   marks =
       marks-keep s w un range (λ k u hk hu a. ⊎-elim (λ q. q .2) (λ q. q .1 ∙ a) (at-un k u hu)) inv
 

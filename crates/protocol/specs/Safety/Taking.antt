@@ -17,7 +17,7 @@ use Rattle.protocol.specs.Client.{ended, viewed}
 use Rattle.protocol.specs.World.{World}
 use Rattle.protocol.specs.Soundness.Steps.{Ranges}
 use Rattle.protocol.specs.Soundness.Shape.{WorldShape}
-use Rattle.protocol.specs.Safety.Invariant.{Inv, Sent, Stands, from, copyAt, requestAt, viewOf, viewAt, NamesHeld, clocksOf, CoveredIn, RemainsIn, AnswersIn, AcknowledgesIn}
+use Rattle.protocol.specs.Safety.Invariant.{Inv, Sent, Stands, from, copyAt, requestAt, viewOf, viewAt, viewIn, NamesHeld, clocksOf, CoveredIn, RemainsIn, AnswersIn, AcknowledgesIn}
 use Rattle.protocol.specs.Safety.Stores.{After, at-place, off-place, volume-set, same-version}
 use Rattle.protocol.specs.Safety.Covering.{Less, Fewer, view-less, granted-less, covered-less, remains-less}
 use Rattle.protocol.specs.Safety.Sending.{Keeps, each}
@@ -57,7 +57,7 @@ module _ (s : Setup) (range : Ranges s) (w : World) (inv : Inv s w) (d : ℕ) (i
   same-copies k v m = record { each = λ o i j. inr (others .copies k o m i) }
 
   same-view : (k v : ℕ) → (k ≡ d → ⊥) → v < s .volumes
-      → Less s (clocksOf (w .tables) k) v (viewAt s (w .tables .views .epoch) (w .tables .views .expiry) (w .copies) k v) (viewAt s known expiry copies k v)
+      → Less s (clocksOf (w .tables) k) v (viewIn s w k v) (viewAt s known expiry copies k v)
   same-view k v m h = view-less (same-copies k v m) (others .known k v m h) (others .expiry k v m h)
 
   keeps : Keeps s w (seeing w known expiry copies)
@@ -157,7 +157,7 @@ module _ (s : Setup) (range : Ranges s) (w : World) (inv : Inv s w) (shape : Wor
     here u h q = record { known = at-place (at-known d u h) refl q; expiry = at-place (at-expiry d u h) refl q; copies = λ i a. (refl, refl) }
 
     outside : (u : ℕ) → u < s .volumes → (u ≡ v → ⊥)
-        → Less s (clocksOf (w .tables) d) u (viewAt s (w .tables .views .epoch) (w .tables .views .expiry) (w .copies) d u) (viewAt s known expiry copies d u)
+        → Less s (clocksOf (w .tables) d) u (viewIn s w d u) (viewAt s known expiry copies d u)
     outside u h m = view-less still (off-place (at-known d u h) (λ a b. m b)) (off-place (at-expiry d u h) (λ a b. m b))
       where
         still : Fewer s d u (w .copies) copies

@@ -30,7 +30,7 @@ module _ {s : Setup} (clock later d : ℕ) (h : clock ≤ later) {v : ℕ} {view
   remains-later : {version lease : List ℕ} → Remains s (clientClock clock d) d v version lease view → Remains s (clientClock later d) d v version lease view
   remains-later c = record { volume = c .volume; objects = λ o a. c .objects o (held-before o a) }
 
--- S1 by the larger clock; the writes' and the views' clauses by T3
+-- the bounds by the larger clock; the writes' and the views' clauses by T3
 pub clock-keeps : (s : Setup) (w : World) (later : ℕ) → w .tables .clock ≤ later → Inv s w → Inv s (withTables w (withClock (w .tables) later))
 clock-keeps s w later h inv = record {
   bounds = record {
