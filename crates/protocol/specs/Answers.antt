@@ -1,6 +1,6 @@
 -- 01, "Frame, run file and listing": the number and the value of each answer. Contracts, ledger and listing speak through these.
 use Prim.Native.Nat.{ℕ}
-use mathlib.Core.Bool.{Bool, true, false, cond}
+use mathlib.Core.Bool.{Bool, cond}
 use lib.Dec.{eqb}
 use Rattle.protocol.specs.declared.step.Answer.{Answer}
 use Rattle.protocol.specs.declared.step.Answer.the-variants.{Done, Shown, AskFirst, Completed, Delivered, Refused}

@@ -29,7 +29,7 @@ use Rattle.protocol.specs.Leases.{clientAlive, clientClock}
 unfoldable pub showable : Setup → Tables → Copy → ℕ → ℕ → Bool
 showable s t c d o =
     not (eqb (c .version) 0)
-    && (clientAlive (clientClock t d) (viewExpiryAt t d (volumeOf s o)) && clientAlive (clientClock t d) (c .expiry))
+    && (clientAlive (clientClock (t .clock) d) (viewExpiryAt t d (volumeOf s o)) && clientAlive (clientClock (t .clock) d) (c .expiry))
 
 -- Step 3: "take the next number, replace the standing request"
 abbrev pub numbered : Request → ℕ → Request

@@ -1,5 +1,5 @@
 -- 01, "Steps" and "Messages received": one step decided, on the tables, the one copy and the one request that it can touch.
-use Prim.Native.Nat.{ℕ, _+_}
+use Prim.Native.Nat.{ℕ}
 use mathlib.Core.Bool.{Bool, cond}
 use lib.Dec.{eqb}
 use Rattle.protocol.specs.declared.message.Message.{Message}

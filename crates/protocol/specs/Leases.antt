@@ -13,9 +13,9 @@ serverAlive clock expiry = ltb clock expiry
 unfoldable pub clientAlive : ℕ → ℕ → Bool
 clientAlive clock expiry = ltb clock expiry
 
--- the clock that a client goes by: all share one
-unfoldable pub clientClock : Tables → ℕ → ℕ
-clientClock t d = t .clock
+-- the clock that client d goes by: all share the server's
+unfoldable pub clientClock : ℕ → ℕ → ℕ
+clientClock clock d = clock
 
 -- "clock at or past guard": no lease from before the last restart is alive
 unfoldable pub guardPassed : Tables → ℕ → Bool

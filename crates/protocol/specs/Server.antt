@@ -1,6 +1,6 @@
 -- 01, "Messages received" by the server, and its restart.
 use Prim.Native.Nat.{ℕ, _+_}
-use mathlib.Core.Bool.{Bool, true, false, cond, not, _&&_, _||_}
+use mathlib.Core.Bool.{Bool, false, cond, not, _&&_, _||_}
 use lib.Dec.{ltb, leb, eqb}
 use Rattle.laws.specs.Loop.{firstFrom}
 use Rattle.laws.specs.Store.{storeEach, always}
@@ -18,8 +18,8 @@ use Rattle.protocol.specs.declared.tables.Tables.{Tables}
 use Rattle.protocol.specs.Setup.{volumeOf}
 use Rattle.protocol.specs.Messages.{message, pushed}
 use Rattle.protocol.specs.Tables.{byObject, epochAt, seenAt, unreachableAt, offerAt, valueAt, versionAt, standingAt, waitingAt, withVolumes, withSessions, withObjects, withHolders, withQueue, freshSessions, freshObjects, freshHolders}
-use Rattle.protocol.specs.Updates.{withEpoch, withGuard, setVolumeExpiry, setSeen, setSessionExpiry, setUnreachable, setOffer, withValue, withVersion, setObjectExpiry, withLease, withWaiting, setLease, setWaiting}
-use Rattle.protocol.specs.Writes.{Staged, unstaged, invalidation, ready}
+use Rattle.protocol.specs.Updates.{withEpoch, withGuard, setVolumeExpiry, setSeen, setSessionExpiry, withUnreachable, setUnreachable, setOffer, withValue, withVersion, setObjectExpiry, withLease, withWaiting, setLease, setWaiting}
+use Rattle.protocol.specs.Writes.{Staged, unstaged, invalidation, ready, marked}
 
 -- one message sent
 abbrev pub sent : Tables → Message → Tables
@@ -38,7 +38,7 @@ noted t d n = withSessions t (setSeen (t .sessions) d n)
 
 -- "mark unreachable, offer number := number"
 unfoldable pub offered : Tables → ℕ → ℕ → ℕ → Tables
-offered t d v n = withSessions t (setOffer (setUnreachable (t .sessions) d v true) d v n)
+offered t d v n = withSessions t (setOffer (withUnreachable (t .sessions) (marked (t .sessions .unreachable) d v)) d v n)
 
 -- ".. send OFFER"
 abbrev pub offering : Tables → ℕ → ℕ → ℕ → Message

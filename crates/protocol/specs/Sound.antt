@@ -1,7 +1,7 @@
 -- 01, "Questions at the gate", question 1: are setup and tables sound? It asks about what exists: clients, volumes and objects below the counts, messages
 -- below the list's length. Slots and places past those are free.
 use Prim.Native.Nat.{ℕ, _*_}
-use mathlib.Core.Bool.{Bool, cond, not, true, _&&_, _||_}
+use mathlib.Core.Bool.{Bool, not, _&&_, _||_}
 use mathlib.Core.List.{List}
 use lib.Dec.{ltb, leb, eqb}
 use lib.ListN.{length, getD}

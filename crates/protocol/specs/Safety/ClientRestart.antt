@@ -1,9 +1,8 @@
 -- A client restarts: it knows and holds nothing, and asks nothing.
-use Prim.Native.Nat.{ℕ, _+_, _*_, _<_}
+use Prim.Native.Nat.{ℕ, _*_, _<_}
 use native.Mathlib.Omega.{arith}
-use mathlib.Core.Bool.{true, false}
 use mathlib.Core.List.{List}
-use mathlib.Core.Path.{_≡_, refl, sym, ap, _∙_}
+use mathlib.Core.Path.{_≡_, refl, sym, _∙_}
 use lib.ListN.{length, getD, set}
 use Rattle.laws.specs.Store.{storeEach, always, store-hit, store-other}
 use Rattle.protocol.specs.declared.records.Copy.{Copy}
@@ -14,10 +13,10 @@ use Rattle.protocol.specs.Client.{ended, swept, sweptAll, clientRestarte
 use Rattle.protocol.specs.World.{World}
 use Rattle.protocol.specs.Ranges.{Ranges}
 use Rattle.protocol.specs.Soundness.Shape.{WorldShape}
-use Rattle.protocol.specs.Safety.Invariant.{Inv, copyAt, requestAt}
-use Rattle.protocol.specs.Safety.Tools.{volume-fits}
-use Rattle.protocol.specs.Safety.Requests.{requesting, request-ends, ended-idle}
-use Rattle.protocol.specs.Safety.Taking.{Others, Own, covered-empty, taken}
+use Rattle.protocol.specs.Safety.Invariant.{Inv, copyAt, requestAt, viewAt, clocksOf}
+use Rattle.protocol.specs.Safety.Stores.{volume-fits, same-version}
+use Rattle.protocol.specs.Safety.Covering.{Empty, covered-empty, remains-empty}
+use Rattle.protocol.specs.Safety.Taking.{Others, Own, taken}
 use Rattle.protocol.specs.Safety.Sweeping.{swept-own, swept-other}
 
 module _ (s : Setup) (range : Ranges s) (w : World) (inv : Inv s w) (shape : WorldShape s w) (d : ℕ) (hd : d < s .clients) where
@@ -26,9 +25,6 @@ module _ (s : Setup) (range : Ranges s) (w : World) (inv : Inv s w) (shape : Wor
 
   abbrev copies : List Copy
   copies = sweptAll s Erase (d * s .objects) (w .copies)
-
-  here : d < length (w .requests)
-  here = rw (shape .requests) hd
 
   zero-own : (l : List ℕ) → length l ≡ 128 → (u : ℕ) → u < s .volumes → getD (zeroed l) (byVolume d u) 0 ≡ 0
   zero-own l n u h =
@@ -41,31 +37,31 @@ module _ (s : Setup) (range : Ranges s) (w : World) (inv : Inv s w) (shape : Wor
       let a = volume-fits range h in
       store-other always (byVolume d) (λ (v : ℕ). 0) l (s .volumes) (byVolume k u) 0 (λ i j c e. let b = volume-fits range j in m (omega arith))
 
-  gone : (k : ℕ) → k < s .objects → copyAt s copies d k ≡ noCopy
+  gone : (i : ℕ) → i < s .objects → copyAt s copies d i ≡ noCopy
   unfolding swept
-  gone k h = swept-own s (w .copies) d (shape .copies) hd Erase k h
+  gone i h = swept-own s (w .copies) d (shape .copies) hd Erase i h
 
-  no-version : (k : ℕ) → k < s .objects → copyAt s copies d k .version ≡ 0
-  no-version k h = ap (λ (c : Copy). c .version) (gone k h)
+  no-version : (i : ℕ) → i < s .objects → copyAt s copies d i .version ≡ 0
+  no-version i h = same-version (gone i h)
 
-  others : Others s d (w .tables .views .epoch) (w .tables .views .expiry) (zeroed (w .tables .views .epoch)) (zeroed (w .tables .views .expiry)) (w .copies) copies
+  empty : (u : ℕ) → u < s .volumes → Empty s (clocksOf (w .tables) d) u (viewAt s (zeroed (w .tables .views .epoch)) (zeroed (w .tables .views .expiry)) copies d u)
+  empty u h = record { volume = zero-own (w .tables .views .expiry) (shape .tables .views .expiry) u h; objects = λ i a. a .copy (no-version i (a .exists)) }
+
+  others : Others s (w .tables) d (zeroed (w .tables .views .epoch)) (zeroed (w .tables .views .expiry)) (w .copies) copies
   others = record {
     known = λ k u m h. zero-other (w .tables .views .epoch) k u m h;
     expiry = λ k u m h. zero-other (w .tables .views .expiry) k u m h;
     copies = λ k i m h. swept-other s (w .copies) d (shape .copies) hd Erase k i m h;
   }
 
-  own : Own s range (requesting w (set (w .requests) d (ended (requestAt (w .requests) d)))) (request-ends s w inv d here) d (ended-idle (w .requests) d here) (zeroed (w .tables .views .epoch)) (zeroed (w .tables .views .expiry)) copies others
+  own : Own s (w .tables) d (zeroed (w .tables .views .epoch)) (zeroed (w .tables .views .expiry)) copies
   own = record {
     epochs = λ u h. rw (zero-own (w .tables .views .epoch) (shape .tables .views .epoch) u h) (omega arith);
-    reached = λ k h. rw (no-version k h) (omega arith);
-    values = λ k h e. let p = inv .versions .positive k h in let q = sym e ∙ no-version k h in absurd (omega arith);
-    views = λ u h. covered-empty s _ d u _ _ _ _ _ _ _ _ _ _ (zero-own (w .tables .views .expiry) (shape .tables .views .expiry) u h) (λ k i j a b. a (no-version k i));
-    erased = λ k f u z a. no-version k (inv .acks d k f u z .exists);
-    dropped = λ u i f h z a b. record {
-      volume = zero-own (w .tables .views .expiry) (shape .tables .views .expiry) u h;
-      objects = λ k j l g t. g (no-version k j);
-    };
+    reached = λ i h. rw (no-version i h) (omega arith);
+    values = λ i h e. let p = inv .versions .positive i h in let q = sym e ∙ no-version i h in absurd (omega arith);
+    views = λ u h. covered-empty (empty u h);
+    erased = λ i e ver z a. no-version i (inv .messages _ z .kind .invalidate .exists);
+    remains = λ u n e h z a b. remains-empty (empty u h);
   }
 
   pub client-restart : Inv s (record {
@@ -74,5 +70,4 @@ module _ (s : Setup) (range : Ranges s) (w : World) (inv : Inv s w) (shape : Wor
     requests = set (w .requests) d (ended (requestAt (w .requests) d));
   })
   unfolding clientRestarted
-  client-restart =
-      taken s range _ (request-ends s w inv d here) d (ended-idle (w .requests) d here) (zeroed (w .tables .views .epoch)) (zeroed (w .tables .views .expiry)) copies others own
+  client-restart = taken s range w inv shape d hd (zeroed (w .tables .views .epoch)) (zeroed (w .tables .views .expiry)) copies others own

@@ -1,7 +1,8 @@
 -- Step 5, accepted: the message is removed, and received by its client or by the server.
 use Prim.Native.Nat.{ℕ, _+_, _*_, _<_, _≤_}
 use native.Mathlib.Omega.{arith}
-use mathlib.Core.Bool.{true, false, cond, _&&_}
+use mathlib.Core.Bool.{_&&_}
+use mathlib.Core.Path.{refl}
 use lib.ListN.{set}
 use lib.Seq.{set-getD}
 use Rattle.laws.specs.Choice.{cond-keeps, and-true}
@@ -16,7 +17,7 @@ use Rattle.protocol.specs.Messages.{objectOf, removed}
 use Rattle.protocol.specs.Tables.{noCopy, noRequest}
 use Rattle.protocol.specs.Writes.{Staged}
 use Rattle.protocol.specs.Server.{ackTaken, ackStaged, dropTaken, dropStaged}
-use Rattle.protocol.specs.Client.{stands, storable, grantTaken, ended, sweptAll}
+use Rattle.protocol.specs.Client.{stands, storable, grantTaken, sweptAll}
 use Rattle.protocol.specs.Decide.{Received, taken, grantReceived, invalidateReceived, offerReceived, received}
 use Rattle.protocol.specs.World.{World}
 use Rattle.protocol.specs.Ranges.{Ranges}
@@ -50,11 +51,11 @@ module _ (s : Setup) (range : Ranges s) (w : World) (inv : Inv s w) (shape : Wor
   abbrev rest : World
   rest = listing w (removed (w .tables .queue) i)
 
-  left : Inv s rest
-  left = lost s w inv i (shape .tables .queue .items) few hi
+  remaining : Inv s rest
+  remaining = lost s w inv i (shape .tables .queue .items) few hi
 
-  shape-left : WorldShape s rest
-  shape-left = record { tables = taken-shape (w .tables) i (omega arith) (shape .tables); copies = shape .copies; requests = shape .requests }
+  shape-rest : WorldShape s rest
+  shape-rest = record { tables = taken-shape (w .tables) i (omega arith) (shape .tables); copies = shape .copies; requests = shape .requests }
 
   was : (m : Message) → Sent (removed (w .tables .queue) i) m → Sent (w .tables .queue) m
   was m z = sent-removed (w .tables .queue) i m (shape .tables .queue .items) few hi z
@@ -68,53 +69,53 @@ module _ (s : Setup) (range : Ranges s) (w : World) (inv : Inv s w) (shape : Wor
         → Inv s (record { tables = u; copies = set (w .copies) (d * s .objects + o) (copyAt s (w .copies) d o); requests = set (w .requests) d request })
     same-records o u h = rw (set-getD (w .copies) (d * s .objects + o) noCopy, set-getD (w .requests) d noRequest) h
 
-    by-renew : (o n e v : ℕ) → Sent (w .tables .queue) (from d (Renew o n e v)) → Inv s (receiving s w d (Renew o n e v) (received s t (copyAt s (w .copies) d o) request d (Renew o n e v)))
+    by-renew : (o n e ver : ℕ) → Sent (w .tables .queue) (from d (Renew o n e ver)) → Inv s (receiving s w d (Renew o n e ver) (received s t (copyAt s (w .copies) d o) request d (Renew o n e ver)))
     unfolding received
-    by-renew o n e v z =
-        rw (swept-keep s) (same-records o _ (renewed-keeps s range rest left (shape-left .tables) d o n e v hd (inv .renews d o n e v z)))
+    by-renew o n e ver z =
+        rw (swept-keep s) (same-records o _ (renewed-keeps s range rest remaining (shape-rest .tables) d o n e ver hd (inv .messages _ z .kind)))
 
-    by-grant : (o n x e v y : ℕ) (p : Payload) → Sent (w .tables .queue) (from d (Grant o n x e v y p))
-        → Inv s (receiving s w d (Grant o n x e v y p) (received s t (copyAt s (w .copies) d o) request d (Grant o n x e v y p)))
+    by-grant : (o n x e ver y : ℕ) (p : Payload) → Sent (w .tables .queue) (from d (Grant o n x e ver y p))
+        → Inv s (receiving s w d (Grant o n x e ver y p) (received s t (copyAt s (w .copies) d o) request d (Grant o n x e ver y p)))
     unfolding received grantReceived grantTaken
-    by-grant o n x e v y p z =
-        cond-keeps (λ (g : Received). Inv s (receiving s w d (Grant o n x e v y p) g)) (stands request n && storable (copyAt s (w .copies) d o) v p)
-        (λ a. let b = stands-true (w .requests) d n (and-true (stands request n) (storable (copyAt s (w .copies) d o) v p) a .0) in
+    by-grant o n x e ver y p z =
+        cond-keeps (λ (g : Received). Inv s (receiving s w d (Grant o n x e ver y p) g)) (stands request n && storable (copyAt s (w .copies) d o) ver p)
+        (λ a. let b = stands-true (w .requests) d n (and-true (stands request n) (storable (copyAt s (w .copies) d o) ver p) a .0) in
         rw (swept-keep s)
-        (grant-taken s range rest left shape-left d o n x e v y p hd (inv .grants d o n x e v y p z) b (λ f u h q. inv .pairs d o f u n x e v y p (was _ h) z q b)))
-        (λ a. rw (swept-keep s) (same-records o _ left))
+        (grant-taken s range rest remaining shape-rest d o n x e ver y p hd (inv .messages _ z .kind) b (λ f u h q. inv .pairs _ _ (was _ h) z .acked o refl (refl, q) (refl, b))))
+        (λ a. rw (swept-keep s) (same-records o _ remaining))
 
-    by-invalidate : (o e v : ℕ) → Sent (w .tables .queue) (from d (Invalidate o e v))
-        → Inv s (receiving s w d (Invalidate o e v) (received s t (copyAt s (w .copies) d o) request d (Invalidate o e v)))
+    by-invalidate : (o e ver : ℕ) → Sent (w .tables .queue) (from d (Invalidate o e ver))
+        → Inv s (receiving s w d (Invalidate o e ver) (received s t (copyAt s (w .copies) d o) request d (Invalidate o e ver)))
     unfolding received invalidateReceived
-    by-invalidate o e v z = rw (swept-keep s) (invalidate-taken s rest left shape-left d o e v hd (inv .invalidates d o e v z))
+    by-invalidate o e ver z = rw (swept-keep s) (invalidate-taken s rest remaining shape-rest d o e ver hd (inv .messages _ z .kind))
 
     -- what an ACK or a DROPPED stages, then the writes that complete
-    acks : (o e v : ℕ) → Sent (w .tables .queue) (from d (Ack o e v)) → Inv s (withTables rest (ackStaged s t d o e v .tables))
+    acks : (o e ver : ℕ) → Sent (w .tables .queue) (from d (Ack o e ver)) → Inv s (withTables rest (ackStaged s t d o e ver .tables))
     unfolding ackStaged
-    acks o e v z =
-        cond-keeps (λ (g : Staged). Inv s (withTables rest (g .tables))) (ackTaken s t o e v)
-        (λ a. let b = ack-taken s t o e v a in
-        acked-keeps s range rest left (shape-left .tables) d o hd (inv .acks d o e v z .exists) (inv .erased d o e v z b)
-        (λ n x f u y p h r. inv .pairs d o e v n x f u y p z (was _ h) b r))
-        (λ a. left)
+    acks o e ver z =
+        cond-keeps (λ (g : Staged). Inv s (withTables rest (g .tables))) (ackTaken s t o e ver)
+        (λ a. let b = ack-taken s t o e ver a in
+        acked-keeps s range rest remaining (shape-rest .tables) d o hd (inv .messages _ z .kind .invalidate .exists) (inv .messages _ z .kind .erased b)
+        (λ g h r. inv .pairs _ _ z (was _ h) .acked o refl (refl, b) r))
+        (λ a. remaining)
 
-    ack-fits : (o e v : ℕ) → o < s .objects → (Admits s (ackStaged s t d o e v .test)) × (ackStaged s t d o e v .from + ackStaged s t d o e v .many ≤ s .objects)
+    ack-fits : (o e ver : ℕ) → o < s .objects → (Admits s (ackStaged s t d o e ver .test)) × (ackStaged s t d o e ver .from + ackStaged s t d o e ver .many ≤ s .objects)
     unfolding ackStaged
-    ack-fits o e v h =
-        cond-keeps (λ (g : Staged). (Admits s (g .test)) × (g .from + g .many ≤ s .objects)) (ackTaken s t o e v) (λ a. (ready-admits s, omega arith)) (λ a. (none-admits s, omega arith))
+    ack-fits o e ver h =
+        cond-keeps (λ (g : Staged). (Admits s (g .test)) × (g .from + g .many ≤ s .objects)) (ackTaken s t o e ver) (λ a. (ready-admits s, omega arith)) (λ a. (none-admits s, omega arith))
 
-    by-ack : (o e v : ℕ) → Sent (w .tables .queue) (from d (Ack o e v)) → Inv s (receiving s w d (Ack o e v) (received s t (copyAt s (w .copies) d o) request d (Ack o e v)))
+    by-ack : (o e ver : ℕ) → Sent (w .tables .queue) (from d (Ack o e ver)) → Inv s (receiving s w d (Ack o e ver) (received s t (copyAt s (w .copies) d o) request d (Ack o e ver)))
     unfolding received
-    by-ack o e v z =
-        let f = ack-fits o e v (inv .acks d o e v z .exists) in
+    by-ack o e ver z =
+        let f = ack-fits o e ver (inv .messages _ z .kind .invalidate .exists) in
         rw (swept-keep s)
-        (same-records o _ (settled-keeps s rest (ackStaged s t d o e v) range (f .0) (f .1) (ack-shape s t d o e v (shape-left .tables)) (acks o e v z)))
+        (same-records o _ (settled-keeps s rest (ackStaged s t d o e ver) range (f .0) (f .1) (ack-shape s t d o e ver (shape-rest .tables)) (acks o e ver z)))
 
     drops : (v n e : ℕ) → Sent (w .tables .queue) (from d (Dropped v n e)) → Inv s (withTables rest (dropStaged s t d v n e .tables))
     unfolding dropStaged
     drops v n e z =
         cond-keeps (λ (g : Staged). Inv s (withTables rest (g .tables))) (dropTaken t d v n e)
-        (λ a. dropped-keeps s range rest left (shape-left .tables) d v n e hd (inv .droppeds d v n e z) (drop-taken t d v n e a)) (λ a. left)
+        (λ a. dropped-keeps s range rest remaining (shape-rest .tables) d v n e hd (inv .messages _ z .kind) (drop-taken t d v n e a)) (λ a. remaining)
 
     drop-fits : (v n e : ℕ) → (Admits s (dropStaged s t d v n e .test)) × (dropStaged s t d v n e .from + dropStaged s t d v n e .many ≤ s .objects)
     unfolding dropStaged
@@ -127,20 +128,20 @@ module _ (s : Setup) (range : Ranges s) (w : World) (inv : Inv s w) (shape : Wor
     by-dropped v n e z =
         let f = drop-fits v n e in
         rw (swept-keep s)
-        (same-records 0 _ (settled-keeps s rest (dropStaged s t d v n e) range (f .0) (f .1) (drop-shape s t d v n e (shape-left .tables)) (drops v n e z)))
+        (same-records 0 _ (settled-keeps s rest (dropStaged s t d v n e) range (f .0) (f .1) (drop-shape s t d v n e (shape-rest .tables)) (drops v n e z)))
 
     by-offer : (v n e : ℕ) → Sent (w .tables .queue) (from d (Offer v n e))
         → Inv s (receiving s w d (Offer v n e) (received s t (copyAt s (w .copies) d 0) request d (Offer v n e)))
     unfolding received offerReceived
     by-offer v n e z =
         cond-keeps (λ (g : Received). Inv s (receiving s w d (Offer v n e) g)) (stands request n)
-        (λ a. rw (set-getD (w .copies) (d * s .objects + 0) noCopy) (offer-taken s range rest left shape-left d v n e hd (inv .offereds d v n e z)))
-        (λ a. rw (swept-keep s) (same-records 0 _ left))
+        (λ a. rw (set-getD (w .copies) (d * s .objects + 0) noCopy) (offer-taken s range rest remaining shape-rest d v n e hd (inv .messages _ z .kind)))
+        (λ a. rw (swept-keep s) (same-records 0 _ remaining))
 
-    pub receipt-keeps : (k : Kind) → Sent (w .tables .queue) (from d k) → Inv s (receiving s w d k (received s t (copyAt s (w .copies) d (objectOf k)) request d k))
-    receipt-keeps (Renew o n e v) z = by-renew o n e v z
-    receipt-keeps (Grant o n x e v y p) z = by-grant o n x e v y p z
-    receipt-keeps (Invalidate o e v) z = by-invalidate o e v z
-    receipt-keeps (Ack o e v) z = by-ack o e v z
+    pub receipt-keeps : (g : Kind) → Sent (w .tables .queue) (from d g) → Inv s (receiving s w d g (received s t (copyAt s (w .copies) d (objectOf g)) request d g))
+    receipt-keeps (Renew o n e ver) z = by-renew o n e ver z
+    receipt-keeps (Grant o n x e ver y p) z = by-grant o n x e ver y p z
+    receipt-keeps (Invalidate o e ver) z = by-invalidate o e ver z
+    receipt-keeps (Ack o e ver) z = by-ack o e ver z
     receipt-keeps (Offer v n e) z = by-offer v n e z
     receipt-keeps (Dropped v n e) z = by-dropped v n e z

@@ -1,8 +1,7 @@
 -- The invariant holds of fresh tables: nothing is known, held, asked or under way.
 use Prim.Native.Nat.{ℕ, _+_, _*_, _<_}
 use native.Mathlib.Omega.{arith}
-use mathlib.Core.Bool.{true, false}
-use mathlib.Core.Path.{_≡_, refl, sym, ap, _∙_}
+use mathlib.Core.Path.{_≡_, refl, sym, _∙_}
 use lib.ListN.{getD, replicate, getD-replicate}
 use Rattle.laws.specs.Choice.{not-both}
 use Rattle.protocol.specs.declared.message.Message.{Message}
@@ -10,12 +9,12 @@ use Rattle.protocol.specs.declared.records.Copy.{Copy}
 use Rattle.protocol.specs.declared.records.Request.{Request}
 use Rattle.protocol.specs.declared.setup.Setup.{Setup}
 use Rattle.protocol.specs.Messages.{emptyQueue}
-use Rattle.protocol.specs.Tables.{byVolume, noCopy, noRequest, freshRequest, freshTables}
+use Rattle.protocol.specs.Tables.{noCopy, noRequest, freshRequest, freshTables}
 use Rattle.protocol.specs.World.{freshWorld}
 use Rattle.protocol.specs.Ranges.{Ranges}
 use Rattle.protocol.specs.Safety.Invariant.{Inv, Sent, copyAt, requestAt}
-use Rattle.protocol.specs.Safety.Tools.{row-below, nothing-stands, object-fits, volume-fits, zero-holder, zero-session}
-use Rattle.protocol.specs.Safety.Taking.{covered-empty}
+use Rattle.protocol.specs.Safety.Stores.{same-version, row-below, nothing-stands, object-fits, volume-fits, zero-holder, zero-session}
+use Rattle.protocol.specs.Safety.Covering.{covered-empty}
 
 module _ (s : Setup) (range : Ranges s) where
   all-same : (n i x : ℕ) → i < n → _≡_ {A = ℕ} (getD (replicate n x) i 0) x
@@ -25,7 +24,7 @@ module _ (s : Setup) (range : Ranges s) where
   no-copy d o hd ho = getD-replicate {A = Copy} (s .clients * s .objects) (d * s .objects + o) noCopy noCopy (row-below (s .objects) d (s .clients) o hd ho)
 
   no-version : (d o : ℕ) → d < s .clients → o < s .objects → copyAt s (freshWorld s .copies) d o .version ≡ 0
-  no-version d o hd ho = ap (λ (c : Copy). c .version) (no-copy d o hd ho)
+  no-version d o hd ho = same-version (no-copy d o hd ho)
 
   no-request : (d : ℕ) → d < s .clients → requestAt (freshWorld s .requests) d ≡ freshRequest
   no-request d hd = getD-replicate {A = Request} (s .clients) d freshRequest noRequest hd
@@ -55,14 +54,7 @@ module _ (s : Setup) (range : Ranges s) where
     };
     offers = λ d v hd hv m. absurd (m (zero-session range d v hd hv));
     writes = record { guards = λ o h a. nothing-stands range o h a; waits = λ d o hd ho a b. nothing-stands range o ho a; others = λ d o hd ho a b. nothing-stands range o ho a };
-    views = λ d v hd hv. covered-empty s _ d v _ _ _ _ _ _ _ _ _ _ (zero-session range d v hd hv) (λ o i j a b. a (no-version d o hd i));
-    clients = λ m z. none-sent m z;
-    renews = λ d o n e v z. none-sent _ z;
-    grants = λ d o n x e v y p z. none-sent _ z;
-    invalidates = λ d o e v z. none-sent _ z;
-    acks = λ d o e v z. none-sent _ z;
-    erased = λ d o e v z. none-sent _ z;
-    pairs = λ d o e v n x f u y p z. none-sent _ z;
-    offereds = λ d v n e z. none-sent _ z;
-    droppeds = λ d v n e z. none-sent _ z;
+    views = λ d v hd hv. covered-empty (record { volume = zero-session range d v hd hv; objects = λ o a. a .copy (no-version d o hd (a .exists)) });
+    messages = λ m z. none-sent m z;
+    pairs = λ m g z. none-sent m z;
   }

@@ -1,7 +1,10 @@
--- What holds after every step of every run: of the tables, of each message under way, and of each two. Each clause is stated over the lists that it
--- reads, so what a step leaves alone needs no proof.
+-- What holds after every step of every run: of the tables, of each message under way, and of each two. Each clause is stated over what it reads, so what
+-- a step leaves alone needs no proof.
+-- Letters in this folder: s a setup, w a world, t tables, q a message list, m a message, g another or its kind; d and k clients, v and u volumes, o, i and j objects. Of a
+-- message n is the number, e the epoch (n′ and f another's), x the volume expiry, ver the version, y the object expiry, p the payload; z says that it is sent
+-- and c is its clause.
 use Prim.Native.Nat.{ℕ, _+_, _*_, _<_, _≤_, min}
-use mathlib.Core.Bool.{Bool, true, false, cond}
+use mathlib.Core.Bool.{Bool, true, false}
 use mathlib.Core.List.{List}
 use mathlib.Core.Logic.{_⊎_}
 use mathlib.Core.Path.{_≡_}
@@ -16,10 +19,11 @@ use Rattle.protocol.specs.declared.message.Kind.the-variants.{Renew, Gra
 use Rattle.protocol.specs.declared.records.Copy.{Copy}
 use Rattle.protocol.specs.declared.records.Request.{Request}
 use Rattle.protocol.specs.declared.setup.Setup.{Setup}
+use Rattle.protocol.specs.declared.tables.Tables.{Tables}
 use Rattle.protocol.specs.Setup.{volumeOf}
 use Rattle.protocol.specs.Messages.{messageAt}
 use Rattle.protocol.specs.Tables.{byVolume, byObject, noCopy, noRequest}
-use Rattle.protocol.specs.Leases.{serverAlive, clientAlive}
+use Rattle.protocol.specs.Leases.{serverAlive, clientAlive, clientClock}
 use Rattle.protocol.specs.World.{World}
 
 -- ---- the names that every clause uses
@@ -35,19 +39,61 @@ pub record Stands (requests : List Request) (d n : ℕ) : Type 0 where
   pub there : requestAt requests d .standing ≡ true
   pub same : requestAt requests d .number ≡ n
 
--- the server does not count on client d's copy of object o, of volume v, being current
-abbrev pub excused : List Bool → ℕ → ℕ → ℕ → Bool
+-- the server does not count on client d's copy of object o, of volume v, being current (law E1 in Tools)
+unfoldable pub excused : List Bool → ℕ → ℕ → ℕ → Bool
 excused un d v o = getD un (byVolume d v) false
 
--- A view of volume v by client d: the epoch and expiry that it knows, and the version and expiry of its copy of each object. Where the epoch is the
--- server's, the server knows of the volume lease; where it is older, the guard does. A copy that is held, and shown or counted on, is current, and where
--- the epoch is the server's the server knows of its lease.
-pub record Covered (s : Setup) (clock d v epoch guard session : ℕ) (un : Bool) (version lease : List ℕ) (known expiry : ℕ) (held until : ℕ → ℕ) : Type 0 where
-  pub current : known ≡ epoch → expiry ≤ session
-  pub older : known < epoch → expiry ≤ guard
-  pub holds : (o : ℕ) → o < s .objects → volumeOf s o ≡ v → (held o ≡ 0 → ⊥) → clientAlive clock (until o) ≡ true
-      → (clientAlive clock expiry ≡ true) ⊎ ((known ≡ epoch) × (un ≡ false))
-      → (held o ≡ getD version o 0) × (known ≡ epoch → until o ≤ getD lease (byObject d o) 0)
+-- what the server keeps of a client's lease on an object when it takes the client's DROPPED (its laws are in Tools and, of the taking, in Dropping)
+unfoldable pub left : ℕ → ℕ
+left lease = 0
+
+-- What a client may know of a volume: the epoch and the expiry, and the version and expiry of its copy of each object
+pub record View : Type 0 where
+  pub known : ℕ
+  pub expiry : ℕ
+  pub held : ℕ → ℕ
+  pub until : ℕ → ℕ
+
+abbrev pub heldOf : Setup → List Copy → ℕ → ℕ → ℕ
+heldOf s copies d o = copyAt s copies d o .version
+
+abbrev pub untilOf : Setup → List Copy → ℕ → ℕ → ℕ
+untilOf s copies d o = copyAt s copies d o .expiry
+
+abbrev pub viewOf : Setup → List Copy → ℕ → ℕ → ℕ → View
+viewOf s copies d known expiry = record { known = known; expiry = expiry; held = heldOf s copies d; until = untilOf s copies d }
+
+-- client d's of volume v
+abbrev pub viewAt : Setup → List ℕ → List ℕ → List Copy → ℕ → ℕ → View
+viewAt s known expiry copies d v = viewOf s copies d (getD known (byVolume d v) 0) (getD expiry (byVolume d v) 0)
+
+-- .. once it has taken a GRANT
+abbrev pub viewGranted : Setup → List Copy → ℕ → ℕ → ℕ → ℕ → ℕ → ℕ → View
+viewGranted s copies d o x e ver y = record { known = e; expiry = x; held = updated (heldOf s copies d) o ver; until = updated (untilOf s copies d) o y }
+
+-- a copy of object o of volume v under a lease that is alive by the client's clock
+pub record Held (s : Setup) (clock v : ℕ) (view : View) (o : ℕ) : Type 0 where
+  pub exists : o < s .objects
+  pub inside : volumeOf s o ≡ v
+  pub copy : view .held o ≡ 0 → ⊥
+  pub alive : clientAlive clock (view .until o) ≡ true
+
+-- it would be shown, or the server counts on it
+abbrev pub Claimed : ℕ → ℕ → (ℕ → Bool) → View → ℕ → Type 0
+Claimed clock epoch excuse view o = (clientAlive clock (view .expiry) ≡ true) ⊎ ((view .known ≡ epoch) × (excuse o ≡ false))
+
+-- Client d's view of volume v, by its clock. Where the epoch is the server's, the server knows of the volume lease; where it is older, the guard does. A
+-- copy that is held and claimed is current, and where the epoch is the server's the server knows of its lease.
+pub record Covered (s : Setup) (clock d v epoch guard session : ℕ) (excuse : ℕ → Bool) (version lease : List ℕ) (view : View) : Type 0 where
+  pub current : view .known ≡ epoch → view .expiry ≤ session
+  pub older : view .known < epoch → view .expiry ≤ guard
+  pub holds : (o : ℕ) → Held s clock v view o → Claimed clock epoch excuse view o
+      → (view .held o ≡ getD version o 0) × (view .known ≡ epoch → view .until o ≤ getD lease (byObject d o) 0)
+
+-- the same over the tables; `clocks` are the clients', `excuse` is of a client, a volume and an object
+abbrev pub ViewOk : Setup → (ℕ → ℕ) → List ℕ → List ℕ → List ℕ → (ℕ → ℕ → ℕ → Bool) → List ℕ → List ℕ → ℕ → ℕ → View → Type 0
+ViewOk s clocks epoch guard session excuse version lease d v view =
+    Covered s (clocks d) d v (getD epoch v 0) (getD guard v 0) (getD session (byVolume d v) 0) (excuse d v) version lease view
 
 -- ---- the tables
 
@@ -79,28 +125,24 @@ abbrev pub Offers : Setup → List Bool → List ℕ → Type 0
 Offers s un offer =
     (d v : ℕ) → d < s .clients → v < s .volumes → (getD offer (byVolume d v) 0 ≡ 0 → ⊥) → getD un (byVolume d v) false ≡ true
 
--- a standing write outlasts the guard and the leases of whom it waits for; who is not waited for cannot show the copy, or is not counted on
-pub record Writes (s : Setup) (clock : ℕ) (guard session : List ℕ) (un standing : List Bool) (end lease : List ℕ) (waiting : List Bool) : Type 0 where
+-- whom a write does not wait for cannot show the copy, or is not counted on
+abbrev pub Unwaited : ℕ → ℕ → ℕ → Bool → Type 0
+Unwaited clock lease session excuse = (serverAlive clock lease ≡ false) ⊎ ((serverAlive clock session ≡ false) × (excuse ≡ true))
+
+-- a standing write outlasts the guard and the leases of whom it waits for
+pub record Writes (s : Setup) (clock : ℕ) (guard session : List ℕ) (excuse : ℕ → ℕ → ℕ → Bool) (standing : List Bool) (end lease : List ℕ) (waiting : List Bool) : Type 0 where
   pub guards : (o : ℕ) → o < s .objects → getD standing o false ≡ true → getD guard (volumeOf s o) 0 ≤ getD end o 0
   pub waits : (d o : ℕ) → d < s .clients → o < s .objects → getD standing o false ≡ true → getD waiting (byObject d o) false ≡ true
       → min (getD lease (byObject d o) 0) (getD session (byVolume d (volumeOf s o)) 0) ≤ getD end o 0
   pub others : (d o : ℕ) → d < s .clients → o < s .objects → getD standing o false ≡ true → getD waiting (byObject d o) false ≡ false
-      → (serverAlive clock (getD lease (byObject d o) 0) ≡ false)
-      ⊎ ((serverAlive clock (getD session (byVolume d (volumeOf s o)) 0) ≡ false) × (excused un d (volumeOf s o) o ≡ true))
+      → Unwaited clock (getD lease (byObject d o) 0) (getD session (byVolume d (volumeOf s o)) 0) (excuse d (volumeOf s o) o)
 
 -- what each client knows is covered
-abbrev pub ViewOk : Setup → ℕ → List ℕ → List ℕ → List ℕ → List Bool → List ℕ → List ℕ → ℕ → ℕ → ℕ → ℕ → (ℕ → ℕ) → (ℕ → ℕ) → Type 0
-ViewOk s clock epoch guard session un version lease d v known expiry held until =
-    Covered s clock d v (getD epoch v 0) (getD guard v 0) (getD session (byVolume d v) 0) (getD un (byVolume d v) false) version lease known expiry held until
+abbrev pub Views : Setup → (ℕ → ℕ) → List ℕ → List ℕ → List ℕ → (ℕ → ℕ → ℕ → Bool) → List ℕ → List ℕ → List ℕ → List ℕ → List Copy → Type 0
+Views s clocks epoch guard session excuse version lease known expiry copies =
+    (d v : ℕ) → d < s .clients → v < s .volumes → ViewOk s clocks epoch guard session excuse version lease d v (viewAt s known expiry copies d v)
 
-abbrev pub Views : Setup → ℕ → List ℕ → List ℕ → List ℕ → List Bool → List ℕ → List ℕ → List ℕ → List ℕ → List Copy → Type 0
-Views s clock epoch guard session un version lease known expiry copies =
-    (d v : ℕ) → d < s .clients → v < s .volumes
-    → ViewOk s clock epoch guard session un version lease d v (getD known (byVolume d v) 0) (getD expiry (byVolume d v) 0)
-    (λ o. copyAt s copies d o .version)
-    (λ o. copyAt s copies d o .expiry)
-
--- ---- the messages
+-- ---- the messages, kind by kind
 
 -- an epoch that has been and a number that was taken; if the epoch is the server's, the server has seen the number
 pub record Header (epoch seen : List ℕ) (requests : List Request) (d v n e : ℕ) : Type 0 where
@@ -108,48 +150,56 @@ pub record Header (epoch seen : List ℕ) (requests : List Request) (d v n e : �
   pub taken : n < requestAt requests d .next
   pub noticed : e ≡ getD epoch v 0 → n ≤ getD seen d 0
 
-pub record RenewOk (s : Setup) (epoch known : List ℕ) (copies : List Copy) (requests : List Request) (d o n e w : ℕ) : Type 0 where
+pub record RenewOk (s : Setup) (epoch known : List ℕ) (copies : List Copy) (requests : List Request) (d o n e ver : ℕ) : Type 0 where
   pub exists : o < s .objects
   pub reached : e ≤ getD epoch (volumeOf s o) 0
   pub taken : n < requestAt requests d .next
   -- of the standing request, it says what the client knows and holds
   pub object : Stands requests d n → requestAt requests d .object ≡ o
   pub knows : Stands requests d n → e ≡ getD known (byVolume d (volumeOf s o)) 0
-  pub held : Stands requests d n → w ≡ copyAt s copies d o .version
+  pub held : Stands requests d n → ver ≡ copyAt s copies d o .version
 
 -- what a GRANT says of the value
 abbrev pub PayloadOk : List ℕ → List ℕ → ℕ → ℕ → Payload → Type 0
-PayloadOk value version o w Same = Unit {0}
-PayloadOk value version o w (Value x) = w ≡ getD version o 0 → x ≡ getD value o 0
+PayloadOk value version o ver Same = Unit {0}
+PayloadOk value version o ver (Value x) = ver ≡ getD version o 0 → x ≡ getD value o 0
 
 -- without a value it names the version held
 abbrev pub NamesHeld : ℕ → ℕ → Payload → Type 0
-NamesHeld held w Same = w ≡ held
-NamesHeld held w (Value x) = Unit {0}
+NamesHeld held ver Same = ver ≡ held
+NamesHeld held ver (Value x) = Unit {0}
 
-pub record GrantOk (s : Setup) (clock : ℕ) (epoch guard seen session : List ℕ) (un : List Bool) (offer value version lease : List ℕ) (copies : List Copy) (requests : List Request) (d o n x e w y : ℕ) (p : Payload) : Type 0 where
+pub record GrantOk (s : Setup) (clocks : ℕ → ℕ) (epoch guard seen session : List ℕ) (excuse : ℕ → ℕ → ℕ → Bool) (offer value version lease : List ℕ) (copies : List Copy) (requests : List Request) (d o n x e ver y : ℕ) (p : Payload) : Type 0 where
   pub exists : o < s .objects
   pub header : Header epoch seen requests d (volumeOf s o) n e
-  pub reached : w ≤ getD version o 0
-  pub payload : PayloadOk value version o w p
+  pub reached : ver ≤ getD version o 0
+  pub payload : PayloadOk value version o ver p
   -- of the standing request, it may be taken: what the client knows then is covered
   pub object : Stands requests d n → requestAt requests d .object ≡ o
   pub unoffered : Stands requests d n → e ≡ getD epoch (volumeOf s o) 0 → getD offer (byVolume d (volumeOf s o)) 0 ≡ 0
-  pub held : Stands requests d n → NamesHeld (copyAt s copies d o .version) w p
-  pub covered : Stands requests d n
-      → ViewOk s clock epoch guard session un version lease d (volumeOf s o) e x (updated (λ k. copyAt s copies d k .version) o w) (updated (λ k. copyAt s copies d k .expiry) o y)
+  pub held : Stands requests d n → NamesHeld (copyAt s copies d o .version) ver p
+  pub covered : Stands requests d n → ViewOk s clocks epoch guard session excuse version lease d (volumeOf s o) (viewGranted s copies d o x e ver y)
 
--- an INVALIDATE or an ACK is of a version that has been, or of the one that a standing write makes
-pub record InvalidateOk (s : Setup) (epoch version : List ℕ) (standing : List Bool) (o e w : ℕ) : Type 0 where
+-- a version that has been, or the one that a standing write makes
+abbrev pub Recent : List ℕ → List Bool → ℕ → ℕ → Type 0
+Recent version standing o ver = (ver ≤ getD version o 0) ⊎ ((getD standing o false ≡ true) × (ver ≤ getD version o 0 + 1))
+
+-- an INVALIDATE or an ACK
+pub record InvalidateOk (s : Setup) (epoch version : List ℕ) (standing : List Bool) (o e ver : ℕ) : Type 0 where
   pub exists : o < s .objects
   pub reached : e ≤ getD epoch (volumeOf s o) 0
-  pub recent : e ≡ getD epoch (volumeOf s o) 0 → (w ≤ getD version o 0) ⊎ ((getD standing o false ≡ true) × (w ≤ getD version o 0 + 1))
+  pub recent : e ≡ getD epoch (volumeOf s o) 0 → Recent version standing o ver
 
 -- an ACK that would be taken
-pub record Acknowledges (s : Setup) (epoch version : List ℕ) (standing : List Bool) (o e w : ℕ) : Type 0 where
+pub record Acknowledges (s : Setup) (epoch version : List ℕ) (standing : List Bool) (o e ver : ℕ) : Type 0 where
   pub stands : getD standing o false ≡ true
   pub current : e ≡ getD epoch (volumeOf s o) 0
-  pub next : w ≡ getD version o 0 + 1
+  pub next : ver ≡ getD version o 0 + 1
+
+-- who acknowledges the standing write holds no copy
+pub record AckOk (s : Setup) (epoch version : List ℕ) (standing : List Bool) (copies : List Copy) (d o e ver : ℕ) : Type 0 where
+  pub invalidate : InvalidateOk s epoch version standing o e ver
+  pub erased : Acknowledges s epoch version standing o e ver → copyAt s copies d o .version ≡ 0
 
 pub record OfferOk (s : Setup) (epoch seen : List ℕ) (requests : List Request) (d v n e : ℕ) : Type 0 where
   pub exists : v < s .volumes
@@ -161,15 +211,90 @@ pub record Answers (epoch offer : List ℕ) (d v n e : ℕ) : Type 0 where
   pub nonzero : n ≡ 0 → ⊥
   pub same : getD offer (byVolume d v) 0 ≡ n
 
--- the client has no lease in the volume, at the client
-pub record Empty (s : Setup) (clock d v expiry : ℕ) (copies : List Copy) : Type 0 where
-  pub volume : expiry ≡ 0
-  pub objects : (o : ℕ) → o < s .objects → volumeOf s o ≡ v → (copyAt s copies d o .version ≡ 0 → ⊥) → clientAlive clock (copyAt s copies d o .expiry) ≡ true → ⊥
+-- a view that needs no more than what the server keeps: no volume lease, and copies that are current
+pub record Remains (s : Setup) (clock d v : ℕ) (version lease : List ℕ) (view : View) : Type 0 where
+  pub volume : view .expiry ≡ 0
+  pub objects : (o : ℕ) → Held s clock v view o → (view .held o ≡ getD version o 0) × (view .until o ≤ left (getD lease (byObject d o) 0))
 
-pub record DroppedOk (s : Setup) (clock : ℕ) (epoch seen offer known expiry : List ℕ) (copies : List Copy) (requests : List Request) (d v n e : ℕ) : Type 0 where
+pub record DroppedOk (s : Setup) (clocks : ℕ → ℕ) (epoch seen offer version : List ℕ) (standing : List Bool) (lease known expiry : List ℕ) (copies : List Copy) (requests : List Request) (d v n e : ℕ) : Type 0 where
   pub exists : v < s .volumes
   pub header : Header epoch seen requests d v n e
-  pub dropped : Answers epoch offer d v n e → getD known (byVolume d v) 0 ≡ getD epoch v 0 → Empty s clock d v (getD expiry (byVolume d v) 0) copies
+  -- taken, it leaves no lease on what is being written ..
+  pub writes : Answers epoch offer d v n e → (o : ℕ) → o < s .objects → volumeOf s o ≡ v → getD standing o false ≡ true → left (getD lease (byObject d o) 0) ≡ 0
+  -- .. and all that a client of the server's epoch needs
+  pub remains : Answers epoch offer d v n e → getD known (byVolume d v) 0 ≡ getD epoch v 0 → Remains s (clocks d) d v version lease (viewAt s known expiry copies d v)
+
+-- ---- the messages, all kinds
+
+-- each client's clock, and whom the server does not count on
+abbrev pub clocksOf : Tables → ℕ → ℕ
+clocksOf t = clientClock (t .clock)
+
+abbrev pub excusesOf : Tables → ℕ → ℕ → ℕ → Bool
+excusesOf t = excused (t .sessions .unreachable)
+
+abbrev pub KindOk : Setup → World → ℕ → Kind → Type 0
+KindOk s w d (Renew o n e ver) = RenewOk s (w .tables .volumes .epoch) (w .tables .views .epoch) (w .copies) (w .requests) d o n e ver
+KindOk s w d (Grant o n x e ver y p) = GrantOk s (clocksOf (w .tables)) (w .tables .volumes .epoch) (w .tables .volumes .guard) (w .tables .sessions .seen) (w .tables .sessions .expiry) (excusesOf (w .tables)) (w .tables .sessions .offer) (w .tables .objects .value) (w .tables .objects .version) (w .tables .holders .lease) (w .copies) (w .requests) d o n x e ver y p
+KindOk s w d (Invalidate o e ver) = InvalidateOk s (w .tables .volumes .epoch) (w .tables .objects .version) (w .tables .objects .standing) o e ver
+KindOk s w d (Ack o e ver) = AckOk s (w .tables .volumes .epoch) (w .tables .objects .version) (w .tables .objects .standing) (w .copies) d o e ver
+KindOk s w d (Offer v n e) = OfferOk s (w .tables .volumes .epoch) (w .tables .sessions .seen) (w .requests) d v n e
+KindOk s w d (Dropped v n e) = DroppedOk s (clocksOf (w .tables)) (w .tables .volumes .epoch) (w .tables .sessions .seen) (w .tables .sessions .offer) (w .tables .objects .version) (w .tables .objects .standing) (w .tables .holders .lease) (w .tables .views .epoch) (w .tables .views .expiry) (w .copies) (w .requests) d v n e
+
+pub record MessageOk (s : Setup) (w : World) (m : Message) : Type 0 where
+  pub client : m .client < s .clients
+  pub kind : KindOk s w (m .client) (m .kind)
+
+-- ---- each two messages
+
+-- an ACK of object o that would be taken
+abbrev pub Acking : Setup → List ℕ → List ℕ → List Bool → ℕ → Kind → Type 0
+Acking s epoch version standing o (Renew i n e ver) = ⊥
+Acking s epoch version standing o (Grant i n x e ver y p) = ⊥
+Acking s epoch version standing o (Invalidate i e ver) = ⊥
+Acking s epoch version standing o (Ack i e ver) = (i ≡ o) × Acknowledges s epoch version standing i e ver
+Acking s epoch version standing o (Offer v n e) = ⊥
+Acking s epoch version standing o (Dropped v n e) = ⊥
+
+-- a GRANT of object o to client d that could still be taken
+abbrev pub Bringing : List Request → ℕ → ℕ → Kind → Type 0
+Bringing requests d o (Renew i n e ver) = ⊥
+Bringing requests d o (Grant i n x e ver y p) = (i ≡ o) × Stands requests d n
+Bringing requests d o (Invalidate i e ver) = ⊥
+Bringing requests d o (Ack i e ver) = ⊥
+Bringing requests d o (Offer v n e) = ⊥
+Bringing requests d o (Dropped v n e) = ⊥
+
+-- one line for each reason why two messages cannot both be under way
+pub record PairOk (s : Setup) (epoch version : List ℕ) (standing : List Bool) (requests : List Request) (m g : Message) : Type 0 where
+  -- who acknowledges the standing write cannot be brought a copy
+  pub acked : (o : ℕ) → m .client ≡ g .client → Acking s epoch version standing o (m .kind) → Bringing requests (g .client) o (g .kind) → ⊥
+
+-- ---- the same over whole tables, or a world
+
+abbrev pub viewIn : Setup → World → ℕ → ℕ → View
+viewIn s w d v = viewAt s (w .tables .views .epoch) (w .tables .views .expiry) (w .copies) d v
+
+abbrev pub CoveredIn : Setup → Tables → ℕ → ℕ → View → Type 0
+CoveredIn s t d v view = ViewOk s (clocksOf t) (t .volumes .epoch) (t .volumes .guard) (t .sessions .expiry) (excusesOf t) (t .objects .version) (t .holders .lease) d v view
+
+abbrev pub RemainsIn : Setup → Tables → ℕ → ℕ → View → Type 0
+RemainsIn s t d v view = Remains s (clocksOf t d) d v (t .objects .version) (t .holders .lease) view
+
+abbrev pub HeaderIn : Tables → List Request → ℕ → ℕ → ℕ → ℕ → Type 0
+HeaderIn t requests d v n e = Header (t .volumes .epoch) (t .sessions .seen) requests d v n e
+
+abbrev pub AnswersIn : Tables → ℕ → ℕ → ℕ → ℕ → Type 0
+AnswersIn t d v n e = Answers (t .volumes .epoch) (t .sessions .offer) d v n e
+
+abbrev pub AcknowledgesIn : Setup → Tables → ℕ → ℕ → ℕ → Type 0
+AcknowledgesIn s t o e ver = Acknowledges s (t .volumes .epoch) (t .objects .version) (t .objects .standing) o e ver
+
+abbrev pub AckingIn : Setup → Tables → ℕ → Kind → Type 0
+AckingIn s t o g = Acking s (t .volumes .epoch) (t .objects .version) (t .objects .standing) o g
+
+abbrev pub PairIn : Setup → World → Message → Message → Type 0
+PairIn s w m g = PairOk s (w .tables .volumes .epoch) (w .tables .objects .version) (w .tables .objects .standing) (w .requests) m g
 
 -- message m is in the list
 pub record Sent (q : Queue) (m : Message) : Type 0 where
@@ -178,7 +303,7 @@ pub record Sent (q : Queue) (m : Message) : Type 0 where
   pub there : messageAt q place ≡ m
 
 abbrev pub from : ℕ → Kind → Message
-from d k = record { client = d; kind = k }
+from d g = record { client = d; kind = g }
 
 -- ---- the whole
 
@@ -188,24 +313,7 @@ pub record Inv (s : Setup) (w : World) : Type 0 where
   pub numbers : Numbers s (w .tables .sessions .seen) (w .requests)
   pub versions : Versions s (w .tables .objects .value) (w .tables .objects .version) (w .copies)
   pub offers : Offers s (w .tables .sessions .unreachable) (w .tables .sessions .offer)
-  pub writes : Writes s (w .tables .clock) (w .tables .volumes .guard) (w .tables .sessions .expiry) (w .tables .sessions .unreachable) (w .tables .objects .standing) (w .tables .objects .end) (w .tables .holders .lease) (w .tables .holders .waiting)
-  pub views : Views s (w .tables .clock) (w .tables .volumes .epoch) (w .tables .volumes .guard) (w .tables .sessions .expiry) (w .tables .sessions .unreachable) (w .tables .objects .version) (w .tables .holders .lease) (w .tables .views .epoch) (w .tables .views .expiry) (w .copies)
-  pub clients : (m : Message) → Sent (w .tables .queue) m → m .client < s .clients
-  pub renews : (d o n e v : ℕ) → Sent (w .tables .queue) (from d (Renew o n e v))
-      → RenewOk s (w .tables .volumes .epoch) (w .tables .views .epoch) (w .copies) (w .requests) d o n e v
-  pub grants : (d o n x e v y : ℕ) (p : Payload) → Sent (w .tables .queue) (from d (Grant o n x e v y p))
-      → GrantOk s (w .tables .clock) (w .tables .volumes .epoch) (w .tables .volumes .guard) (w .tables .sessions .seen) (w .tables .sessions .expiry) (w .tables .sessions .unreachable) (w .tables .sessions .offer) (w .tables .objects .value) (w .tables .objects .version) (w .tables .holders .lease) (w .copies) (w .requests) d o n x e v y p
-  pub invalidates : (d o e v : ℕ) → Sent (w .tables .queue) (from d (Invalidate o e v))
-      → InvalidateOk s (w .tables .volumes .epoch) (w .tables .objects .version) (w .tables .objects .standing) o e v
-  pub acks : (d o e v : ℕ) → Sent (w .tables .queue) (from d (Ack o e v))
-      → InvalidateOk s (w .tables .volumes .epoch) (w .tables .objects .version) (w .tables .objects .standing) o e v
-  -- who acknowledges the standing write holds no copy ..
-  pub erased : (d o e v : ℕ) → Sent (w .tables .queue) (from d (Ack o e v))
-      → Acknowledges s (w .tables .volumes .epoch) (w .tables .objects .version) (w .tables .objects .standing) o e v → copyAt s (w .copies) d o .version ≡ 0
-  -- .. and no GRANT under way can bring it one
-  pub pairs : (d o e v n x f u y : ℕ) (p : Payload) → Sent (w .tables .queue) (from d (Ack o e v)) → Sent (w .tables .queue) (from d (Grant o n x f u y p))
-      → Acknowledges s (w .tables .volumes .epoch) (w .tables .objects .version) (w .tables .objects .standing) o e v → Stands (w .requests) d n → ⊥
-  pub offereds : (d v n e : ℕ) → Sent (w .tables .queue) (from d (Offer v n e))
-      → OfferOk s (w .tables .volumes .epoch) (w .tables .sessions .seen) (w .requests) d v n e
-  pub droppeds : (d v n e : ℕ) → Sent (w .tables .queue) (from d (Dropped v n e))
-      → DroppedOk s (w .tables .clock) (w .tables .volumes .epoch) (w .tables .sessions .seen) (w .tables .sessions .offer) (w .tables .views .epoch) (w .tables .views .expiry) (w .copies) (w .requests) d v n e
+  pub writes : Writes s (w .tables .clock) (w .tables .volumes .guard) (w .tables .sessions .expiry) (excusesOf (w .tables)) (w .tables .objects .standing) (w .tables .objects .end) (w .tables .holders .lease) (w .tables .holders .waiting)
+  pub views : Views s (clocksOf (w .tables)) (w .tables .volumes .epoch) (w .tables .volumes .guard) (w .tables .sessions .expiry) (excusesOf (w .tables)) (w .tables .objects .version) (w .tables .holders .lease) (w .tables .views .epoch) (w .tables .views .expiry) (w .copies)
+  pub messages : (m : Message) → Sent (w .tables .queue) m → MessageOk s w m
+  pub pairs : (m g : Message) → Sent (w .tables .queue) m → Sent (w .tables .queue) g → PairIn s w m g

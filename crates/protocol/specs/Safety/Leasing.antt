@@ -2,44 +2,34 @@
 use Prim.Native.Nat.{ℕ, _+_, _<_, _≤_}
 use native.Mathlib.Omega.{arith}
 use native.Mathlib.Decide.{ℕ-discrete}
-use mathlib.Core.Bool.{Bool, true, false, cond}
-use mathlib.Core.List.{List}
-use mathlib.Core.Logic.{_⊎_, inl, inr, ⊎-elim}
+use mathlib.Core.Bool.{true, false}
+use mathlib.Core.Logic.{inl, inr, ⊎-elim}
 use mathlib.Core.Path.{_≡_, refl, sym, _∙_}
 use lib.Dec.{eqb}
-use lib.ListN.{getD, set}
 use borrow.Author.Tests.{eqb-true}
 use Rattle.laws.specs.Choice.{same?, not-both, cond-keeps}
-use Rattle.laws.specs.Store.{set-at}
-use Rattle.laws.specs.Updated.{updated, updated-same, updated-other}
+use Rattle.laws.specs.Updated.{updated-other, updated-same}
+use Rattle.protocol.specs.declared.message.Kind.{Kind}
+use Rattle.protocol.specs.declared.message.Kind.the-variants.{Renew, Grant, Invalidate, Ack, Offer, Dropped}
 use Rattle.protocol.specs.declared.setup.Setup.{Setup}
+use Rattle.protocol.specs.declared.tables.Tables.{Tables}
 use Rattle.protocol.specs.Setup.{volumeOf}
-use Rattle.protocol.specs.Messages.{pushed}
-use Rattle.protocol.specs.Tables.{byVolume, byObject, epochAt, seenAt, unreachableAt, offerAt, versionAt, standingAt, waitingAt}
-use Rattle.protocol.specs.Leases.{serverAlive, clientAlive}
+use Rattle.protocol.specs.Tables.{epochAt, volumeExpiryAt, seenAt, sessionExpiryAt, unreachableAt, offerAt, versionAt, objectExpiryAt, standingAt, leaseAt, waitingAt}
+use Rattle.protocol.specs.Leases.{serverAlive}
 use Rattle.protocol.specs.Server.{volumeRenewed, objectRenewed, payloadFor, granting, granted}
 use Rattle.protocol.specs.World.{World}
 use Rattle.protocol.specs.Ranges.{Ranges}
 use Rattle.protocol.specs.Soundness.Shape.{Shape}
-use Rattle.protocol.specs.Safety.Invariant.{Inv, Stands, copyAt, Covered, PayloadOk, NamesHeld}
-use Rattle.protocol.specs.Safety.Tools.{volume-set, object-set, volume-at, object-at, object-off, sent-pushed, client-fits, object-fits, volume-fits}
-use Rattle.protocol.specs.Safety.Replaced.{withTables}
-use Rattle.protocol.specs.Safety.Sending.{RenewClause, send-grant}
-
--- a view under longer leases
-pub covered-longer : (s : Setup) (clock d v epoch guard session session′ : ℕ) (un : Bool) (version lease lease′ : List ℕ) (known expiry : ℕ) (held until : ℕ → ℕ)
-    → session ≤ session′ → ((o : ℕ) → o < s .objects → getD lease (byObject d o) 0 ≤ getD lease′ (byObject d o) 0)
-    → Covered s clock d v epoch guard session un version lease known expiry held until
-    → Covered s clock d v epoch guard session′ un version lease′ known expiry held until
-covered-longer s clock d v epoch guard session session′ un version lease lease′ known expiry held until h k c = record {
-  current = λ a. let b = c .current a in omega arith;
-  older = c .older;
-  holds = λ o i j m l t. let g = c .holds o i j m l t in (g .0, λ a. let b = g .1 a in let q = k o i in omega arith);
-}
+use Rattle.protocol.specs.Safety.Invariant.{Inv, Stands, copyAt, heldOf, untilOf, viewGranted, Held, PayloadOk, NamesHeld, excusesOf, clocksOf, KindOk, AckingIn, CoveredIn}
+use Rattle.protocol.specs.Safety.Stores.{After, at-place, off-place, volume-set, object-set, object-fits, volume-fits}
+use Rattle.protocol.specs.Safety.Replaced.{withTables, Replaced, here-at, set-replaced}
+use Rattle.protocol.specs.Safety.Covering.{covered-by, remains-by, grant-covered}
+use Rattle.protocol.specs.Safety.Sending.{Keeps, each, acking-case, not-acking, send}
 
 module _ (s : Setup) (range : Ranges s) (w : World) (inv : Inv s w) (shape : Shape (w .tables)) (d o : ℕ) (hd : d < s .clients) (ho : o < s .objects)
     (reachable : unreachableAt (w .tables) d (volumeOf s o) ≡ false) (free : standingAt (w .tables) o ≡ false)
-    (unwaited : (k : ℕ) → k < s .objects → volumeOf s k ≡ volumeOf s o → standingAt (w .tables) k ≡ true → waitingAt (w .tables) d k ≡ false) where
+    (trusted : (i : ℕ) → i < s .objects → volumeOf s i ≡ volumeOf s o → excusesOf (w .tables) d (volumeOf s o) i ≡ false)
+    (unwaited : (i : ℕ) → i < s .objects → volumeOf s i ≡ volumeOf s o → standingAt (w .tables) i ≡ true → waitingAt (w .tables) d i ≡ false) where
   abbrev v : ℕ
   v = volumeOf s o
 
@@ -49,67 +39,83 @@ module _ (s : Setup) (range : Ranges s) (w : World) (inv : Inv s w) (shape : Sha
   abbrev longer : ℕ
   longer = w .tables .clock + s .t
 
-  abbrev volume : List ℕ
-  volume = set (w .tables .volumes .expiry) v long
-
-  abbrev session : List ℕ
-  session = set (w .tables .sessions .expiry) (byVolume d v) long
-
-  abbrev object : List ℕ
-  object = set (w .tables .objects .expiry) o longer
-
-  abbrev lease : List ℕ
-  lease = set (w .tables .holders .lease) (byObject d o) longer
+  abbrev t : Tables
+  t = objectRenewed s (volumeRenewed s (w .tables) d v) d o
 
   hv : v < s .volumes
   hv = range .within o ho
 
-  at-volume : (u : ℕ) → ((u ≡ v) × (getD volume u 0 ≡ long)) ⊎ ((u ≡ v → ⊥) × (getD volume u 0 ≡ getD (w .tables .volumes .expiry) u 0))
-  at-volume u = let b = volume-fits range hv in set-at (w .tables .volumes .expiry) v long u 0 (omega (arith, shape .volumes .expiry))
+  at-volume : Replaced v long 0 (w .tables .volumes .expiry) (t .volumes .expiry)
+  unfolding objectRenewed volumeRenewed
+  at-volume = let b = volume-fits range hv in set-replaced (w .tables .volumes .expiry) v long 0 (omega (arith, shape .volumes .expiry))
 
-  at-object : (i : ℕ) → ((i ≡ o) × (getD object i 0 ≡ longer)) ⊎ ((i ≡ o → ⊥) × (getD object i 0 ≡ getD (w .tables .objects .expiry) i 0))
-  at-object i = let b = object-fits range ho in set-at (w .tables .objects .expiry) o longer i 0 (omega (arith, shape .objects .expiry))
+  at-object : Replaced o longer 0 (w .tables .objects .expiry) (t .objects .expiry)
+  unfolding objectRenewed volumeRenewed
+  at-object = let b = object-fits range ho in set-replaced (w .tables .objects .expiry) o longer 0 (omega (arith, shape .objects .expiry))
 
-  at-session : (k u : ℕ) → u < s .volumes
-      → ((k ≡ d) × (u ≡ v) × (getD session (byVolume k u) 0 ≡ long)) ⊎ ((k ≡ d → u ≡ v → ⊥) × (getD session (byVolume k u) 0 ≡ getD (w .tables .sessions .expiry) (byVolume k u) 0))
-  at-session k u h = volume-set (w .tables .sessions .expiry) long 0 d v (shape .sessions .expiry) (client-fits range hd) (volume-fits range hv) k u (volume-fits range h)
+  at-session : (k u : ℕ) → u < s .volumes → After d v k u (sessionExpiryAt t k u) long (sessionExpiryAt (w .tables) k u)
+  unfolding objectRenewed volumeRenewed
+  at-session k u h = volume-set range hd hv (w .tables .sessions .expiry) long 0 (shape .sessions .expiry) k u h
 
-  at-lease : (k i : ℕ) → i < s .objects
-      → ((k ≡ d) × (i ≡ o) × (getD lease (byObject k i) 0 ≡ longer)) ⊎ ((k ≡ d → i ≡ o → ⊥) × (getD lease (byObject k i) 0 ≡ getD (w .tables .holders .lease) (byObject k i) 0))
-  at-lease k i h = object-set (w .tables .holders .lease) longer 0 d o (shape .holders .lease) (client-fits range hd) (object-fits range ho) k i (object-fits range h)
+  at-lease : (k i : ℕ) → i < s .objects → After d o k i (leaseAt t k i) longer (leaseAt (w .tables) k i)
+  unfolding objectRenewed volumeRenewed
+  at-lease k i h = object-set range hd ho (w .tables .holders .lease) longer 0 (shape .holders .lease) k i h
 
-  -- every lease that changes grows
-  volume-grows : (u : ℕ) → u < s .volumes → getD (w .tables .volumes .expiry) u 0 ≤ getD volume u 0
-  volume-grows u h = let b = inv .bounds .volumes u h in ⊎-elim (λ a. omega (arith, a .1)) (λ a. omega (arith, a .1)) (at-volume u)
+  -- every expiry that changes grows, and none past what the clock allows
+  volume-grows : (u : ℕ) → u < s .volumes → (volumeExpiryAt (w .tables) u ≤ volumeExpiryAt t u) × (volumeExpiryAt t u ≤ long)
+  volume-grows u h =
+      let b = inv .bounds .volumes u h in
+      ⊎-elim (λ q. let a = here-at at-volume u q in (omega arith, omega arith)) (λ q. let a = at-volume .other u q in (omega arith, omega arith)) (same? u v)
 
-  object-grows : (i : ℕ) → i < s .objects → getD (w .tables .objects .expiry) i 0 ≤ getD object i 0
-  object-grows i h = let b = inv .bounds .objects i h in ⊎-elim (λ a. omega (arith, a .1)) (λ a. omega (arith, a .1)) (at-object i)
+  object-grows : (i : ℕ) → i < s .objects → (objectExpiryAt (w .tables) i ≤ objectExpiryAt t i) × (objectExpiryAt t i ≤ longer)
+  object-grows i h =
+      let b = inv .bounds .objects i h in
+      ⊎-elim (λ q. let a = here-at at-object i q in (omega arith, omega arith)) (λ q. let a = at-object .other i q in (omega arith, omega arith)) (same? i o)
 
-  session-grows : (k u : ℕ) → k < s .clients → u < s .volumes → getD (w .tables .sessions .expiry) (byVolume k u) 0 ≤ getD session (byVolume k u) 0
+  session-grows : (k u : ℕ) → k < s .clients → u < s .volumes → sessionExpiryAt (w .tables) k u ≤ sessionExpiryAt t k u
   session-grows k u hk h =
       let b = inv .bounds .volumes u h in let c = inv .bounds .sessions k u hk h in
       ⊎-elim (λ a. omega (arith, a .2)) (λ a. omega (arith, a .1)) (at-session k u h)
 
-  lease-grows : (k i : ℕ) → k < s .clients → i < s .objects → getD (w .tables .holders .lease) (byObject k i) 0 ≤ getD lease (byObject k i) 0
+  lease-grows : (k i : ℕ) → k < s .clients → i < s .objects → leaseAt (w .tables) k i ≤ leaseAt t k i
   lease-grows k i hk h =
       let b = inv .bounds .objects i h in let c = inv .bounds .leases k i hk h in
       ⊎-elim (λ a. omega (arith, a .2)) (λ a. omega (arith, a .1)) (at-lease k i h)
 
-  pub leased : Inv s (withTables w (objectRenewed s (volumeRenewed s (w .tables) d v) d o))
+  -- no lease on what is being written changes
+  written-same : (k i : ℕ) → i < s .objects → standingAt (w .tables) i ≡ true → leaseAt t k i ≡ leaseAt (w .tables) k i
+  written-same k i h a = off-place (at-lease k i h) (λ p q. not-both (rw q at a) free)
+
+  keeps : Keeps s w (withTables w t)
+  unfolding objectRenewed volumeRenewed
+  keeps k (Renew i n e ver) z hk c = c
+  keeps k (Grant i n x e ver y p) z hk c =
+      grant-covered c (λ a. covered-by (c .covered a) (session-grows k (volumeOf s i) hk (range .within i (c .exists))) (λ j h q b. b) (λ j h. lease-grows k j hk (h .exists)))
+  keeps k (Invalidate i e ver) z hk c = c
+  keeps k (Ack i e ver) z hk c = c
+  keeps k (Offer u n e) z hk c = c
+  keeps k (Dropped u n e) z hk c = record {
+    exists = c .exists;
+    header = c .header;
+    writes = λ a i h q b. rw (written-same k i h b) (c .writes a i h q b);
+    remains = λ a b. remains-by (c .remains a b) (λ i h. lease-grows k i hk (h .exists));
+  }
+
+  pub leased : Inv s (withTables w t)
   unfolding objectRenewed volumeRenewed
   leased = record {
     bounds = record {
       guards = λ u h. let a = inv .bounds .guards u h in let b = volume-grows u h in omega arith;
-      volumes = λ u h. let b = inv .bounds .volumes u h in ⊎-elim (λ a. omega (arith, a .1)) (λ a. omega (arith, a .1)) (at-volume u);
+      volumes = λ u h. volume-grows u h .1;
       sessions = λ k u hk h.
           let b = inv .bounds .sessions k u hk h in
           let c = volume-grows u h in
-          ⊎-elim (λ a. ⊎-elim (λ q. omega (arith, a .2, q .1)) (λ q. absurd (q .0 (a .1))) (at-volume u)) (λ a. omega (arith, a .1)) (at-session k u h);
-      objects = λ i h. let b = inv .bounds .objects i h in ⊎-elim (λ a. omega (arith, a .1)) (λ a. omega (arith, a .1)) (at-object i);
+          ⊎-elim (λ a. omega (arith, a .2, here-at at-volume u (a .1))) (λ a. omega (arith, a .1)) (at-session k u h);
+      objects = λ i h. object-grows i h .1;
       leases = λ k i hk h.
           let b = inv .bounds .leases k i hk h in
           let c = object-grows i h in
-          ⊎-elim (λ a. ⊎-elim (λ q. omega (arith, a .2, q .1)) (λ q. absurd (q .0 (a .1))) (at-object i)) (λ a. omega (arith, a .1)) (at-lease k i h);
+          ⊎-elim (λ a. omega (arith, a .2, here-at at-object i (a .1))) (λ a. omega (arith, a .1)) (at-lease k i h);
     };
     epochs = inv .epochs;
     numbers = inv .numbers;
@@ -119,59 +125,29 @@ module _ (s : Setup) (range : Ranges s) (w : World) (inv : Inv s w) (shape : Sha
       guards = inv .writes .guards;
       waits = λ k i hk h a b.
           let q = inv .writes .waits k i hk h a b in
-          ⊎-elim (λ g. absurd (free-of i (g .1) a))
-          (λ g. ⊎-elim (λ j. absurd (waited k i h (j .0) (j .1) a b)) (λ j. omega (arith, g .1, j .1)) (at-session k (volumeOf s i) (range .within i h)))
-          (at-lease k i h);
+          ⊎-elim (λ g. not-both (rw (g .0) at b) (unwaited i h (g .1) a)) (λ g. omega (arith, g .1, written-same k i h a)) (at-session k (volumeOf s i) (range .within i h));
       others = λ k i hk h a b.
-          ⊎-elim (λ g. absurd (free-of i (g .1) a))
-          (λ g. ⊎-elim
-          (λ j. inl (rw (g .1) (dead k i hk h (j .0) (j .1) a b)))
-          (λ j. rw (g .1, j .1) (inv .writes .others k i hk h a b))
-          (at-session k (volumeOf s i) (range .within i h)))
-          (at-lease k i h);
+          ⊎-elim (λ g. inl (rw (written-same k i h a) (dead k i hk h (g .0) (g .1) a b)))
+          (λ g. rw (written-same k i h a, g .1) (inv .writes .others k i hk h a b))
+          (at-session k (volumeOf s i) (range .within i h));
     };
-    views = λ k u hk h. covered-longer s _ k u _ _ _ _ _ _ _ _ _ _ _ _ (session-grows k u hk h) (λ i j. lease-grows k i hk j) (inv .views k u hk h);
-    clients = inv .clients;
-    renews = inv .renews;
-    grants = λ k i n x e f y p z.
-        let r = inv .grants k i n x e f y p z in
-        let hk = inv .clients _ z in
-        record {
-          exists = r .exists;
-          header = r .header;
-          reached = r .reached;
-          payload = r .payload;
-          object = r .object;
-          unoffered = r .unoffered;
-          held = r .held;
-          covered = λ a. covered-longer s _ k _ _ _ _ _ _ _ _ _ _ _ _ _ (session-grows k (volumeOf s i) hk (range .within i (r .exists))) (λ j q. lease-grows k j hk q) (r .covered a);
-        };
-    invalidates = inv .invalidates;
-    acks = inv .acks;
-    erased = inv .erased;
+    views = λ k u hk h. covered-by (inv .views k u hk h) (session-grows k u hk h) (λ j h q b. b) (λ j a. lease-grows k j hk (a .exists));
+    messages = each inv keeps;
     pairs = inv .pairs;
-    offereds = inv .offereds;
-    droppeds = inv .droppeds;
   }
     where
-      free-of : (i : ℕ) → i ≡ o → standingAt (w .tables) i ≡ true → ⊥
-      free-of i e a = not-both (rw e at a) free
-
-      waited : (k i : ℕ) → i < s .objects → k ≡ d → volumeOf s i ≡ v → standingAt (w .tables) i ≡ true → waitingAt (w .tables) k i ≡ true → ⊥
-      waited k i h p q a b = not-both (rw p at b) (unwaited i h q a)
-
       dead : (k i : ℕ) → k < s .clients → i < s .objects → k ≡ d → volumeOf s i ≡ v → standingAt (w .tables) i ≡ true → waitingAt (w .tables) k i ≡ false
-          → serverAlive (w .tables .clock) (getD (w .tables .holders .lease) (byObject k i) 0) ≡ false
-      dead k i hk h p q a b = ⊎-elim (λ g. g) (λ g. not-both (rw (p, q) at (g .1)) reachable) (inv .writes .others k i hk h a b)
+          → serverAlive (w .tables .clock) (leaseAt (w .tables) k i) ≡ false
+      dead k i hk h p q a b = ⊎-elim (λ g. g) (λ g. not-both (rw (p, q) at (g .1)) (trusted i h q)) (inv .writes .others k i hk h a b)
 
-  -- ---- the GRANT for RENEW (number n, known epoch e, held version u)
-  module _ (n e u : ℕ) (renew : RenewClause s w d o n e u) (same : e ≡ epochAt (w .tables) v) (seen : n ≤ seenAt (w .tables) d) where
-    says : PayloadOk (w .tables .objects .value) (w .tables .objects .version) o (versionAt (w .tables) o) (payloadFor (w .tables) o u)
-    says = cond-keeps (PayloadOk (w .tables .objects .value) (w .tables .objects .version) o (versionAt (w .tables) o)) (eqb (versionAt (w .tables) o) u) (λ q. tt) (λ q a. refl)
+  -- ---- the GRANT for a RENEW
+  module _ (n e ver : ℕ) (renew : KindOk s w d (Renew o n e ver)) (same : e ≡ epochAt (w .tables) v) (seen : n ≤ seenAt (w .tables) d) where
+    says : PayloadOk (w .tables .objects .value) (w .tables .objects .version) o (versionAt (w .tables) o) (payloadFor (w .tables) o ver)
+    says = cond-keeps (PayloadOk (w .tables .objects .value) (w .tables .objects .version) o (versionAt (w .tables) o)) (eqb (versionAt (w .tables) o) ver) (λ q. tt) (λ q a. refl)
 
-    names : Stands (w .requests) d n → NamesHeld (copyAt s (w .copies) d o .version) (versionAt (w .tables) o) (payloadFor (w .tables) o u)
+    names : Stands (w .requests) d n → NamesHeld (copyAt s (w .copies) d o .version) (versionAt (w .tables) o) (payloadFor (w .tables) o ver)
     names a =
-        cond-keeps (NamesHeld (copyAt s (w .copies) d o .version) (versionAt (w .tables) o)) (eqb (versionAt (w .tables) o) u) (λ q. eqb-true _ _ q ∙ renew .held a) (λ q. tt)
+        cond-keeps (NamesHeld (copyAt s (w .copies) d o .version) (versionAt (w .tables) o)) (eqb (versionAt (w .tables) o) ver) (λ q. eqb-true _ _ q ∙ renew .held a) (λ q. tt)
 
     none-offered : offerAt (w .tables) d v ≡ 0
     none-offered = go (ℕ-discrete (offerAt (w .tables) d v) 0)
@@ -180,47 +156,54 @@ module _ (s : Setup) (range : Ranges s) (w : World) (inv : Inv s w) (shape : Sha
         go (yes q) = q
         go (no q) = not-both (inv .offers d v hd hv q) reachable
 
-    abbrev held : ℕ → ℕ
-    held k = copyAt s (w .copies) d k .version
-
-    abbrev until : ℕ → ℕ
-    until k = copyAt s (w .copies) d k .expiry
-
-    covers : Stands (w .requests) d n → Covered s (w .tables .clock) d v (epochAt (w .tables) v) (getD (w .tables .volumes .guard) v 0) (getD session (byVolume d v) 0)
-        (unreachableAt (w .tables) d v) (w .tables .objects .version) lease (epochAt (w .tables) v) long (updated held o (versionAt (w .tables) o)) (updated until o longer)
+    -- the client's epoch is the server's, so the server counted on its other copies
+    covers : Stands (w .requests) d n → CoveredIn s t d v (viewGranted s (w .copies) d o long (epochAt (w .tables) v) (versionAt (w .tables) o) longer)
+    unfolding objectRenewed volumeRenewed
     covers a = record {
-      current = λ q. rw (volume-at (w .tables .sessions .expiry) long 0 d v d v (shape .sessions .expiry) (client-fits range hd) (volume-fits range hv) refl refl) (omega arith);
+      current = λ q. rw (at-place (at-session d v hv) refl refl) (omega arith);
       older = λ q. absurd (omega arith);
-      holds = λ k i j m l t. ⊎-elim (λ q. this k q) (λ q. rest k i j q (λ z. m (updated-other held o k _ q ∙ z)) (rw (updated-other until o k _ q) at l)) (same? k o);
+      holds = λ i h l. ⊎-elim (λ q. this i q) (λ q. rest i q h) (same? i o);
     }
       where
-        this : (k : ℕ) → k ≡ o → (updated held o (versionAt (w .tables) o) k ≡ versionAt (w .tables) k)
-            × (epochAt (w .tables) v ≡ epochAt (w .tables) v → updated until o longer k ≤ getD lease (byObject d k) 0)
-        this k q =
-            (rw q (updated-same held o _), λ z. rw (q, updated-same until o longer, object-at (w .tables .holders .lease) longer 0 d o d o (shape .holders .lease) (client-fits range hd) (object-fits range ho) refl refl) (omega arith))
+        Owed : ℕ → Type 0
+        Owed i = (viewGranted s (w .copies) d o long (epochAt (w .tables) v) (versionAt (w .tables) o) longer .held i ≡ versionAt (w .tables) i)
+            × (epochAt (w .tables) v ≡ epochAt (w .tables) v → viewGranted s (w .copies) d o long (epochAt (w .tables) v) (versionAt (w .tables) o) longer .until i ≤ leaseAt t d i)
 
-        rest : (k : ℕ) → k < s .objects → volumeOf s k ≡ v → (k ≡ o → ⊥) → (held k ≡ 0 → ⊥) → clientAlive (w .tables .clock) (until k) ≡ true
-            → (updated held o (versionAt (w .tables) o) k ≡ versionAt (w .tables) k)
-            × (epochAt (w .tables) v ≡ epochAt (w .tables) v → updated until o longer k ≤ getD lease (byObject d k) 0)
-        rest k i j q m l =
-            let c = inv .views d v hd hv .holds k i j m l (inr (sym (renew .knows a) ∙ same, reachable)) in (
-              updated-other held o k _ q ∙ c .0,
-              λ z. let b = c .1 (sym (renew .knows a) ∙ same) in rw (updated-other until o k longer q, object-off (w .tables .holders .lease) longer 0 d o d k (object-fits range ho) (object-fits range i) (λ x y. q y)) b,
+        this : (i : ℕ) → i ≡ o → Owed i
+        this i q = (rw q (updated-same (heldOf s (w .copies) d) o _), λ z. rw (q, updated-same (untilOf s (w .copies) d) o longer, at-place (at-lease d o ho) refl refl) (omega arith))
+
+        rest : (i : ℕ) → (i ≡ o → ⊥) → Held s (clocksOf (w .tables) d) v (viewGranted s (w .copies) d o long (epochAt (w .tables) v) (versionAt (w .tables) o) longer) i → Owed i
+        rest i q h =
+            let cur = sym (renew .knows a) ∙ same in
+            let c = inv .views d v hd hv .holds i (record {
+              exists = h .exists;
+              inside = h .inside;
+              copy = λ z. h .copy (updated-other (heldOf s (w .copies) d) o i _ q ∙ z);
+              alive = rw (updated-other (untilOf s (w .copies) d) o i longer q) at (h .alive);
+            }) (inr (cur, trusted i (h .exists) (h .inside))) in (
+              updated-other (heldOf s (w .copies) d) o i _ q ∙ c .0,
+              λ z. let b = c .1 cur in rw (updated-other (untilOf s (w .copies) d) o i longer q, off-place (at-lease d i (h .exists)) (λ x y. q y)) b,
             )
 
-    pub granted-keeps : Inv s (withTables w (granted s (w .tables) d o n u))
+    pub granted-keeps : Inv s (withTables w (granted s (w .tables) d o n ver))
     unfolding granted objectRenewed volumeRenewed
     granted-keeps =
-        send-grant s (withTables w (objectRenewed s (volumeRenewed s (w .tables) d v) d o)) leased d o n long (epochAt (w .tables) v) (versionAt (w .tables) o) longer (payloadFor (w .tables) o u)
-        (pushed (w .tables .queue) (granting s (w .tables) d o n u)) (λ m z. sent-pushed (w .tables .queue) _ m (shape .queue .items) z) hd
+        send s (withTables w t) leased (granting s (w .tables) d o n ver) (shape .queue .items)
         (record {
-          exists = ho;
-          header = record { reached = omega arith; taken = renew .taken; noticed = λ a. seen };
-          reached = omega arith;
-          payload = says;
-          object = renew .object;
-          unoffered = λ a b. none-offered;
-          held = names;
-          covered = covers;
+          client = hd;
+          kind = record {
+            exists = ho;
+            header = record { reached = omega arith; taken = renew .taken; noticed = λ a. seen };
+            reached = omega arith;
+            payload = says;
+            object = renew .object;
+            unoffered = λ a b. none-offered;
+            held = names;
+            covered = covers;
+          };
         })
-        (λ f i z a r. not-both (a .stands) free)
+        (λ g z. (not-acking (λ i a. a), record { acked = λ i p a b. unacknowledged i (b .0) (g .kind) a }))
+      where
+        -- nothing of the object would be acknowledged, as no write of it stands
+        unacknowledged : (i : ℕ) → o ≡ i → (g : Kind) → AckingIn s (w .tables) i g → ⊥
+        unacknowledged i q = acking-case (λ _. ⊥) (λ f u a. not-both (rw (← q) at (a .stands)) free)

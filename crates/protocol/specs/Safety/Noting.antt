@@ -1,32 +1,34 @@
 -- The server notes a request number, and makes an offer under a number that it has not seen.
-use Prim.Native.Nat.{ℕ, _+_, _<_, _≤_}
+use Prim.Native.Nat.{ℕ, _<_, _≤_}
 use native.Mathlib.Omega.{arith}
-use mathlib.Core.Bool.{true, false}
+use mathlib.Core.Bool.{true}
 use mathlib.Core.List.{List}
-use mathlib.Core.Logic.{_⊎_, ⊎-elim}
+use mathlib.Core.Logic.{⊎-elim}
 use mathlib.Core.Path.{_≡_, sym, ap, _∙_}
 use lib.ListN.{length, getD, set}
 use Rattle.laws.specs.Store.{set-at}
+use Rattle.protocol.specs.declared.message.Kind.the-variants.{Renew, Grant, Invalidate, Ack, Offer, Dropped}
 use Rattle.protocol.specs.declared.setup.Setup.{Setup}
 use Rattle.protocol.specs.Setup.{volumeOf}
-use Rattle.protocol.specs.Tables.{byVolume, seenAt, unreachableAt, offerAt, withSessions}
+use Rattle.protocol.specs.Tables.{byVolume, epochAt, seenAt, unreachableAt, offerAt, withSessions}
 use Rattle.protocol.specs.Server.{noted}
 use Rattle.protocol.specs.World.{World}
-use Rattle.protocol.specs.Ranges.{Ranges}
-use Rattle.protocol.specs.Safety.Invariant.{Inv, Stands, requestAt, Header}
-use Rattle.protocol.specs.Safety.Tools.{volume-set, volume-fits}
+use Rattle.protocol.specs.Safety.Invariant.{Inv, Stands, requestAt, Header, HeaderIn, Answers, AnswersIn}
+use Rattle.protocol.specs.Safety.Stores.{After, volume-set}
 use Rattle.protocol.specs.Safety.Replaced.{withTables}
+use Rattle.protocol.specs.Safety.Sending.{Keeps, each}
+use Rattle.protocol.specs.Ranges.{Ranges}
 
 module _ (s : Setup) (w : World) (inv : Inv s w) (d n : ℕ) (full : length (w .tables .sessions .seen) ≡ 16) (hd : d < 16)
     (new : seenAt (w .tables) d < n) (taken : n < requestAt (w .requests) d .next) where
   abbrev seen : List ℕ
   seen = set (w .tables .sessions .seen) d n
 
-  grows : (k : ℕ) → getD (w .tables .sessions .seen) k 0 ≤ getD seen k 0
-  grows k = ⊎-elim (λ a. let e = ap (λ (i : ℕ). getD (w .tables .sessions .seen) i 0) (a .0) in omega (arith, a .1)) (λ a. omega (arith, a .1)) (set-at (w .tables .sessions .seen) d n k 0 (omega arith))
+  grows : (k : ℕ) → seenAt (w .tables) k ≤ getD seen k 0
+  grows k = ⊎-elim (λ a. let e = ap (seenAt (w .tables)) (a .0) in omega (arith, a .1)) (λ a. omega (arith, a .1)) (set-at (w .tables .sessions .seen) d n k 0 (omega arith))
 
-  header : (k v i e : ℕ) → Header (w .tables .volumes .epoch) (w .tables .sessions .seen) (w .requests) k v i e → Header (w .tables .volumes .epoch) seen (w .requests) k v i e
-  header k v i e h = record { reached = h .reached; taken = h .taken; noticed = λ a. let b = h .noticed a in let c = grows k in omega arith }
+  header : (k v n′ e : ℕ) → HeaderIn (w .tables) (w .requests) k v n′ e → Header (w .tables .volumes .epoch) seen (w .requests) k v n′ e
+  header k v n′ e h = record { reached = h .reached; taken = h .taken; noticed = λ a. let b = h .noticed a in let c = grows k in omega arith }
 
   pub noted-keeps : Inv s (withTables w (noted (w .tables) d n))
   unfolding noted
@@ -42,93 +44,91 @@ module _ (s : Setup) (w : World) (inv : Inv s w) (d n : ℕ) (full : length (w .
     offers = inv .offers;
     writes = inv .writes;
     views = inv .views;
-    clients = inv .clients;
-    renews = inv .renews;
-    grants = λ k o i x e v y p z.
-        let r = inv .grants k o i x e v y p z in
-        record {
-          exists = r .exists;
-          header = header k _ i e (r .header);
-          reached = r .reached;
-          payload = r .payload;
-          object = r .object;
-          unoffered = r .unoffered;
-          held = r .held;
-          covered = r .covered;
-        };
-    invalidates = inv .invalidates;
-    acks = inv .acks;
-    erased = inv .erased;
+    messages = each inv keeps;
     pairs = inv .pairs;
-    offereds = λ k v i e z. let r = inv .offereds k v i e z in record { exists = r .exists; header = header k v i e (r .header) };
-    droppeds = λ k v i e z. let r = inv .droppeds k v i e z in record { exists = r .exists; header = header k v i e (r .header); dropped = r .dropped };
   }
+    where
+      keeps : Keeps s w (withTables w (noted (w .tables) d n))
+      keeps k (Renew o n′ e ver) z hk c = c
+      keeps k (Grant o n′ x e ver y p) z hk c = record {
+        exists = c .exists;
+        header = header k _ n′ e (c .header);
+        reached = c .reached;
+        payload = c .payload;
+        object = c .object;
+        unoffered = c .unoffered;
+        held = c .held;
+        covered = c .covered;
+      }
+      keeps k (Invalidate o e ver) z hk c = c
+      keeps k (Ack o e ver) z hk c = c
+      keeps k (Offer v n′ e) z hk c = record { exists = c .exists; header = header k v n′ e (c .header) }
+      keeps k (Dropped v n′ e) z hk c = record { exists = c .exists; header = header k v n′ e (c .header); writes = c .writes; remains = c .remains }
 
--- ---- an offer to a marked client. A message of the server's epoch has a number that the server has seen, and so neither the offer's nor the standing one
+-- ---- N1: a number above the highest seen is new. A message of the server's epoch does not have it, and the message's own number stands no more
+new-number : (s : Setup) (w : World) → Inv s w → (d n : ℕ) → d < s .clients → seenAt (w .tables) d < n → n < requestAt (w .requests) d .next
+    → (v n′ e : ℕ) → HeaderIn (w .tables) (w .requests) d v n′ e → e ≡ epochAt (w .tables) v → (n′ ≡ n → ⊥) × (Stands (w .requests) d n′ → ⊥)
+new-number s w inv d n hd new taken v n′ e h a =
+    let b = h .noticed a in
+    (λ q. omega arith, λ q. let l = inv .numbers .last d hd (q .there) in let m = q .same in omega arith)
+
+-- ---- an offer to a marked client
 module _ (s : Setup) (range : Ranges s) (w : World) (inv : Inv s w) (d v n : ℕ) (full : length (w .tables .sessions .offer) ≡ 128) (hd : d < s .clients) (hv : v < s .volumes)
     (marked : unreachableAt (w .tables) d v ≡ true) (new : seenAt (w .tables) d < n) (taken : n < requestAt (w .requests) d .next) where
   abbrev offer : List ℕ
   offer = set (w .tables .sessions .offer) (byVolume d v) n
 
-  either : (k u : ℕ) → u < s .volumes
-      → ((k ≡ d) × (u ≡ v) × (getD offer (byVolume k u) 0 ≡ n)) ⊎ ((k ≡ d → u ≡ v → ⊥) × (getD offer (byVolume k u) 0 ≡ offerAt (w .tables) k u))
-  either k u h =
-      let a = range .clients .1 in
-      volume-set (w .tables .sessions .offer) n 0 d v full (omega arith) (volume-fits range hv) k u (volume-fits range h)
+  at-offer : (k u : ℕ) → u < s .volumes → After d v k u (getD offer (byVolume k u) 0) n (offerAt (w .tables) k u)
+  at-offer k u h = volume-set range hd hv (w .tables .sessions .offer) n 0 full k u h
 
-  -- the standing request has a number above those seen
-  unseen : (k i : ℕ) → k ≡ d → Stands (w .requests) k i → n ≤ i
-  unseen k i e a =
-      let h : k < s .clients = rw e hd in
-      let l = inv .numbers .last k h (a .there) in
-      let t = ap (λ (j : ℕ). requestAt (w .requests) j .next) e in
-      let q = a .same in
-      omega arith
+  unused : (k u n′ e : ℕ) → k ≡ d → HeaderIn (w .tables) (w .requests) k u n′ e → e ≡ epochAt (w .tables) u → (n′ ≡ n → ⊥) × (Stands (w .requests) k n′ → ⊥)
+  unused k u n′ e q h a = let h′ = rw q at h in rw q (new-number s w inv d n hd new taken u n′ e h′ a)
 
-  pub offer-keeps : Inv s (withTables w (withSessions (w .tables) (record {
+  -- so no DROPPED under way answers the offer
+  answered : (k u n′ e : ℕ) → u < s .volumes → HeaderIn (w .tables) (w .requests) k u n′ e → Answers (w .tables .volumes .epoch) offer k u n′ e → AnswersIn (w .tables) k u n′ e
+  answered k u n′ e hu h a =
+      ⊎-elim (λ q. absurd (unused k u n′ e (q .0) h (a .current) .0 (sym (a .same) ∙ q .2)))
+      (λ q. record { current = a .current; nonzero = a .nonzero; same = sym (q .1) ∙ a .same }) (at-offer k u hu)
+
+  abbrev offering : World
+  offering = withTables w (withSessions (w .tables) (record {
     seen = w .tables .sessions .seen;
     expiry = w .tables .sessions .expiry;
     unreachable = w .tables .sessions .unreachable;
     offer = offer;
-  })))
+  }))
+
+  keeps : Keeps s w offering
+  keeps k (Renew o n′ e ver) z hk c = c
+  keeps k (Grant o n′ x e ver y p) z hk c = record {
+    exists = c .exists;
+    header = c .header;
+    reached = c .reached;
+    payload = c .payload;
+    object = c .object;
+    unoffered = λ a b. ⊎-elim (λ q. absurd (unused k _ n′ e (q .0) (c .header) b .1 a)) (λ q. q .1 ∙ c .unoffered a b) (at-offer k (volumeOf s o) (range .within o (c .exists)));
+    held = c .held;
+    covered = c .covered;
+  }
+  keeps k (Invalidate o e ver) z hk c = c
+  keeps k (Ack o e ver) z hk c = c
+  keeps k (Offer u n′ e) z hk c = c
+  keeps k (Dropped u n′ e) z hk c = record {
+    exists = c .exists;
+    header = c .header;
+    writes = λ a. c .writes (answered k u n′ e (c .exists) (c .header) a);
+    remains = λ a. c .remains (answered k u n′ e (c .exists) (c .header) a);
+  }
+
+  pub offer-keeps : Inv s offering
   offer-keeps = record {
     bounds = inv .bounds;
     epochs = inv .epochs;
     numbers = inv .numbers;
     versions = inv .versions;
-    offers = λ k u hk hu m. ⊎-elim (λ a. rw (a .0, a .1) marked) (λ a. inv .offers k u hk hu (λ e. m (a .1 ∙ e))) (either k u hu);
+    offers = λ k u hk hu m. ⊎-elim (λ a. rw (a .0, a .1) marked) (λ a. inv .offers k u hk hu (λ e. m (a .1 ∙ e))) (at-offer k u hu);
     writes = inv .writes;
     views = inv .views;
-    clients = inv .clients;
-    renews = inv .renews;
-    grants = λ k o i x e f y p z.
-        let r = inv .grants k o i x e f y p z in
-        record {
-          exists = r .exists;
-          header = r .header;
-          reached = r .reached;
-          payload = r .payload;
-          object = r .object;
-          unoffered = λ a b. ⊎-elim
-              (λ q. let c = r .header .noticed b in let g = unseen k i (q .0) a in let t = ap (λ (j : ℕ). seenAt (w .tables) j) (q .0) in absurd (omega arith))
-              (λ q. q .1 ∙ r .unoffered a b)
-              (either k (volumeOf s o) (range .within o (r .exists)));
-          held = r .held;
-          covered = r .covered;
-        };
-    invalidates = inv .invalidates;
-    acks = inv .acks;
-    erased = inv .erased;
+    messages = each inv keeps;
     pairs = inv .pairs;
-    offereds = inv .offereds;
-    droppeds = λ k u i e z.
-        let r = inv .droppeds k u i e z in
-        record {
-          exists = r .exists;
-          header = r .header;
-          dropped = λ a. ⊎-elim
-              (λ q. let c = r .header .noticed (a .current) in let t = ap (λ (j : ℕ). seenAt (w .tables) j) (q .0) in let g = sym (q .2) ∙ a .same in absurd (omega arith))
-              (λ q. r .dropped (record { current = a .current; nonzero = a .nonzero; same = sym (q .1) ∙ a .same }))
-              (either k u (r .exists));
-        };
   }

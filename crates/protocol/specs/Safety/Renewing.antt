@@ -1,35 +1,36 @@
 -- The server receives a RENEW, by whichever rule.
-use Prim.Native.Nat.{ℕ, _+_, _<_, _≤_}
+use Prim.Native.Nat.{ℕ, _<_, _≤_}
 use native.Mathlib.Omega.{arith}
-use mathlib.Core.Bool.{Bool, true, false, cond, not, _&&_, _||_}
+use mathlib.Core.Bool.{Bool, true, false, not, _&&_}
 use mathlib.Core.List.{List}
-use mathlib.Core.Logic.{_⊎_, inr, ⊎-elim}
+use mathlib.Core.Logic.{inr, ⊎-elim}
 use mathlib.Core.Path.{_≡_, refl, _∙_}
-use lib.Dec.{ltb, leb, eqb}
-use lib.ListN.{set, length-set}
+use lib.Dec.{ltb, eqb}
+use lib.ListN.{getD, length-set}
 use lib.Seq.{getD-set-same}
 use borrow.Author.Tests.{ltb-true, ltb-false, leb-false, eqb-true, not-false, eq-eqb}
 use Rattle.laws.specs.Choice.{not-both, cond-keeps, and-true, and-false, or-false}
 use Rattle.laws.specs.Loop.{first-found, first-missing}
+use Rattle.protocol.specs.declared.message.Kind.the-variants.{Renew}
 use Rattle.protocol.specs.declared.setup.Setup.{Setup}
 use Rattle.protocol.specs.declared.tables.Tables.{Tables}
 use Rattle.protocol.specs.Setup.{volumeOf}
-use Rattle.protocol.specs.Messages.{pushed}
-use Rattle.protocol.specs.Tables.{byVolume, epochAt, seenAt, unreachableAt, versionAt, standingAt, waitingAt, withSessions}
+use Rattle.protocol.specs.Tables.{byVolume, epochAt, seenAt, unreachableAt, standingAt, waitingAt}
 use Rattle.protocol.specs.Writes.{marked, invalidation}
 use Rattle.protocol.specs.Server.{sent, noted, offered, offering, waitedIn, lowestWaited, mustDrop, granted, renewedBy, renewed, stale, beingWritten}
 use Rattle.protocol.specs.World.{World}
 use Rattle.protocol.specs.Ranges.{Ranges}
 use Rattle.protocol.specs.Soundness.Shape.{Shape, SessionsShape}
-use Rattle.protocol.specs.Safety.Invariant.{Inv}
-use Rattle.protocol.specs.Safety.Tools.{volume-set, volume-at, sent-pushed, client-fits}
+use Rattle.protocol.specs.Safety.Invariant.{Inv, KindOk}
+use Rattle.protocol.specs.Safety.Stores.{After, at-place, volume-set, client-fits}
+use Rattle.protocol.specs.Safety.Tools.{unmarked-trusted}
 use Rattle.protocol.specs.Safety.Replaced.{withTables}
-use Rattle.protocol.specs.Safety.Marks.{marks-keep}
-use Rattle.protocol.specs.Safety.Sending.{RenewClause, send-offer, send-invalidate}
+use Rattle.protocol.specs.Safety.Marks.{marking, marks-keep}
+use Rattle.protocol.specs.Safety.Sending.{send-single}
 use Rattle.protocol.specs.Safety.Noting.{noted-keeps, offer-keeps}
 use Rattle.protocol.specs.Safety.Leasing.{granted-keeps}
 
-module _ (s : Setup) (range : Ranges s) (w : World) (inv : Inv s w) (shape : Shape (w .tables)) (d o n e u : ℕ) (hd : d < s .clients) (renew : RenewClause s w d o n e u)
+module _ (s : Setup) (range : Ranges s) (w : World) (inv : Inv s w) (shape : Shape (w .tables)) (d o n e ver : ℕ) (hd : d < s .clients) (renew : KindOk s w d (Renew o n e ver))
     (new : seenAt (w .tables) d < n) where
   abbrev v : ℕ
   v = volumeOf s o
@@ -39,9 +40,6 @@ module _ (s : Setup) (range : Ranges s) (w : World) (inv : Inv s w) (shape : Sha
 
   hv : v < s .volumes
   hv = range .within o (renew .exists)
-
-  v8 : v < 8
-  v8 = let a = range .within o (renew .exists) in let b = range .volumes .1 in omega arith
 
   abbrev t : Tables
   t = noted (w .tables) d n
@@ -57,30 +55,26 @@ module _ (s : Setup) (range : Ranges s) (w : World) (inv : Inv s w) (shape : Sha
   abbrev un : List Bool
   un = marked (w .tables .sessions .unreachable) d v
 
-  marks : Inv s (withTables w (withSessions (w .tables) (record {
-    seen = w .tables .sessions .seen;
-    expiry = w .tables .sessions .expiry;
-    unreachable = un;
-    offer = w .tables .sessions .offer;
-  })))
+  at-un : (k u : ℕ) → u < s .volumes → After d v k u (getD un (byVolume k u) false) true (unreachableAt (w .tables) k u)
+  at-un k u h = volume-set range hd hv (w .tables .sessions .unreachable) true false (shape .sessions .unreachable) k u h
+
+  marks : Inv s (marking w un)
   marks =
-      marks-keep s w un range
-      (λ k i hk hi a. ⊎-elim (λ q. q .2) (λ q. q .1 ∙ a) (volume-set (w .tables .sessions .unreachable) true false d v (shape .sessions .unreachable) (client-fits range hd) v8 k i (let b = range .volumes .1 in omega arith)))
-      inv
+      marks-keep s w un range (λ k u hk hu a. ⊎-elim (λ q. q .2) (λ q. q .1 ∙ a) (at-un k u hu)) inv
 
   offers : Inv s (withTables w (offered t d v n))
   unfolding offered noted
   offers =
       noted-keeps s _
-      (offer-keeps s range _ marks d v n (shape .sessions .offer) hd hv (volume-at (w .tables .sessions .unreachable) true false d v d v (shape .sessions .unreachable) (client-fits range hd) v8 refl refl) new (renew .taken))
+      (offer-keeps s range _ marks d v n (shape .sessions .offer) hd hv (at-place (at-un d v hv) refl refl) new (renew .taken))
       d n (shape .sessions .seen) (client-fits range hd) new (renew .taken)
 
   by-offer : Inv s (withTables w (sent (offered t d v n) (offering t d v n)))
   unfolding offered noted
   by-offer =
-      send-offer s (withTables w (offered t d v n)) offers d v n (epochAt (w .tables) v) (pushed (w .tables .queue) (offering t d v n))
-      (λ m z. sent-pushed (w .tables .queue) _ m (shape .queue .items) z) hd
-      (record { exists = hv; header = record { reached = omega arith; taken = renew .taken; noticed = λ a. seen-now } })
+      send-single s (withTables w (offered t d v n)) offers (offering t d v n) (shape .queue .items)
+      (record { client = hd; kind = record { exists = hv; header = record { reached = omega arith; taken = renew .taken; noticed = λ a. seen-now } } })
+      (λ i a. a) (λ k i b. b)
 
   -- "resend INVALIDATE for its lowest such object"
   abbrev low : ℕ
@@ -91,18 +85,18 @@ module _ (s : Setup) (range : Ranges s) (w : World) (inv : Inv s w) (shape : Sha
   by-resend h =
       let q = first-found (waitedIn s t d v) 0 (s .objects) (omega arith) in
       let a = and-true (standingAt t low) (waitingAt t d low) (and-true (eqb (volumeOf s low) v) (standingAt t low && waitingAt t d low) q .1) .0 in
-      send-invalidate s (withTables w t) noticed d low (epochAt (w .tables) (volumeOf s low)) (versionAt (w .tables) low + 1) (pushed (w .tables .queue) (invalidation s t low d))
-      (λ m z. sent-pushed (w .tables .queue) _ m (shape .queue .items) z) hd
-      (record { exists = h; reached = omega arith; recent = λ b. inr (a, omega arith) })
+      send-single s (withTables w t) noticed (invalidation s t low d) (shape .queue .items)
+      (record { client = hd; kind = record { exists = h; reached = omega arith; recent = λ b. inr (a, omega arith) } })
+      (λ i b. b) (λ k i b. b)
 
   -- "Else .. send GRANT"
-  by-grant : mustDrop t d v e ≡ false → ltb low (s .objects) ≡ false → standingAt t o ≡ false → Inv s (withTables w (granted s t d o n u))
+  by-grant : mustDrop t d v e ≡ false → ltb low (s .objects) ≡ false → standingAt t o ≡ false → Inv s (withTables w (granted s t d o n ver))
   unfolding noted mustDrop lowestWaited
   by-grant keep none free =
       let k = or-false (not (eqb e (epochAt t v))) (unreachableAt t d v) keep in
       granted-keeps s range (withTables w t) noticed
       (record { volumes = shape .volumes; sessions = noted-shape; objects = shape .objects; holders = shape .holders; views = shape .views; queue = shape .queue })
-      d o hd ho (k .1) free unwaited n e u renew (eqb-true _ _ (not-false _ (k .0))) seen-now
+      d o hd ho (k .1) free (λ i h q. unmarked-trusted _ d v i (k .1)) unwaited n e ver renew (eqb-true _ _ (not-false _ (k .0))) seen-now
     where
       noted-shape : SessionsShape (t .sessions)
       noted-shape = record {
@@ -117,7 +111,7 @@ module _ (s : Setup) (range : Ranges s) (w : World) (inv : Inv s w) (shape : Sha
           let m = first-missing (waitedIn s t d v) 0 (s .objects) (let z = ltb-false low (s .objects) none in omega arith) k (omega arith) (omega arith) in
           ⊎-elim (λ x. not-both (eq-eqb _ _ q) x) (λ x. ⊎-elim (λ y. not-both a y) (λ y. y) (and-false _ _ x)) (and-false _ _ m)
 
-  pub renewed-new : Inv s (withTables w (renewedBy s t d o n e u))
+  pub renewed-new : Inv s (withTables w (renewedBy s t d o n e ver))
   unfolding renewedBy
   renewed-new =
       cond-keeps (λ (x : Tables). Inv s (withTables w x)) (mustDrop t d v e) (λ a. by-offer)
@@ -125,8 +119,8 @@ module _ (s : Setup) (range : Ranges s) (w : World) (inv : Inv s w) (shape : Sha
       (λ b. cond-keeps (λ (x : Tables). Inv s (withTables w x)) (beingWritten t o) (λ c. noticed) (λ c. by-grant a b c)))
 
 -- "number not above the highest seen: nothing"
-pub renewed-keeps : (s : Setup) → Ranges s → (w : World) → Inv s w → Shape (w .tables) → (d o n e u : ℕ) → d < s .clients → RenewClause s w d o n e u
-    → Inv s (withTables w (renewed s (w .tables) d o n e u))
+pub renewed-keeps : (s : Setup) → Ranges s → (w : World) → Inv s w → Shape (w .tables) → (d o n e ver : ℕ) → d < s .clients → KindOk s w d (Renew o n e ver)
+    → Inv s (withTables w (renewed s (w .tables) d o n e ver))
 unfolding renewed
-renewed-keeps s range w inv shape d o n e u hd renew =
-    cond-keeps (λ (x : Tables). Inv s (withTables w x)) (stale (w .tables) d n) (λ a. inv) (λ a. renewed-new s range w inv shape d o n e u hd renew (leb-false _ _ a))
+renewed-keeps s range w inv shape d o n e ver hd renew =
+    cond-keeps (λ (x : Tables). Inv s (withTables w x)) (stale (w .tables) d n) (λ a. inv) (λ a. renewed-new s range w inv shape d o n e ver hd renew (leb-false _ _ a))

@@ -1,21 +1,24 @@
 -- The request records change: a number is taken, or the standing request ends. No message under way gets to answer a request that it did not answer before.
 use Prim.Native.Nat.{ℕ, _+_, _<_, _≤_}
 use native.Mathlib.Omega.{arith}
-use mathlib.Core.Bool.{true, false, cond, _&&_}
+use mathlib.Core.Bool.{true}
 use mathlib.Core.List.{List}
-use mathlib.Core.Logic.{_⊎_, ⊎-elim}
+use mathlib.Core.Logic.{⊎-elim}
 use mathlib.Core.Path.{_≡_, refl, ap, _∙_}
-use lib.Dec.{eqb}
 use lib.ListN.{length, set}
 use lib.Seq.{getD-set-same, getD-set-other, set-getD}
 use borrow.Author.Tests.{eq-eqb}
 use Rattle.laws.specs.Choice.{same?, cond-keeps, not-both, both-true}
+use Rattle.protocol.specs.declared.message.Kind.{Kind}
+use Rattle.protocol.specs.declared.message.Kind.the-variants.{Renew, Grant, Invalidate, Ack, Offer, Dropped}
 use Rattle.protocol.specs.declared.records.Request.{Request}
 use Rattle.protocol.specs.declared.setup.Setup.{Setup}
 use Rattle.protocol.specs.Tables.{noRequest}
 use Rattle.protocol.specs.Client.{numbered, ended, forgotten, asksFor}
 use Rattle.protocol.specs.World.{World}
-use Rattle.protocol.specs.Safety.Invariant.{Inv, Stands, requestAt, Numbers, Header}
+use Rattle.protocol.specs.Soundness.Shape.{WorldShape}
+use Rattle.protocol.specs.Safety.Invariant.{Inv, Stands, requestAt, Numbers, Header, HeaderIn, KindOk, Bringing}
+use Rattle.protocol.specs.Safety.Sending.{Keeps, each, bringing-case}
 
 abbrev pub requesting : World → List Request → World
 requesting w requests = record { tables = w .tables; copies = w .copies; requests = requests }
@@ -27,9 +30,38 @@ pub record Moves (before after : List Request) : Type 0 where
   pub object : (d n : ℕ) → n < requestAt before d .next → Stands after d n → requestAt after d .object ≡ requestAt before d .object
 
 module _ (s : Setup) (w : World) (inv : Inv s w) (requests : List Request) (moves : Moves (w .requests) requests) where
-  pub header : (d v n e : ℕ) → Header (w .tables .volumes .epoch) (w .tables .sessions .seen) (w .requests) d v n e
-      → Header (w .tables .volumes .epoch) (w .tables .sessions .seen) requests d v n e
+  pub header : (d v n e : ℕ) → HeaderIn (w .tables) (w .requests) d v n e → Header (w .tables .volumes .epoch) (w .tables .sessions .seen) requests d v n e
   header d v n e h = record { reached = h .reached; taken = omega (arith, h .taken, moves .next d); noticed = h .noticed }
+
+  keeps : Keeps s w (requesting w requests)
+  keeps d (Renew o n e ver) z hd c = record {
+    exists = c .exists;
+    reached = c .reached;
+    taken = omega (arith, c .taken, moves .next d);
+    object = λ a. moves .object d n (c .taken) a ∙ c .object (moves .stands d n (c .taken) a);
+    knows = λ a. c .knows (moves .stands d n (c .taken) a);
+    held = λ a. c .held (moves .stands d n (c .taken) a);
+  }
+  keeps d (Grant o n x e ver y p) z hd c =
+      let b : Stands requests d n → Stands (w .requests) d n = moves .stands d n (c .header .taken) in
+      record {
+        exists = c .exists;
+        header = header d _ n e (c .header);
+        reached = c .reached;
+        payload = c .payload;
+        object = λ a. moves .object d n (c .header .taken) a ∙ c .object (b a);
+        unoffered = λ a. c .unoffered (b a);
+        held = λ a. c .held (b a);
+        covered = λ a. c .covered (b a);
+      }
+  keeps d (Invalidate o e ver) z hd c = c
+  keeps d (Ack o e ver) z hd c = c
+  keeps d (Offer v n e) z hd c = record { exists = c .exists; header = header d v n e (c .header) }
+  keeps d (Dropped v n e) z hd c = record { exists = c .exists; header = header d v n e (c .header); writes = c .writes; remains = c .remains }
+
+  -- no GRANT gets to bring what it did not before
+  brought : (d o : ℕ) (g : Kind) → KindOk s w d g → Bringing requests d o g → Bringing (w .requests) d o g
+  brought d o g c b = bringing-case (λ (h : Kind). KindOk s w d h → Bringing (w .requests) d o h) (λ n x e ver y p a h. (refl, moves .stands d n (h .header .taken) a)) g b c
 
   pub moved : Numbers s (w .tables .sessions .seen) requests → Inv s (requesting w requests)
   moved numbers = record {
@@ -40,39 +72,15 @@ module _ (s : Setup) (w : World) (inv : Inv s w) (requests : List Request) (move
     offers = inv .offers;
     writes = inv .writes;
     views = inv .views;
-    clients = inv .clients;
-    renews = λ d o n e v z.
-        let r = inv .renews d o n e v z in
-        record {
-          exists = r .exists;
-          reached = r .reached;
-          taken = omega (arith, r .taken, moves .next d);
-          object = λ a. moves .object d n (r .taken) a ∙ r .object (moves .stands d n (r .taken) a);
-          knows = λ a. r .knows (moves .stands d n (r .taken) a);
-          held = λ a. r .held (moves .stands d n (r .taken) a);
-        };
-    grants = λ d o n x e v y p z.
-        let r = inv .grants d o n x e v y p z in
-        let b : Stands requests d n → Stands (w .requests) d n = moves .stands d n (r .header .taken) in
-        record {
-          exists = r .exists;
-          header = header d _ n e (r .header);
-          reached = r .reached;
-          payload = r .payload;
-          object = λ a. moves .object d n (r .header .taken) a ∙ r .object (b a);
-          unoffered = λ a. r .unoffered (b a);
-          held = λ a. r .held (b a);
-          covered = λ a. r .covered (b a);
-        };
-    invalidates = inv .invalidates;
-    acks = inv .acks;
-    erased = inv .erased;
-    pairs = λ d o e v n x f u y p a g h r. inv .pairs d o e v n x f u y p a g h (moves .stands d n (inv .grants d o n x f u y p g .header .taken) r);
-    offereds = λ d v n e z. let r = inv .offereds d v n e z in record { exists = r .exists; header = header d v n e (r .header) };
-    droppeds = λ d v n e z. let r = inv .droppeds d v n e z in record { exists = r .exists; header = header d v n e (r .header); dropped = r .dropped };
+    messages = each inv keeps;
+    pairs = λ m g a b. record { acked = λ o e k r. inv .pairs m g a b .acked o e k (brought (g .client) o (g .kind) (inv .messages g b .kind) r) };
   }
 
 -- ---- one record replaced
+
+pub has-record : {s : Setup} {w : World} {d : ℕ} → WorldShape s w → d < s .clients → d < length (w .requests)
+has-record shape hd = rw (shape .requests) hd
+
 module _ (requests : List Request) (d : ℕ) (here : d < length requests) where
   abbrev pub with-record : Request → List Request
   with-record r = set requests d r

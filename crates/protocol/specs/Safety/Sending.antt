@@ -1,67 +1,89 @@
 -- The message list changes: a message is lost, doubled or sent. It enters only through what is in it.
-use Prim.Native.Nat.{ℕ, _+_, _<_, _≤_}
-use native.Mathlib.Omega.{arith}
-use mathlib.Core.Bool.{true, false}
-use mathlib.Core.Logic.{_⊎_, ⊎-elim}
-use mathlib.Core.Path.{_≡_, sym, ap, _∙_}
+use Prim.Native.Nat.{ℕ, _<_, _≤_}
+use mathlib.Core.List.{List}
+use mathlib.Core.Bool.{Bool}
+use mathlib.Core.Logic.{_⊎_, inl, inr, ⊎-elim}
+use mathlib.Core.Path.{_≡_, refl}
 use lib.ListN.{length}
 use Rattle.protocol.specs.declared.message.Message.{Message}
 use Rattle.protocol.specs.declared.message.Queue.{Queue}
 use Rattle.protocol.specs.declared.message.Payload.{Payload}
 use Rattle.protocol.specs.declared.message.Kind.{Kind}
 use Rattle.protocol.specs.declared.message.Kind.the-variants.{Renew, Grant, Invalidate, Ack, Offer, Dropped}
+use Rattle.protocol.specs.declared.records.Request.{Request}
 use Rattle.protocol.specs.declared.setup.Setup.{Setup}
-use Rattle.protocol.specs.Messages.{messageAt, removed, doubled}
+use Rattle.protocol.specs.Messages.{messageAt, pushed, removed, doubled}
 use Rattle.protocol.specs.Tables.{withQueue}
 use Rattle.protocol.specs.World.{World}
-use Rattle.protocol.specs.Safety.Invariant.{Inv, Sent, Stands, from, copyAt, RenewOk, GrantOk, InvalidateOk, Acknowledges, OfferOk, DroppedOk}
+use Rattle.protocol.specs.Safety.Invariant.{Inv, Sent, Stands, from, Acknowledges, KindOk, MessageOk, Acking, Bringing, PairOk, AcknowledgesIn, AckingIn, PairIn}
 use Rattle.protocol.specs.Safety.Tools.{sent-pushed, sent-removed, sent-at}
 
 abbrev pub listing : World → Queue → World
 listing w q = record { tables = withQueue (w .tables) q; copies = w .copies; requests = w .requests }
 
--- the kinds by number: no message is of two
-abbrev kindNumber : Kind → ℕ
-kindNumber (Renew o n e w) = 1
-kindNumber (Grant o n x e w y p) = 2
-kindNumber (Invalidate o e w) = 3
-kindNumber (Ack o e w) = 4
-kindNumber (Offer v n e) = 5
-kindNumber (Dropped v n e) = 6
+-- ---- a change of anything else keeps the clause of each message if it keeps that of each kind
 
-abbrev number : Message → ℕ
-number m = kindNumber (m .kind)
+abbrev pub Keeps : Setup → World → World → Type 0
+Keeps s w w′ = (d : ℕ) (g : Kind) → Sent (w .tables .queue) (from d g) → d < s .clients → KindOk s w d g → KindOk s w′ d g
 
-clash : {A : Type 0} (k m : Message) → (number k ≡ number m → ⊥) → k ≡ m → A
-clash k m h e = absurd (h (ap number e))
+pub each : {s : Setup} {w w′ : World} → Inv s w → Keeps s w w′ → (m : Message) → Sent (w .tables .queue) m → MessageOk s w′ m
+each inv keeps m z = let c = inv .messages m z in record { client = c .client; kind = keeps (m .client) (m .kind) z (c .client) (c .kind) }
 
--- ---- what the clauses say of a message, as its sender has to show it
-module _ (s : Setup) (w : World) where
-  abbrev pub RenewClause : (d o n e v : ℕ) → Type 0
-  RenewClause d o n e v = RenewOk s (w .tables .volumes .epoch) (w .tables .views .epoch) (w .copies) (w .requests) d o n e v
+-- the message list is read by no clause of a kind
+unlisted : (s : Setup) (w : World) (q : Queue) (d : ℕ) (g : Kind) → KindOk s w d g → KindOk s (listing w q) d g
+unlisted s w q d (Renew o n e ver) c = c
+unlisted s w q d (Grant o n x e ver y p) c = c
+unlisted s w q d (Invalidate o e ver) c = c
+unlisted s w q d (Ack o e ver) c = c
+unlisted s w q d (Offer v n e) c = c
+unlisted s w q d (Dropped v n e) c = c
 
-  abbrev pub GrantClause : (d o n x e v y : ℕ) → (p : Payload) → Type 0
-  GrantClause d o n x e v y p = GrantOk s (w .tables .clock) (w .tables .volumes .epoch) (w .tables .volumes .guard) (w .tables .sessions .seen) (w .tables .sessions .expiry) (w .tables .sessions .unreachable) (w .tables .sessions .offer) (w .tables .objects .value) (w .tables .objects .version) (w .tables .holders .lease) (w .copies) (w .requests) d o n x e v y p
+-- ---- each two messages
 
-  abbrev pub InvalidateClause : (d o e v : ℕ) → Type 0
-  InvalidateClause d o e v = InvalidateOk s (w .tables .volumes .epoch) (w .tables .objects .version) (w .tables .objects .standing) o e v
+-- what would be acknowledged is so by an ACK, and what can be brought by a GRANT
+pub acking-case : {s : Setup} {epoch version : List ℕ} {standing : List Bool} {o : ℕ} (P : Kind → Type 0) → ((e ver : ℕ) → Acknowledges s epoch version standing o e ver → P (Ack o e ver))
+    → (g : Kind) → Acking s epoch version standing o g → P g
+acking-case P f (Renew i n e ver) a = absurd a
+acking-case P f (Grant i n x e ver y p) a = absurd a
+acking-case P f (Invalidate i e ver) a = absurd a
+acking-case P f (Ack i e ver) a = rw (a .0) (f e ver (rw (a .0) at (a .1)))
+acking-case P f (Offer v n e) a = absurd a
+acking-case P f (Dropped v n e) a = absurd a
 
-  abbrev pub AckClause : (d o e v : ℕ) → Type 0
-  AckClause d o e v = InvalidateOk s (w .tables .volumes .epoch) (w .tables .objects .version) (w .tables .objects .standing) o e v
+pub bringing-case : {requests : List Request} {d o : ℕ} (P : Kind → Type 0) → ((n x e ver y : ℕ) (p : Payload) → Stands requests d n → P (Grant o n x e ver y p))
+    → (g : Kind) → Bringing requests d o g → P g
+bringing-case P f (Renew i n e ver) a = absurd a
+bringing-case P f (Grant i n x e ver y p) a = rw (a .0) (f n x e ver y p (a .1))
+bringing-case P f (Invalidate i e ver) a = absurd a
+bringing-case P f (Ack i e ver) a = absurd a
+bringing-case P f (Offer v n e) a = absurd a
+bringing-case P f (Dropped v n e) a = absurd a
 
-  abbrev pub OfferClause : (d v n e : ℕ) → Type 0
-  OfferClause d v n e = OfferOk s (w .tables .volumes .epoch) (w .tables .sessions .seen) (w .requests) d v n e
+-- an ACK that would be taken now would have been before
+pub acked-before : (s : Setup) (w : World) (epoch version : List ℕ) (standing : List Bool) → Inv s w
+    → ((d o e ver : ℕ) → KindOk s w d (Ack o e ver) → Acknowledges s epoch version standing o e ver → AcknowledgesIn s (w .tables) o e ver)
+    → (m g : Message) → Sent (w .tables .queue) m → Sent (w .tables .queue) g → PairOk s epoch version standing (w .requests) m g
+acked-before s w epoch version standing inv before m g a b = record {
+  acked = λ o e k r. inv .pairs m g a b .acked o e (acking-case (λ (h : Kind). KindOk s w (m .client) h → AckingIn s (w .tables) o h) (λ f ver l c. (refl, before _ o f ver c l)) (m .kind) k (inv .messages m a .kind)) r;
+}
 
-  abbrev pub DroppedClause : (d v n e : ℕ) → Type 0
-  DroppedClause d v n e = DroppedOk s (w .tables .clock) (w .tables .volumes .epoch) (w .tables .sessions .seen) (w .tables .sessions .offer) (w .tables .views .epoch) (w .tables .views .expiry) (w .copies) (w .requests) d v n e
+-- a message that is no ACK, and one that is no GRANT
+pub not-acking : {s : Setup} {epoch version : List ℕ} {standing : List Bool} {requests : List Request} {m g : Message} → ((o : ℕ) → Acking s epoch version standing o (m .kind) → ⊥)
+    → PairOk s epoch version standing requests m g
+not-acking h = record { acked = λ o e a b. h o a }
 
-  abbrev pub Erased : (d o e v : ℕ) → Type 0
-  Erased d o e v = Acknowledges s (w .tables .volumes .epoch) (w .tables .objects .version) (w .tables .objects .standing) o e v → copyAt s (w .copies) d o .version ≡ 0
+pub not-bringing : {s : Setup} {epoch version : List ℕ} {standing : List Bool} {requests : List Request} {m g : Message} → ((d o : ℕ) → Bringing requests d o (g .kind) → ⊥)
+    → PairOk s epoch version standing requests m g
+not-bringing h = record { acked = λ o e a b. h _ o b }
+
+-- no message is in its own way
+itself : (s : Setup) (w : World) (m : Message) → PairIn s w m m
+itself s w m = record { acked = λ o e a b. acking-case (λ (h : Kind). Bringing (w .requests) (m .client) o h → ⊥) (λ f ver l r. r) (m .kind) a b }
 
 module _ (s : Setup) (w : World) (inv : Inv s w) where
-  -- no new message
-  pub fewer : (q : Queue) → ((m : Message) → Sent q m → Sent (w .tables .queue) m) → Inv s (listing w q)
-  fewer q f = record {
+  -- the messages of q have their clauses and their pairs
+  listed : (q : Queue) → ((m : Message) → Sent q m → MessageOk s w m) → ((m g : Message) → Sent q m → Sent q g → PairIn s w m g) → Inv s (listing w q)
+  listed q messages pairs = record {
     bounds = inv .bounds;
     epochs = inv .epochs;
     numbers = inv .numbers;
@@ -69,16 +91,13 @@ module _ (s : Setup) (w : World) (inv : Inv s w) where
     offers = inv .offers;
     writes = inv .writes;
     views = inv .views;
-    clients = λ m z. inv .clients m (f m z);
-    renews = λ d o n e v z. inv .renews d o n e v (f _ z);
-    grants = λ d o n x e v y p z. inv .grants d o n x e v y p (f _ z);
-    invalidates = λ d o e v z. inv .invalidates d o e v (f _ z);
-    acks = λ d o e v z. inv .acks d o e v (f _ z);
-    erased = λ d o e v z. inv .erased d o e v (f _ z);
-    offereds = λ d v n e z. inv .offereds d v n e (f _ z);
-    droppeds = λ d v n e z. inv .droppeds d v n e (f _ z);
-    pairs = λ d o e v n x f′ u y p a g. inv .pairs d o e v n x f′ u y p (f _ a) (f _ g);
+    messages = λ m z. let c = messages m z in record { client = c .client; kind = unlisted s w q (m .client) (m .kind) (c .kind) };
+    pairs = pairs;
   }
+
+  -- no new message
+  fewer : (q : Queue) → ((m : Message) → Sent q m → Sent (w .tables .queue) m) → Inv s (listing w q)
+  fewer q f = listed q (λ m z. inv .messages m (f m z)) (λ m g a b. inv .pairs m g (f m a) (f g b))
 
   pub lost : (i : ℕ) → length (w .tables .queue .items) ≡ 64 → w .tables .queue .len ≤ 64 → i < w .tables .queue .len → Inv s (listing w (removed (w .tables .queue) i))
   lost i n k h = fewer (removed (w .tables .queue) i) (λ m z. sent-removed (w .tables .queue) i m n k h z)
@@ -89,156 +108,24 @@ module _ (s : Setup) (w : World) (inv : Inv s w) where
       (λ m z. ⊎-elim (λ a. a) (λ e. rw e (sent-at (w .tables .queue) i h)) (sent-pushed (w .tables .queue) (messageAt (w .tables .queue) i) m n z))
 
   -- one new message, which meets its clause and its pairs
-  module _ (m : Message) (q : Queue) (split : (k : Message) → Sent q k → Sent (w .tables .queue) k ⊎ (k ≡ m)) where
-    send : m .client < s .clients
-        → ((d o n e v : ℕ) → from d (Renew o n e v) ≡ m → RenewClause s w d o n e v)
-        → ((d o n x e v y : ℕ) (p : Payload) → from d (Grant o n x e v y p) ≡ m → GrantClause s w d o n x e v y p)
-        → ((d o e v : ℕ) → from d (Invalidate o e v) ≡ m → InvalidateClause s w d o e v)
-        → ((d o e v : ℕ) → from d (Ack o e v) ≡ m → AckClause s w d o e v)
-        → ((d o e v : ℕ) → from d (Ack o e v) ≡ m → Erased s w d o e v)
-        → ((d v n e : ℕ) → from d (Offer v n e) ≡ m → OfferClause s w d v n e)
-        → ((d v n e : ℕ) → from d (Dropped v n e) ≡ m → DroppedClause s w d v n e)
-        → ((d o e v n x f u y : ℕ) (p : Payload) → from d (Ack o e v) ≡ m → Sent (w .tables .queue) (from d (Grant o n x f u y p)) → Acknowledges s (w .tables .volumes .epoch) (w .tables .objects .version) (w .tables .objects .standing) o e v → Stands (w .requests) d n → ⊥)
-        → ((d o e v n x f u y : ℕ) (p : Payload) → Sent (w .tables .queue) (from d (Ack o e v)) → from d (Grant o n x f u y p) ≡ m → Acknowledges s (w .tables .volumes .epoch) (w .tables .objects .version) (w .tables .objects .standing) o e v → Stands (w .requests) d n → ⊥)
-        → Inv s (listing w q)
-    send here renew grant invalidate ack erase offer drop new-ack new-grant = record {
-      bounds = inv .bounds;
-      epochs = inv .epochs;
-      numbers = inv .numbers;
-      versions = inv .versions;
-      offers = inv .offers;
-      writes = inv .writes;
-      views = inv .views;
-      clients = λ k z. ⊎-elim (λ a. inv .clients k a) (λ e. rw e here) (split k z);
-      renews = λ d o n e v z. ⊎-elim (λ a. inv .renews d o n e v a) (λ h. renew d o n e v h) (split _ z);
-      grants = λ d o n x e v y p z. ⊎-elim (λ a. inv .grants d o n x e v y p a) (λ h. grant d o n x e v y p h) (split _ z);
-      invalidates = λ d o e v z. ⊎-elim (λ a. inv .invalidates d o e v a) (λ h. invalidate d o e v h) (split _ z);
-      acks = λ d o e v z. ⊎-elim (λ a. inv .acks d o e v a) (λ h. ack d o e v h) (split _ z);
-      erased = λ d o e v z. ⊎-elim (λ a. inv .erased d o e v a) (λ h. erase d o e v h) (split _ z);
-      offereds = λ d v n e z. ⊎-elim (λ a. inv .offereds d v n e a) (λ h. offer d v n e h) (split _ z);
-      droppeds = λ d v n e z. ⊎-elim (λ a. inv .droppeds d v n e a) (λ h. drop d v n e h) (split _ z);
-      pairs = λ d o e v n x f u y p a g h r.
-          ⊎-elim
-          (λ i. ⊎-elim (λ j. inv .pairs d o e v n x f u y p i j h r) (λ j. new-grant d o e v n x f u y p i j h r) (split _ g))
-          (λ i. ⊎-elim (λ j. new-ack d o e v n x f u y p i j h r) (λ j. clash (from d (Ack o e v)) (from d (Grant o n x f u y p)) (λ z. omega arith) (i ∙ sym j)) (split _ g))
-          (split _ a);
-    }
+  pub send : (m : Message) → length (w .tables .queue .items) ≡ 64 → MessageOk s w m → ((g : Message) → Sent (w .tables .queue) g → PairIn s w m g × PairIn s w g m)
+      → Inv s (listing w (pushed (w .tables .queue) m))
+  send m n ok pairs =
+      listed (pushed (w .tables .queue) m) (λ g z. clause g (sent-pushed (w .tables .queue) m g n z))
+      (λ g g′ a b. pair g g′ (sent-pushed (w .tables .queue) m g n a) (sent-pushed (w .tables .queue) m g′ n b))
+    where
+      clause : (g : Message) → Sent (w .tables .queue) g ⊎ (g ≡ m) → MessageOk s w g
+      clause g (inl z) = inv .messages g z
+      clause g (inr e) = rw e ok
 
-  abbrev Splits : Message → Queue → Type 0
-  Splits m q = (k : Message) → Sent q k → Sent (w .tables .queue) k ⊎ (k ≡ m)
+      pair : (g g′ : Message) → Sent (w .tables .queue) g ⊎ (g ≡ m) → Sent (w .tables .queue) g′ ⊎ (g′ ≡ m) → PairIn s w g g′
+      pair g g′ (inl a) (inl b) = inv .pairs g g′ a b
+      pair g g′ (inl a) (inr e) = rw e (pairs g a .1)
+      pair g g′ (inr e) (inl b) = rw e (pairs g′ b .0)
+      pair g g′ (inr e) (inr f) = rw (e, f) (itself s w m)
 
-  pub send-renew : (d₀ o₀ n₀ e₀ v₀ : ℕ) (q : Queue) → Splits (from d₀ (Renew o₀ n₀ e₀ v₀)) q → d₀ < s .clients → RenewClause s w d₀ o₀ n₀ e₀ v₀ → Inv s (listing w q)
-  send-renew d₀ o₀ n₀ e₀ v₀ q split here ok =
-      send (from d₀ (Renew o₀ n₀ e₀ v₀)) q split here
-      (λ d o n e v h.
-      let hd = ap (λ (m : Message). m .client) h in
-      let hk : _≡_ {A = Kind} (Renew o n e v) (Renew o₀ n₀ e₀ v₀) = ap (λ (m : Message). m .kind) h in
-      let ho : o ≡ o₀ = cc in let hn : n ≡ n₀ = cc in let he : e ≡ e₀ = cc in let hv : v ≡ v₀ = cc in
-      rw (hd, ho, hn, he, hv) ok)
-      (λ d o n x e v y p h. clash (from d (Grant o n x e v y p)) _ (λ z. omega arith) h)
-      (λ d o e v h. clash (from d (Invalidate o e v)) _ (λ z. omega arith) h)
-      (λ d o e v h. clash (from d (Ack o e v)) _ (λ z. omega arith) h)
-      (λ d o e v h. clash (from d (Ack o e v)) _ (λ z. omega arith) h)
-      (λ d v n e h. clash (from d (Offer v n e)) _ (λ z. omega arith) h)
-      (λ d v n e h. clash (from d (Dropped v n e)) _ (λ z. omega arith) h)
-      (λ d o e v n x f u y p h g a r. clash (from d (Ack o e v)) _ (λ z. omega arith) h)
-      (λ d o e v n x f u y p i h a r. clash (from d (Grant o n x f u y p)) _ (λ z. omega arith) h)
-
-  pub send-grant : (d₀ o₀ n₀ x₀ e₀ v₀ y₀ : ℕ) (p₀ : Payload) (q : Queue) → Splits (from d₀ (Grant o₀ n₀ x₀ e₀ v₀ y₀ p₀)) q → d₀ < s .clients → GrantClause s w d₀ o₀ n₀ x₀ e₀ v₀ y₀ p₀
-      → ((e v : ℕ) → Sent (w .tables .queue) (from d₀ (Ack o₀ e v)) → Acknowledges s (w .tables .volumes .epoch) (w .tables .objects .version) (w .tables .objects .standing) o₀ e v → Stands (w .requests) d₀ n₀ → ⊥) → Inv s (listing w q)
-  send-grant d₀ o₀ n₀ x₀ e₀ v₀ y₀ p₀ q split here ok alone =
-      send (from d₀ (Grant o₀ n₀ x₀ e₀ v₀ y₀ p₀)) q split here
-      (λ d o n e v h. clash (from d (Renew o n e v)) _ (λ z. omega arith) h)
-      (λ d o n x e v y p h.
-      let hd = ap (λ (m : Message). m .client) h in
-      let hk : _≡_ {A = Kind} (Grant o n x e v y p) (Grant o₀ n₀ x₀ e₀ v₀ y₀ p₀) = ap (λ (m : Message). m .kind) h in
-      let ho : o ≡ o₀ = cc in let hn : n ≡ n₀ = cc in let hx : x ≡ x₀ = cc in let he : e ≡ e₀ = cc in let hv : v ≡ v₀ = cc in let hy : y ≡ y₀ = cc in let hp : p ≡ p₀ = cc in
-      rw (hd, ho, hn, hx, he, hv, hy, hp) ok)
-      (λ d o e v h. clash (from d (Invalidate o e v)) _ (λ z. omega arith) h)
-      (λ d o e v h. clash (from d (Ack o e v)) _ (λ z. omega arith) h)
-      (λ d o e v h. clash (from d (Ack o e v)) _ (λ z. omega arith) h)
-      (λ d v n e h. clash (from d (Offer v n e)) _ (λ z. omega arith) h)
-      (λ d v n e h. clash (from d (Dropped v n e)) _ (λ z. omega arith) h)
-      (λ d o e v n x f u y p h g a r. clash (from d (Ack o e v)) _ (λ z. omega arith) h)
-      (λ d o e v n x f u y p i h a r.
-      let hd = ap (λ (m : Message). m .client) h in
-      let hk : _≡_ {A = Kind} (Grant o n x f u y p) (Grant o₀ n₀ x₀ e₀ v₀ y₀ p₀) = ap (λ (m : Message). m .kind) h in
-      let ho : o ≡ o₀ = cc in let hn : n ≡ n₀ = cc in
-      alone e v (rw (hd, ho) at i) (rw ho at a) (rw (hd, hn) at r))
-
-  pub send-invalidate : (d₀ o₀ e₀ v₀ : ℕ) (q : Queue) → Splits (from d₀ (Invalidate o₀ e₀ v₀)) q → d₀ < s .clients → InvalidateClause s w d₀ o₀ e₀ v₀ → Inv s (listing w q)
-  send-invalidate d₀ o₀ e₀ v₀ q split here ok =
-      send (from d₀ (Invalidate o₀ e₀ v₀)) q split here
-      (λ d o n e v h. clash (from d (Renew o n e v)) _ (λ z. omega arith) h)
-      (λ d o n x e v y p h. clash (from d (Grant o n x e v y p)) _ (λ z. omega arith) h)
-      (λ d o e v h.
-      let hd = ap (λ (m : Message). m .client) h in
-      let hk : _≡_ {A = Kind} (Invalidate o e v) (Invalidate o₀ e₀ v₀) = ap (λ (m : Message). m .kind) h in
-      let ho : o ≡ o₀ = cc in let he : e ≡ e₀ = cc in let hv : v ≡ v₀ = cc in
-      rw (ho, he, hv) ok)
-      (λ d o e v h. clash (from d (Ack o e v)) _ (λ z. omega arith) h)
-      (λ d o e v h. clash (from d (Ack o e v)) _ (λ z. omega arith) h)
-      (λ d v n e h. clash (from d (Offer v n e)) _ (λ z. omega arith) h)
-      (λ d v n e h. clash (from d (Dropped v n e)) _ (λ z. omega arith) h)
-      (λ d o e v n x f u y p h g a r. clash (from d (Ack o e v)) _ (λ z. omega arith) h)
-      (λ d o e v n x f u y p i h a r. clash (from d (Grant o n x f u y p)) _ (λ z. omega arith) h)
-
-  pub send-ack : (d₀ o₀ e₀ v₀ : ℕ) (q : Queue) → Splits (from d₀ (Ack o₀ e₀ v₀)) q → d₀ < s .clients → AckClause s w d₀ o₀ e₀ v₀ → Erased s w d₀ o₀ e₀ v₀
-      → ((n x f u y : ℕ) (p : Payload) → Sent (w .tables .queue) (from d₀ (Grant o₀ n x f u y p)) → Acknowledges s (w .tables .volumes .epoch) (w .tables .objects .version) (w .tables .objects .standing) o₀ e₀ v₀ → Stands (w .requests) d₀ n → ⊥) → Inv s (listing w q)
-  send-ack d₀ o₀ e₀ v₀ q split here ok gone alone =
-      send (from d₀ (Ack o₀ e₀ v₀)) q split here
-      (λ d o n e v h. clash (from d (Renew o n e v)) _ (λ z. omega arith) h)
-      (λ d o n x e v y p h. clash (from d (Grant o n x e v y p)) _ (λ z. omega arith) h)
-      (λ d o e v h. clash (from d (Invalidate o e v)) _ (λ z. omega arith) h)
-      (λ d o e v h.
-      let hd = ap (λ (m : Message). m .client) h in
-      let hk : _≡_ {A = Kind} (Ack o e v) (Ack o₀ e₀ v₀) = ap (λ (m : Message). m .kind) h in
-      let ho : o ≡ o₀ = cc in let he : e ≡ e₀ = cc in let hv : v ≡ v₀ = cc in
-      rw (ho, he, hv) ok)
-      (λ d o e v h.
-      let hd = ap (λ (m : Message). m .client) h in
-      let hk : _≡_ {A = Kind} (Ack o e v) (Ack o₀ e₀ v₀) = ap (λ (m : Message). m .kind) h in
-      let ho : o ≡ o₀ = cc in let he : e ≡ e₀ = cc in let hv : v ≡ v₀ = cc in
-      rw (hd, ho, he, hv) gone)
-      (λ d v n e h. clash (from d (Offer v n e)) _ (λ z. omega arith) h)
-      (λ d v n e h. clash (from d (Dropped v n e)) _ (λ z. omega arith) h)
-      (λ d o e v n x f u y p h g a r.
-      let hd = ap (λ (m : Message). m .client) h in
-      let hk : _≡_ {A = Kind} (Ack o e v) (Ack o₀ e₀ v₀) = ap (λ (m : Message). m .kind) h in
-      let ho : o ≡ o₀ = cc in let he : e ≡ e₀ = cc in let hv : v ≡ v₀ = cc in
-      alone n x f u y p (rw (hd, ho) at g) (rw (ho, he, hv) at a) (rw hd at r))
-      (λ d o e v n x f u y p i h a r. clash (from d (Grant o n x f u y p)) _ (λ z. omega arith) h)
-
-  pub send-offer : (d₀ v₀ n₀ e₀ : ℕ) (q : Queue) → Splits (from d₀ (Offer v₀ n₀ e₀)) q → d₀ < s .clients → OfferClause s w d₀ v₀ n₀ e₀ → Inv s (listing w q)
-  send-offer d₀ v₀ n₀ e₀ q split here ok =
-      send (from d₀ (Offer v₀ n₀ e₀)) q split here
-      (λ d o n e v h. clash (from d (Renew o n e v)) _ (λ z. omega arith) h)
-      (λ d o n x e v y p h. clash (from d (Grant o n x e v y p)) _ (λ z. omega arith) h)
-      (λ d o e v h. clash (from d (Invalidate o e v)) _ (λ z. omega arith) h)
-      (λ d o e v h. clash (from d (Ack o e v)) _ (λ z. omega arith) h)
-      (λ d o e v h. clash (from d (Ack o e v)) _ (λ z. omega arith) h)
-      (λ d v n e h.
-      let hd = ap (λ (m : Message). m .client) h in
-      let hk : _≡_ {A = Kind} (Offer v n e) (Offer v₀ n₀ e₀) = ap (λ (m : Message). m .kind) h in
-      let hv : v ≡ v₀ = cc in let hn : n ≡ n₀ = cc in let he : e ≡ e₀ = cc in
-      rw (hd, hv, hn, he) ok)
-      (λ d v n e h. clash (from d (Dropped v n e)) _ (λ z. omega arith) h)
-      (λ d o e v n x f u y p h g a r. clash (from d (Ack o e v)) _ (λ z. omega arith) h)
-      (λ d o e v n x f u y p i h a r. clash (from d (Grant o n x f u y p)) _ (λ z. omega arith) h)
-
-  pub send-dropped : (d₀ v₀ n₀ e₀ : ℕ) (q : Queue) → Splits (from d₀ (Dropped v₀ n₀ e₀)) q → d₀ < s .clients → DroppedClause s w d₀ v₀ n₀ e₀ → Inv s (listing w q)
-  send-dropped d₀ v₀ n₀ e₀ q split here ok =
-      send (from d₀ (Dropped v₀ n₀ e₀)) q split here
-      (λ d o n e v h. clash (from d (Renew o n e v)) _ (λ z. omega arith) h)
-      (λ d o n x e v y p h. clash (from d (Grant o n x e v y p)) _ (λ z. omega arith) h)
-      (λ d o e v h. clash (from d (Invalidate o e v)) _ (λ z. omega arith) h)
-      (λ d o e v h. clash (from d (Ack o e v)) _ (λ z. omega arith) h)
-      (λ d o e v h. clash (from d (Ack o e v)) _ (λ z. omega arith) h)
-      (λ d v n e h. clash (from d (Offer v n e)) _ (λ z. omega arith) h)
-      (λ d v n e h.
-      let hd = ap (λ (m : Message). m .client) h in
-      let hk : _≡_ {A = Kind} (Dropped v n e) (Dropped v₀ n₀ e₀) = ap (λ (m : Message). m .kind) h in
-      let hv : v ≡ v₀ = cc in let hn : n ≡ n₀ = cc in let he : e ≡ e₀ = cc in
-      rw (hd, hv, hn, he) ok)
-      (λ d o e v n x f u y p h g a r. clash (from d (Ack o e v)) _ (λ z. omega arith) h)
-      (λ d o e v n x f u y p i h a r. clash (from d (Grant o n x f u y p)) _ (λ z. omega arith) h)
+  -- .. where it is neither an ACK nor a GRANT
+  pub send-single : (m : Message) → length (w .tables .queue .items) ≡ 64 → MessageOk s w m
+      → ((o : ℕ) → AckingIn s (w .tables) o (m .kind) → ⊥) → ((d o : ℕ) → Bringing (w .requests) d o (m .kind) → ⊥)
+      → Inv s (listing w (pushed (w .tables .queue) m))
+  send-single m n ok a b = send m n ok (λ g z. (not-acking a, not-bringing b))

@@ -18,6 +18,7 @@ use Rattle.protocol.specs.Ranges.{Ranges}
 use Rattle.protocol.specs.Soundness.Shape.{Shape}
 use Rattle.protocol.specs.Soundness.ShapeKept.{completed-shape}
 use Rattle.protocol.specs.Safety.Invariant.{Inv}
+use Rattle.protocol.specs.Safety.Tools.{passed-dead}
 use Rattle.protocol.specs.Safety.Replaced.{withTables}
 use Rattle.protocol.specs.Safety.Completing.{Completes, completed-keeps}
 
@@ -27,16 +28,16 @@ Admits s test = (t : Tables) (o : ℕ) → test t o ≡ true → (standingAt t o
 
 -- "no waiting dash and clock at or past guard"
 unhindered : (s : Setup) (t : Tables) (o : ℕ) → (not (waited s t o) && guardPassed t (volumeOf s o)) ≡ true → Completes s t o
-unfolding waited guardPassed
+unfolding waited
 unhindered s t o e =
-    let w = and-true _ _ e in
-    inl (none-each (λ (d : ℕ). waitingAt t d o) (s .clients) (not-true _ (w .0)), not-true _ (w .1))
+    let a = and-true _ _ e in
+    inl (none-each (λ (d : ℕ). waitingAt t d o) (s .clients) (not-true _ (a .0)), passed-dead t (volumeOf s o) (a .1))
 
 pub ready-admits : (s : Setup) → Admits s (ready s)
 unfolding ready
 ready-admits s t o e =
-    let w = and-true (standingAt t o) _ e in
-    (w .0, unhindered s t o (w .1))
+    let a = and-true (standingAt t o) _ e in
+    (a .0, unhindered s t o (a .1))
 
 pub ready-in-admits : (s : Setup) (v : ℕ) → Admits s (readyIn s v)
 ready-in-admits s v t o e = ready-admits s t o (and-true (ofVolume s v o) (ready s t o) e .1)
@@ -44,8 +45,8 @@ ready-in-admits s v t o e = ready-admits s t o (and-true (ofVolume s v o) (ready
 pub due-admits : (s : Setup) → Admits s (due s)
 unfolding due
 due-admits s t o e =
-    let w = and-true (standingAt t o) _ e in
-    (w .0, ⊎-elim (unhindered s t o) inr (or-true _ (endOver (t .clock) (endAt t o)) (w .1)))
+    let a = and-true (standingAt t o) _ e in
+    (a .0, ⊎-elim (unhindered s t o) inr (or-true _ (endOver (t .clock) (endAt t o)) (a .1)))
 
 -- the test of a step that completes nothing
 pub none-admits : (s : Setup) → Admits s (λ t o. false)

@@ -1,11 +1,9 @@
 -- Every step keeps the invariant, and under it every client reads what is current.
-use Prim.Native.Nat.{ℕ, _+_}
 use native.Mathlib.Omega.{arith}
-use mathlib.Core.Bool.{true, false, cond, not, _&&_}
-use mathlib.Core.Logic.{_⊎_, inl, ⊎-elim}
+use mathlib.Core.Bool.{true, not}
+use mathlib.Core.Logic.{inl, ⊎-elim}
 use mathlib.Core.Path.{_≡_, refl}
 use lib.Dec.{eqb}
-use lib.ListN.{set, replicate}
 use lib.Seq.{set-getD}
 use borrow.Author.Tests.{eqb-false, not-true, ne-eqb}
 use Rattle.laws.specs.Choice.{cond-keeps, true-or-false, and-true}
@@ -16,8 +14,8 @@ use Rattle.protocol.specs.declared.step.Step.{Step}
 use Rattle.protocol.specs.declared.step.Target.{Target}
 use Rattle.protocol.specs.Setup.{inRange, volumeOf}
 use Rattle.protocol.specs.Messages.{messageAt, objectOf}
-use Rattle.protocol.specs.Tables.{viewExpiryAt, noCopy}
-use Rattle.protocol.specs.Leases.{clientAlive, clientClock}
+use Rattle.protocol.specs.Tables.{viewExpiryAt}
+use Rattle.protocol.specs.Leases.{clientAlive}
 use Rattle.protocol.specs.Client.{showable}
 use Rattle.protocol.specs.Decide.{readDecided, askDecided, deliverDecided, restartDecided}
 use Rattle.protocol.specs.World.{World, targetAt, target, copiesAfter, requestsAfter, stepped}
@@ -26,7 +24,7 @@ use Rattle.protocol.specs.Ranges.{Ranges, ranges}
 use Rattle.protocol.specs.Soundness.Steps.{Accepted, accepted, by-kind, copyOf, requestOf, recordsOf, performedOf, decision-accepted, refused-keeps, setup-in-range, client-exists, object-exists, place-exists, queue-fits, read-performed, ask-performed, deliver-performed, lose-performed, double-performed, server-performed, client-performed}
 use Rattle.protocol.specs.Soundness.Question.{SoundWorld}
 use Rattle.protocol.specs.Bookkeeping.Agreed.{ReadsCurrent}
-use Rattle.protocol.specs.Safety.Invariant.{Inv, from, copyAt}
+use Rattle.protocol.specs.Safety.Invariant.{Inv, copyAt, clocksOf}
 use Rattle.protocol.specs.Safety.Tools.{sent-at}
 use Rattle.protocol.specs.Safety.Sending.{lost, doubling}
 use Rattle.protocol.specs.Safety.Sweeping.{swept-keep}
@@ -84,7 +82,7 @@ module _ (s : Setup) (w : World) (x : Step) (a : accepts s w x ≡ true) (sound 
       stepped-leaves _ (deliver-performed s (w .tables) (copyOf s w x) (requestOf s w x) x e)
       (rw (message-target e)
       (receipt-keeps s range w inv (sound .shape) (queue-fits facts) (x .place) (place-exists (facts .passes) (rw e)) (m .client)
-      (inv .clients m (sent-at (w .tables .queue) (x .place) (place-exists (facts .passes) (rw e)))) (m .kind) (sent-at (w .tables .queue) (x .place) (place-exists (facts .passes) (rw e)))))
+      (inv .messages m (sent-at (w .tables .queue) (x .place) (place-exists (facts .passes) (rw e))) .client) (m .kind) (sent-at (w .tables .queue) (x .place) (place-exists (facts .passes) (rw e)))))
 
   lose-keeps : x .kind ≡ 6 → Inv s (stepped s w x)
   lose-keeps e =
@@ -118,10 +116,10 @@ step-keeps s w x sound inv =
 
 -- ---- a copy that may be shown is current
 pub reads-current : (s : Setup) → inRange s ≡ true → (w : World) → SoundWorld s w → Inv s w → ReadsCurrent s w
-unfolding showable clientClock
+unfolding showable
 reads-current s i w sound inv d o hd ho e =
     let c = copyAt s (w .copies) d o in
     let a = and-true (not (eqb (c .version) 0)) _ e in
-    let b = and-true (clientAlive (w .tables .clock) (viewExpiryAt (w .tables) d (volumeOf s o))) (clientAlive (w .tables .clock) (c .expiry)) (a .1) in
-    let h = inv .views d (volumeOf s o) hd (ranges s i .within o ho) .holds o ho refl (eqb-false _ _ (not-true _ (a .0))) (b .1) (inl (b .0)) in
+    let b = and-true (clientAlive (clocksOf (w .tables) d) (viewExpiryAt (w .tables) d (volumeOf s o))) (clientAlive (clocksOf (w .tables) d) (c .expiry)) (a .1) in
+    let h = inv .views d (volumeOf s o) hd (ranges s i .within o ho) .holds o (record { exists = ho; inside = refl; copy = eqb-false _ _ (not-true _ (a .0)); alive = b .1 }) (inl (b .0)) in
     inv .versions .values d o hd ho (h .0)

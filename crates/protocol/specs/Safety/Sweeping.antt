@@ -5,7 +5,7 @@ use native.Mathlib.Omega.{arith}
 use mathlib.Core.List.{List}
 use mathlib.Core.Logic.{_⊎_, inl, inr, ⊎-elim}
 use mathlib.Core.Path.{_≡_, refl, ap, _∙_}
-use lib.ListN.{length, getD, set, length-set}
+use lib.ListN.{length, getD, length-set}
 use lib.Seq.{getD-set-same, getD-set-other}
 use Rattle.laws.specs.Loop.{foldFrom}
 use Rattle.protocol.specs.declared.records.Copy.{Copy}
@@ -15,7 +15,7 @@ use Rattle.protocol.specs.declared.step.Sweep.the-variants.{Keep, Expire
 use Rattle.protocol.specs.Tables.{noCopy}
 use Rattle.protocol.specs.Client.{swept, sweeps, sweepAt, sweptAll}
 use Rattle.protocol.specs.Safety.Invariant.{copyAt}
-use Rattle.protocol.specs.Safety.Tools.{row-below}
+use Rattle.protocol.specs.Safety.Stores.{row-below}
 
 module _ (s : Setup) (g : Sweep) (first : ℕ) where
   abbrev turn : List Copy → ℕ → List Copy

@@ -1,144 +1,188 @@
--- What one client knows and holds is replaced while no request of it stands: a GRANT or an OFFER taken, a restart. Nobody else is touched.
-use Prim.Native.Nat.{ℕ, _+_, _<_, _≤_}
-use native.Mathlib.Omega.{arith}
-use mathlib.Core.Bool.{Bool, true, false}
+-- What one client knows and holds is replaced while its request ends: a GRANT or an OFFER taken, a restart. Nobody else is touched.
+use Prim.Native.Nat.{ℕ, _<_, _≤_}
 use mathlib.Core.List.{List}
-use mathlib.Core.Logic.{_⊎_, ⊎-elim}
-use mathlib.Core.Path.{_≡_, refl, sym, ap, _∙_}
-use lib.ListN.{getD}
+use mathlib.Core.Logic.{inr, ⊎-elim}
+use mathlib.Core.Path.{_≡_, refl, sym, _∙_}
+use lib.ListN.{getD, set}
 use Rattle.laws.specs.Choice.{same?}
-use Rattle.laws.specs.Updated.{updated}
-use Rattle.protocol.specs.declared.message.Kind.the-variants.{Ack, Dropped}
+use Rattle.protocol.specs.declared.message.Kind.the-variants.{Renew, Grant, Invalidate, Ack, Offer, Dropped}
 use Rattle.protocol.specs.declared.message.Payload.{Payload}
 use Rattle.protocol.specs.declared.message.Payload.the-variants.{Same, Value}
 use Rattle.protocol.specs.declared.records.Copy.{Copy}
 use Rattle.protocol.specs.declared.setup.Setup.{Setup}
+use Rattle.protocol.specs.declared.tables.Tables.{Tables}
 use Rattle.protocol.specs.Setup.{volumeOf}
-use Rattle.protocol.specs.Tables.{byVolume, withViews}
-use Rattle.protocol.specs.Leases.{clientAlive}
+use Rattle.protocol.specs.Tables.{byVolume, epochAt, valueAt, versionAt, viewEpochAt, viewExpiryAt, withViews}
+use Rattle.protocol.specs.Client.{ended, viewed}
 use Rattle.protocol.specs.World.{World}
+use Rattle.protocol.specs.Soundness.Shape.{WorldShape}
+use Rattle.protocol.specs.Safety.Invariant.{Inv, Sent, Stands, from, copyAt, requestAt, viewOf, viewAt, viewIn, NamesHeld, clocksOf, CoveredIn, RemainsIn, AnswersIn, AcknowledgesIn}
+use Rattle.protocol.specs.Safety.Stores.{After, at-place, off-place, volume-set, same-version}
+use Rattle.protocol.specs.Safety.Covering.{Less, Fewer, view-less, granted-less, covered-less, remains-less}
+use Rattle.protocol.specs.Safety.Sending.{Keeps, each}
+use Rattle.protocol.specs.Safety.Requests.{requesting, has-record, request-ends, ended-idle}
 use Rattle.protocol.specs.Ranges.{Ranges}
-use Rattle.protocol.specs.Safety.Invariant.{Inv, Sent, Stands, from, copyAt, Covered, ViewOk, Empty, Answers, Acknowledges, NamesHeld}
 
--- ---- a view is covered by what it says, not by how
-module _ (s : Setup) (clock d v epoch guard session : ℕ) (un : Bool) (version lease : List ℕ) where
-  pub covered-same : (known expiry : ℕ) (held until : ℕ → ℕ) (known′ expiry′ : ℕ) (held′ until′ : ℕ → ℕ) → known′ ≡ known → expiry′ ≡ expiry
-      → ((o : ℕ) → o < s .objects → volumeOf s o ≡ v → held′ o ≡ held o) → ((o : ℕ) → o < s .objects → volumeOf s o ≡ v → until′ o ≡ until o)
-      → Covered s clock d v epoch guard session un version lease known expiry held until
-      → Covered s clock d v epoch guard session un version lease known′ expiry′ held′ until′
-  covered-same known expiry held until known′ expiry′ held′ until′ a b h u c = rw (a, b) (record {
-    current = c .current;
-    older = c .older;
-    holds = λ o i j k l m.
-        let g = c .holds o i j (λ e. k (h o i j ∙ e)) (rw (u o i j) at l) m in
-        (h o i j ∙ g .0, λ e. rw (u o i j) (g .1 e));
-  })
+pub names-same : (held held′ ver : ℕ) (p : Payload) → held′ ≡ held → NamesHeld held ver p → NamesHeld held′ ver p
+names-same held held′ ver Same e a = a ∙ sym e
+names-same held held′ ver (Value x) e a = tt
 
-  -- nothing known, nothing held
-  pub covered-empty : (known expiry : ℕ) (held until : ℕ → ℕ) → expiry ≡ 0
-      → ((o : ℕ) → o < s .objects → volumeOf s o ≡ v → (held o ≡ 0 → ⊥) → clientAlive clock (until o) ≡ true → ⊥)
-      → Covered s clock d v epoch guard session un version lease known expiry held until
-  covered-empty known expiry held until e none = record {
-    current = λ a. omega arith;
-    older = λ a. omega arith;
-    holds = λ o i j k l m. absurd (none o i j k l);
-  }
-
-pub names-same : (held held′ w : ℕ) (p : Payload) → held′ ≡ held → NamesHeld held w p → NamesHeld held′ w p
-names-same held held′ w Same e a = a ∙ sym e
-names-same held held′ w (Value x) e a = tt
+-- ---- in all volumes
 
 abbrev pub seeing : World → List ℕ → List ℕ → List Copy → World
 seeing w known expiry copies = record { tables = withViews (w .tables) (record { epoch = known; expiry = expiry }); copies = copies; requests = w .requests }
 
 -- the other clients' views and copies stay
-pub record Others (s : Setup) (d : ℕ) (known₀ expiry₀ known₁ expiry₁ : List ℕ) (copies₀ copies₁ : List Copy) : Type 0 where
-  pub known : (k v : ℕ) → (k ≡ d → ⊥) → v < s .volumes → getD known₁ (byVolume k v) 0 ≡ getD known₀ (byVolume k v) 0
-  pub expiry : (k v : ℕ) → (k ≡ d → ⊥) → v < s .volumes → getD expiry₁ (byVolume k v) 0 ≡ getD expiry₀ (byVolume k v) 0
+pub record Others (s : Setup) (t : Tables) (d : ℕ) (known₁ expiry₁ : List ℕ) (copies₀ copies₁ : List Copy) : Type 0 where
+  pub known : (k v : ℕ) → (k ≡ d → ⊥) → v < s .volumes → getD known₁ (byVolume k v) 0 ≡ viewEpochAt t k v
+  pub expiry : (k v : ℕ) → (k ≡ d → ⊥) → v < s .volumes → getD expiry₁ (byVolume k v) 0 ≡ viewExpiryAt t k v
   pub copies : (k o : ℕ) → (k ≡ d → ⊥) → o < s .objects → copyAt s copies₁ k o ≡ copyAt s copies₀ k o
 
-module _ (s : Setup) (range : Ranges s) (w : World) (inv : Inv s w) (d : ℕ) (idle : (n : ℕ) → Stands (w .requests) d n → ⊥)
-    (known expiry : List ℕ) (copies : List Copy) (others : Others s d (w .tables .views .epoch) (w .tables .views .expiry) known expiry (w .copies) copies) where
-  -- what is to be shown of the client itself
-  pub record Own : Type 0 where
-    pub epochs : (v : ℕ) → v < s .volumes → getD known (byVolume d v) 0 ≤ getD (w .tables .volumes .epoch) v 0
-    pub reached : (o : ℕ) → o < s .objects → copyAt s copies d o .version ≤ getD (w .tables .objects .version) o 0
-    pub values : (o : ℕ) → o < s .objects → copyAt s copies d o .version ≡ getD (w .tables .objects .version) o 0 → copyAt s copies d o .value ≡ getD (w .tables .objects .value) o 0
-    pub views : (v : ℕ) → v < s .volumes
-        → ViewOk s (w .tables .clock) (w .tables .volumes .epoch) (w .tables .volumes .guard) (w .tables .sessions .expiry) (w .tables .sessions .unreachable) (w .tables .objects .version) (w .tables .holders .lease) d v (getD known (byVolume d v) 0) (getD expiry (byVolume d v) 0) (λ o. copyAt s copies d o .version) (λ o. copyAt s copies d o .expiry)
-    pub erased : (o e v : ℕ) → Sent (w .tables .queue) (from d (Ack o e v))
-        → Acknowledges s (w .tables .volumes .epoch) (w .tables .objects .version) (w .tables .objects .standing) o e v → copyAt s copies d o .version ≡ 0
-    pub dropped : (v n e : ℕ) → v < s .volumes → Sent (w .tables .queue) (from d (Dropped v n e)) → Answers (w .tables .volumes .epoch) (w .tables .sessions .offer) d v n e
-        → getD known (byVolume d v) 0 ≡ getD (w .tables .volumes .epoch) v 0 → Empty s (w .tables .clock) d v (getD expiry (byVolume d v) 0) copies
+-- what is to be shown of the client itself
+pub record Own (s : Setup) (t : Tables) (d : ℕ) (known expiry : List ℕ) (copies : List Copy) : Type 0 where
+  pub epochs : (v : ℕ) → v < s .volumes → getD known (byVolume d v) 0 ≤ epochAt t v
+  pub reached : (o : ℕ) → o < s .objects → copyAt s copies d o .version ≤ versionAt t o
+  pub values : (o : ℕ) → o < s .objects → copyAt s copies d o .version ≡ versionAt t o → copyAt s copies d o .value ≡ valueAt t o
+  pub views : (v : ℕ) → v < s .volumes → CoveredIn s t d v (viewAt s known expiry copies d v)
+  pub erased : (o e ver : ℕ) → Sent (t .queue) (from d (Ack o e ver)) → AcknowledgesIn s t o e ver → copyAt s copies d o .version ≡ 0
+  pub remains : (v n e : ℕ) → v < s .volumes → Sent (t .queue) (from d (Dropped v n e)) → AnswersIn t d v n e → getD known (byVolume d v) 0 ≡ epochAt t v
+      → RemainsIn s t d v (viewAt s known expiry copies d v)
 
-  fits : (o : ℕ) → o < s .objects → volumeOf s o < s .volumes
-  fits o h = range .within o h
+module _ (s : Setup) (range : Ranges s) (w : World) (inv : Inv s w) (d : ℕ) (idle : (n : ℕ) → Stands (w .requests) d n → ⊥) (known expiry : List ℕ) (copies : List Copy)
+    (others : Others s (w .tables) d known expiry (w .copies) copies) (own : Own s (w .tables) d known expiry copies) where
+  busy : (k n : ℕ) → Stands (w .requests) k n → k ≡ d → ⊥
+  busy k n a e = idle n (rw e at a)
 
-  pub taken : Own → Inv s (seeing w known expiry copies)
-  taken own = record {
+  same-copies : (k v : ℕ) → (k ≡ d → ⊥) → Fewer s k v (w .copies) copies
+  same-copies k v m = record { each = λ o i j. inr (others .copies k o m i) }
+
+  same-view : (k v : ℕ) → (k ≡ d → ⊥) → v < s .volumes
+      → Less s (clocksOf (w .tables) k) v (viewIn s w k v) (viewAt s known expiry copies k v)
+  same-view k v m h = view-less (same-copies k v m) (others .known k v m h) (others .expiry k v m h)
+
+  keeps : Keeps s w (seeing w known expiry copies)
+  keeps k (Renew o n e ver) z hk c = record {
+    exists = c .exists;
+    reached = c .reached;
+    taken = c .taken;
+    object = c .object;
+    knows = λ a. c .knows a ∙ sym (others .known k (volumeOf s o) (busy k n a) (range .within o (c .exists)));
+    held = λ a. c .held a ∙ sym (same-version (others .copies k o (busy k n a) (c .exists)));
+  }
+  keeps k (Grant o n x e ver y p) z hk c = record {
+    exists = c .exists;
+    header = c .header;
+    reached = c .reached;
+    payload = c .payload;
+    object = c .object;
+    unoffered = c .unoffered;
+    held = λ a. names-same _ _ ver p (same-version (others .copies k o (busy k n a) (c .exists))) (c .held a);
+    covered = λ a. covered-less (granted-less (same-copies k (volumeOf s o) (busy k n a)) o x e ver y) (c .covered a);
+  }
+  keeps k (Invalidate o e ver) z hk c = c
+  keeps k (Ack o e ver) z hk c = record {
+    invalidate = c .invalidate;
+    erased = λ a. ⊎-elim (λ h. let z′ = rw h at z in rw h (own .erased o e ver z′ a)) (λ m. same-version (others .copies k o m (c .invalidate .exists)) ∙ c .erased a) (same? k d);
+  }
+  keeps k (Offer v n e) z hk c = c
+  keeps k (Dropped v n e) z hk c = record {
+    exists = c .exists;
+    header = c .header;
+    writes = c .writes;
+    remains = λ a b. ⊎-elim (λ h. let z′ = rw h at z in let a′ = rw h at a in let b′ = rw h at b in rw h (own .remains v n e (c .exists) z′ a′ b′))
+        (λ m. remains-less (same-view k v m (c .exists)) (c .remains a (sym (others .known k v m (c .exists)) ∙ b)))
+        (same? k d);
+  }
+
+  seen : Inv s (seeing w known expiry copies)
+  seen = record {
     bounds = inv .bounds;
-    epochs = λ k v hk hv. ⊎-elim (λ e. rw e (own .epochs v hv)) (λ n. rw (others .known k v n hv) (inv .epochs k v hk hv)) (same? k d);
+    epochs = λ k v hk hv. ⊎-elim (λ e. rw e (own .epochs v hv)) (λ m. rw (others .known k v m hv) (inv .epochs k v hk hv)) (same? k d);
     numbers = inv .numbers;
     versions = record {
       positive = inv .versions .positive;
-      reached = λ k o hk ho. ⊎-elim (λ e. rw e (own .reached o ho)) (λ n. rw (others .copies k o n ho) (inv .versions .reached k o hk ho)) (same? k d);
-      values = λ k o hk ho. ⊎-elim (λ e. rw e (own .values o ho)) (λ n. rw (others .copies k o n ho) (inv .versions .values k o hk ho)) (same? k d);
+      reached = λ k o hk ho. ⊎-elim (λ e. rw e (own .reached o ho)) (λ m. rw (others .copies k o m ho) (inv .versions .reached k o hk ho)) (same? k d);
+      values = λ k o hk ho. ⊎-elim (λ e. rw e (own .values o ho)) (λ m. rw (others .copies k o m ho) (inv .versions .values k o hk ho)) (same? k d);
     };
     offers = inv .offers;
     writes = inv .writes;
-    views = λ k v hk hv. ⊎-elim (λ e. rw e (own .views v hv))
-        (λ n. covered-same s _ k v _ _ _ _ _ _ _ _ _ _ _ _ _ _ (others .known k v n hv) (others .expiry k v n hv)
-        (λ o i j. ap (λ (c : Copy). c .version) (others .copies k o n i)) (λ o i j. ap (λ (c : Copy). c .expiry) (others .copies k o n i)) (inv .views k v hk hv))
-        (same? k d);
-    clients = inv .clients;
-    renews = λ k o n e v z.
-        let r = inv .renews k o n e v z in
-        record {
-          exists = r .exists;
-          reached = r .reached;
-          taken = r .taken;
-          object = r .object;
-          knows = λ a. r .knows a ∙ sym (others .known k (volumeOf s o) (busy k n a) (fits o (r .exists)));
-          held = λ a. r .held a ∙ sym (ap (λ (c : Copy). c .version) (others .copies k o (busy k n a) (r .exists)));
-        };
-    grants = λ k o n x e v y p z.
-        let r = inv .grants k o n x e v y p z in
-        record {
-          exists = r .exists;
-          header = r .header;
-          reached = r .reached;
-          payload = r .payload;
-          object = r .object;
-          unoffered = r .unoffered;
-          held = λ a. names-same _ _ v p (ap (λ (c : Copy). c .version) (others .copies k o (busy k n a) (r .exists))) (r .held a);
-          covered = λ a. covered-same s _ k _ _ _ _ _ _ _ e x _ _ e x _ _ refl refl
-              (λ i h j. ap (λ (f : ℕ). updated (λ u. f) o v i) (ap (λ (c : Copy). c .version) (others .copies k i (busy k n a) h)))
-              (λ i h j. ap (λ (f : ℕ). updated (λ u. f) o y i) (ap (λ (c : Copy). c .expiry) (others .copies k i (busy k n a) h)))
-              (r .covered a);
-        };
-    invalidates = inv .invalidates;
-    acks = inv .acks;
-    erased = λ k o e v z a. ⊎-elim (λ h. let z′ = rw h at z in rw h (own .erased o e v z′ a))
-        (λ n. ap (λ (c : Copy). c .version) (others .copies k o n (inv .acks k o e v z .exists)) ∙ inv .erased k o e v z a) (same? k d);
+    views = λ k v hk hv. ⊎-elim (λ e. rw e (own .views v hv)) (λ m. covered-less (same-view k v m hv) (inv .views k v hk hv)) (same? k d);
+    messages = each inv keeps;
     pairs = inv .pairs;
-    offereds = inv .offereds;
-    droppeds = λ k v n e z.
-        let r = inv .droppeds k v n e z in
-        record {
-          exists = r .exists;
-          header = r .header;
-          dropped = λ a b. ⊎-elim (λ h. let z′ = rw h at z in let a′ = rw h at a in let b′ = rw h at b in rw h (own .dropped v n e (r .exists) z′ a′ b′))
-              (λ m. still k v m (r .exists) (r .dropped a (sym (others .known k v m (r .exists)) ∙ b)))
-              (same? k d);
-        };
   }
-    where
-      busy : (k n : ℕ) → Stands (w .requests) k n → k ≡ d → ⊥
-      busy k n a e = idle n (rw e at a)
 
-      still : (k v : ℕ) → (k ≡ d → ⊥) → v < s .volumes → Empty s (w .tables .clock) k v (getD (w .tables .views .expiry) (byVolume k v) 0) (w .copies)
-          → Empty s (w .tables .clock) k v (getD expiry (byVolume k v) 0) copies
-      still k v m hv c = record {
-        volume = others .expiry k v m hv ∙ c .volume;
-        objects = λ o i j a b. let q = others .copies k o m i in c .objects o i j (rw q at a) (rw q at b);
-      }
+module _ (s : Setup) (range : Ranges s) (w : World) (inv : Inv s w) (shape : WorldShape s w) (d : ℕ) (hd : d < s .clients) where
+  -- .. and the request ends
+  pub taken : (known expiry : List ℕ) (copies : List Copy) → Others s (w .tables) d known expiry (w .copies) copies → Own s (w .tables) d known expiry copies → Inv s (record {
+    tables = withViews (w .tables) (record { epoch = known; expiry = expiry });
+    copies = copies;
+    requests = set (w .requests) d (ended (requestAt (w .requests) d));
+  })
+  taken known expiry copies others own =
+      let here = has-record shape hd in
+      seen s range (requesting w (set (w .requests) d (ended (requestAt (w .requests) d)))) (request-ends s w inv d here) d (ended-idle (w .requests) d here) known expiry copies others own
+
+  -- ---- in one volume v: its epoch, its expiry, and copies of its objects
+  module _ (v e x : ℕ) (hv : v < s .volumes) (copies : List Copy)
+      (elsewhere : (k i : ℕ) → i < s .objects → (k ≡ d → volumeOf s i ≡ v → ⊥) → copyAt s copies k i ≡ copyAt s (w .copies) k i) where
+    -- what is to be shown of it
+    pub record Inside : Type 0 where
+      pub epoch : e ≤ epochAt (w .tables) v
+      pub reached : (o : ℕ) → o < s .objects → volumeOf s o ≡ v → copyAt s copies d o .version ≤ versionAt (w .tables) o
+      pub values : (o : ℕ) → o < s .objects → volumeOf s o ≡ v → copyAt s copies d o .version ≡ versionAt (w .tables) o → copyAt s copies d o .value ≡ valueAt (w .tables) o
+      pub view : CoveredIn s (w .tables) d v (viewOf s copies d e x)
+      pub erased : (o f ver : ℕ) → Sent (w .tables .queue) (from d (Ack o f ver)) → volumeOf s o ≡ v → AcknowledgesIn s (w .tables) o f ver → copyAt s copies d o .version ≡ 0
+      pub remains : (n f : ℕ) → Sent (w .tables .queue) (from d (Dropped v n f)) → AnswersIn (w .tables) d v n f → e ≡ epochAt (w .tables) v → RemainsIn s (w .tables) d v (viewOf s copies d e x)
+
+    abbrev known : List ℕ
+    known = viewed (w .tables .views) d v e x .epoch
+
+    abbrev expiry : List ℕ
+    expiry = viewed (w .tables .views) d v e x .expiry
+
+    at-known : (k u : ℕ) → u < s .volumes → After d v k u (getD known (byVolume k u) 0) e (viewEpochAt (w .tables) k u)
+    at-known k u h = volume-set range hd hv (w .tables .views .epoch) e 0 (shape .tables .views .epoch) k u h
+
+    at-expiry : (k u : ℕ) → u < s .volumes → After d v k u (getD expiry (byVolume k u) 0) x (viewExpiryAt (w .tables) k u)
+    at-expiry k u h = volume-set range hd hv (w .tables .views .expiry) x 0 (shape .tables .views .expiry) k u h
+
+    others : Others s (w .tables) d known expiry (w .copies) copies
+    others = record {
+      known = λ k u m h. off-place (at-known k u h) (λ a b. m a);
+      expiry = λ k u m h. off-place (at-expiry k u h) (λ a b. m a);
+      copies = λ k i m h. elsewhere k i h (λ a b. m a);
+    }
+
+    here : (u : ℕ) → u < s .volumes → u ≡ v → Less s (clocksOf (w .tables) d) u (viewOf s copies d e x) (viewAt s known expiry copies d u)
+    here u h q = record { known = at-place (at-known d u h) refl q; expiry = at-place (at-expiry d u h) refl q; copies = λ i a. (refl, refl) }
+
+    outside : (u : ℕ) → u < s .volumes → (u ≡ v → ⊥)
+        → Less s (clocksOf (w .tables) d) u (viewIn s w d u) (viewAt s known expiry copies d u)
+    outside u h m = view-less still (off-place (at-known d u h) (λ a b. m b)) (off-place (at-expiry d u h) (λ a b. m b))
+      where
+        still : Fewer s d u (w .copies) copies
+        still = record { each = λ i j q. inr (elsewhere d i j (λ a b. m (sym q ∙ b))) }
+
+    own : Inside → Own s (w .tables) d known expiry copies
+    own inside = record {
+      epochs = λ u h. ⊎-elim (λ a. rw (a .2, a .1) (inside .epoch)) (λ a. rw (a .1) (inv .epochs d u hd h)) (at-known d u h);
+      reached = λ i h. ⊎-elim (inside .reached i h) (λ m. rw (elsewhere d i h (λ a b. m b)) (inv .versions .reached d i hd h)) (same? (volumeOf s i) v);
+      values = λ i h. ⊎-elim (inside .values i h) (λ m. rw (elsewhere d i h (λ a b. m b)) (inv .versions .values d i hd h)) (same? (volumeOf s i) v);
+      views = λ u h. ⊎-elim (λ q. covered-less (here u h q) (rw q (inside .view))) (λ m. covered-less (outside u h m) (inv .views d u hd h)) (same? u v);
+      erased = λ i f ver z a. ⊎-elim (λ q. inside .erased i f ver z q a)
+          (λ m. same-version (elsewhere d i (inv .messages _ z .kind .invalidate .exists) (λ p q. m q)) ∙ inv .messages _ z .kind .erased a) (same? (volumeOf s i) v);
+      remains = λ u n f h z a b. ⊎-elim
+          (λ q. let z′ = rw q at z in let a′ = rw q at a in let b′ = rw q at (sym (at-place (at-known d u h) refl q) ∙ b) in remains-less (here u h q) (rw q (inside .remains n f z′ a′ b′)))
+          (λ m. remains-less (outside u h m) (inv .messages _ z .kind .remains a (sym (outside u h m .known) ∙ b)))
+          (same? u v);
+    }
+
+    pub taken-view : Less s (clocksOf (w .tables) d) v (viewOf s copies d e x) (viewAt s known expiry copies d v)
+    taken-view = here v hv refl
+
+    pub taken-inside : Inside → Inv s (record {
+      tables = withViews (w .tables) (viewed (w .tables .views) d v e x);
+      copies = copies;
+      requests = set (w .requests) d (ended (requestAt (w .requests) d));
+    })
+    taken-inside inside = taken known expiry copies others (own inside)

@@ -4,72 +4,66 @@ use native.Mathlib.Omega.{arith}
 use mathlib.Core.Bool.{Bool}
 use mathlib.Core.List.{List}
 use mathlib.Core.Logic.{inl, inr, ⊎-elim}
+use Rattle.protocol.specs.declared.message.Kind.the-variants.{Renew, Grant, Invalidate, Ack, Offer, Dropped}
 use Rattle.protocol.specs.declared.setup.Setup.{Setup}
 use Rattle.protocol.specs.Tables.{withClock}
+use Rattle.protocol.specs.Leases.{clientClock}
 use Rattle.protocol.specs.World.{World}
-use Rattle.protocol.specs.Safety.Invariant.{Covered, Inv}
+use Rattle.protocol.specs.Safety.Invariant.{View, Held, Covered, Remains, Inv}
 use Rattle.protocol.specs.Safety.Tools.{later-dead, earlier-alive}
 use Rattle.protocol.specs.Safety.Replaced.{withTables}
+use Rattle.protocol.specs.Safety.Covering.{grant-covered}
+use Rattle.protocol.specs.Safety.Sending.{Keeps, each}
 
-module _ (s : Setup) (clock later : ℕ) (h : clock ≤ later) where
-  covered-later : {d v epoch guard session : ℕ} {un : Bool} {version lease : List ℕ} {known expiry : ℕ} {held until : ℕ → ℕ}
-      → Covered s clock d v epoch guard session un version lease known expiry held until
-      → Covered s later d v epoch guard session un version lease known expiry held until
-  covered-later {expiry} {until} c = record {
+module _ {s : Setup} (clock later d : ℕ) (h : clock ≤ later) {v : ℕ} {view : View} where
+  held-before : (o : ℕ) → Held s (clientClock later d) v view o → Held s (clientClock clock d) v view o
+  held-before o a = record { exists = a .exists; inside = a .inside; copy = a .copy; alive = earlier-alive clock later d (view .until o) h (a .alive) }
+
+  covered-later : {epoch guard session : ℕ} {excuse : ℕ → Bool} {version lease : List ℕ} → Covered s (clientClock clock d) d v epoch guard session excuse version lease view
+      → Covered s (clientClock later d) d v epoch guard session excuse version lease view
+  covered-later c = record {
     current = c .current;
     older = c .older;
-    holds = λ o b e n a l. c .holds o b e n (earlier-alive clock later (until o) h a) (⊎-elim (λ p. inl (earlier-alive clock later expiry h p)) inr l);
+    holds = λ o a l. c .holds o (held-before o a) (⊎-elim (λ b. inl (earlier-alive clock later d (view .expiry) h b)) inr l);
   }
 
--- S1 by the larger clock; the writes' and the views' clauses by T3
-pub clock-keeps : (s : Setup) (w : World) (x : ℕ) → w .tables .clock ≤ x → Inv s w → Inv s (withTables w (withClock (w .tables) x))
-clock-keeps s w x h i =
-    let clock = w .tables .clock in
-    record {
-      bounds = record {
-        guards = i .bounds .guards;
-        volumes = λ v hv. let b = i .bounds .volumes v hv in omega arith;
-        sessions = i .bounds .sessions;
-        objects = λ o ho. let b = i .bounds .objects o ho in omega arith;
-        leases = i .bounds .leases;
-      };
-      epochs = i .epochs;
-      numbers = i .numbers;
-      versions = i .versions;
-      offers = i .offers;
-      writes = record {
-        guards = i .writes .guards;
-        waits = i .writes .waits;
-        others = λ d o hd ho st wt.
-            ⊎-elim (λ p. inl (later-dead clock x _ h p)) (λ p. inr (later-dead clock x _ h (p .0), p .1)) (i .writes .others d o hd ho st wt);
-      };
-      views = λ d v hd hv. covered-later s clock x h (i .views d v hd hv);
-      clients = i .clients;
-      renews = i .renews;
-      grants = λ d o n vx e v y p z.
-          let g = i .grants d o n vx e v y p z in
-          record {
-            exists = g .exists;
-            header = g .header;
-            reached = g .reached;
-            payload = g .payload;
-            object = g .object;
-            unoffered = g .unoffered;
-            held = g .held;
-            covered = λ k. covered-later s clock x h (g .covered k);
-          };
-      invalidates = i .invalidates;
-      acks = i .acks;
-      erased = i .erased;
-      pairs = i .pairs;
-      offereds = i .offereds;
-      droppeds = λ d v n e z.
-          let g = i .droppeds d v n e z in
-          record {
-            exists = g .exists;
-            header = g .header;
-            dropped = λ a k.
-                let m = g .dropped a k in
-                record { volume = m .volume; objects = λ o b q c l. m .objects o b q c (earlier-alive clock x _ h l) };
-          };
+  remains-later : {version lease : List ℕ} → Remains s (clientClock clock d) d v version lease view → Remains s (clientClock later d) d v version lease view
+  remains-later c = record { volume = c .volume; objects = λ o a. c .objects o (held-before o a) }
+
+-- the bounds by the larger clock; the writes' and the views' clauses by T3
+pub clock-keeps : (s : Setup) (w : World) (later : ℕ) → w .tables .clock ≤ later → Inv s w → Inv s (withTables w (withClock (w .tables) later))
+clock-keeps s w later h inv = record {
+  bounds = record {
+    guards = inv .bounds .guards;
+    volumes = λ v hv. let b = inv .bounds .volumes v hv in omega arith;
+    sessions = inv .bounds .sessions;
+    objects = λ o ho. let b = inv .bounds .objects o ho in omega arith;
+    leases = inv .bounds .leases;
+  };
+  epochs = inv .epochs;
+  numbers = inv .numbers;
+  versions = inv .versions;
+  offers = inv .offers;
+  writes = record {
+    guards = inv .writes .guards;
+    waits = inv .writes .waits;
+    others = λ d o hd ho st wt.
+        ⊎-elim (λ a. inl (later-dead _ later _ h a)) (λ a. inr (later-dead _ later _ h (a .0), a .1)) (inv .writes .others d o hd ho st wt);
+  };
+  views = λ d v hd hv. covered-later (w .tables .clock) later d h (inv .views d v hd hv);
+  messages = each inv keeps;
+  pairs = inv .pairs;
+}
+  where
+    keeps : Keeps s w (withTables w (withClock (w .tables) later))
+    keeps d (Renew o n e ver) z hd c = c
+    keeps d (Grant o n x e ver y p) z hd c = grant-covered c (λ a. covered-later (w .tables .clock) later d h (c .covered a))
+    keeps d (Invalidate o e ver) z hd c = c
+    keeps d (Ack o e ver) z hd c = c
+    keeps d (Offer v n e) z hd c = c
+    keeps d (Dropped v n e) z hd c = record {
+      exists = c .exists;
+      header = c .header;
+      writes = c .writes;
+      remains = λ a b. remains-later (w .tables .clock) later d h (c .remains a b);
     }

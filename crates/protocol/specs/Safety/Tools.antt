@@ -1,182 +1,124 @@
--- What the proofs about runs need of stores, of time and of the message list.
-use Prim.Native.Nat.{ℕ, zero, suc, _+_, _-_, _*_, _<_, _≤_, min}
-use native.Mathlib.Decide.{decLt}
-use native.Mathlib.Nat.{mul-le-mul-right, suc-mul}
+-- The laws of what later rules may change, by which alone the proofs go: the tests of time (T1 to T5), whom the server does not count on (E1) and what a
+-- DROPPED leaves; and laws of the standing request, of functions and of the message list.
+use Prim.Native.Nat.{ℕ, zero, suc, _+_, _<_, _≤_, min}
+use native.Mathlib.Decide.{decLe}
 use native.Mathlib.Omega.{arith}
-use mathlib.Core.Bool.{Bool, true, false, cond, not, _&&_}
+use mathlib.Core.Bool.{Bool, true, false}
 use mathlib.Core.List.{List, [], _∷_, _++_}
 use mathlib.Core.Logic.{_⊎_, inl, inr, ⊎-elim}
 use mathlib.Core.Path.{_≡_, refl, sym, _∙_}
-use lib.Dec.{ltb, eqb}
-use lib.ListN.{length, getD, set, replicate, getD-replicate, List·getD-append}
-use lib.Seq.{getD-set-same, getD-set-other}
-use borrow.Author.Tests.{ltb-true, ltb-false, lt-ltb, le-ltb, eqb-true}
-use Rattle.laws.specs.Choice.{cond-keeps, not-both, and-true}
+use lib.Dec.{eqb}
+use lib.ListN.{length, getD, set, List·getD-append}
+use borrow.Author.Tests.{ltb-true, ltb-false, lt-ltb, le-ltb, eqb-true, not-true}
+use Rattle.laws.specs.Choice.{cond-keeps, and-true}
 use Rattle.laws.specs.Store.{set-at}
 use Rattle.laws.specs.Lists.{removeAt, length-removed}
 use Rattle.protocol.specs.declared.message.Message.{Message}
 use Rattle.protocol.specs.declared.message.Queue.{Queue}
-use Rattle.protocol.specs.declared.records.Copy.{Copy}
 use Rattle.protocol.specs.declared.records.Request.{Request}
-use Rattle.protocol.specs.declared.setup.Setup.{Setup}
+use Rattle.protocol.specs.declared.tables.Tables.{Tables}
 use Rattle.protocol.specs.Messages.{blank, messageAt, pushed, removed, hasRoom}
-use Rattle.protocol.specs.Tables.{byVolume, byObject, noCopy}
-use Rattle.protocol.specs.Leases.{serverAlive, clientAlive, endOver}
+use Rattle.protocol.specs.Tables.{byVolume, guardAt}
+use Rattle.protocol.specs.Leases.{serverAlive, clientAlive, clientClock, guardPassed, endOver}
 use Rattle.protocol.specs.Client.{stands}
-use Rattle.protocol.specs.Safety.Invariant.{Sent, Stands, requestAt, copyAt}
-use Rattle.protocol.specs.Ranges.{Ranges}
+use Rattle.protocol.specs.Safety.Invariant.{Sent, Stands, requestAt, excused, left}
 
--- ---- an element of a table after a store: the new one at its place, the old ones elsewhere
+-- ---- time: e is an expiry by the server's clock or by client d's
 
--- A place is named by a row and a column
-abbrev pub After {ℓ} : {A : Type ℓ} → ℕ → ℕ → ℕ → ℕ → A → A → A → Type ℓ
-After d v d′ v′ got new old = ((d′ ≡ d) × (v′ ≡ v) × (got ≡ new)) ⊎ ((d′ ≡ d → v′ ≡ v → ⊥) × (got ≡ old))
+-- T1, the one law that relates the two clocks: what a client holds to be alive, the server does
+pub client-server : (clock d e : ℕ) → clientAlive (clientClock clock d) e ≡ true → serverAlive clock e ≡ true
+unfolding clientAlive serverAlive clientClock
+client-server clock d e p = p
 
-module _ {ℓ} {A : Type ℓ} (l : List A) (x y : A) where
-  pub volume-set : (d v : ℕ) → length l ≡ 128 → d < 16 → v < 8 → (d′ v′ : ℕ) → v′ < 8
-      → After d v d′ v′ (getD (set l (byVolume d v) x) (byVolume d′ v′) y) x (getD l (byVolume d′ v′) y)
-  volume-set d v n hd hv d′ v′ hv′ =
-      ⊎-elim (λ w. inl (omega (arith, w .0), omega (arith, w .0), w .1)) (λ w. inr (λ a b. w .0 (omega arith), w .1))
-      (set-at l (byVolume d v) x (byVolume d′ v′) y (omega arith))
+-- T2: a later expiry is alive too
+pub longer-alive : (clock : ℕ) {e f : ℕ} → e ≤ f → serverAlive clock e ≡ true → serverAlive clock f ≡ true
+unfolding serverAlive
+longer-alive clock {e} {f} h p = let q = ltb-true clock e p in lt-ltb clock f (omega arith)
 
-  pub object-set : (d o : ℕ) → length l ≡ 512 → d < 16 → o < 32 → (d′ o′ : ℕ) → o′ < 32
-      → After d o d′ o′ (getD (set l (byObject d o) x) (byObject d′ o′) y) x (getD l (byObject d′ o′) y)
-  object-set d o n hd ho d′ o′ ho′ =
-      ⊎-elim (λ w. inl (omega (arith, w .0), omega (arith, w .0), w .1)) (λ w. inr (λ a b. w .0 (omega arith), w .1))
-      (set-at l (byObject d o) x (byObject d′ o′) y (omega arith))
-
-  -- the same where it is known which of the two
-  pub volume-at : (d v d′ v′ : ℕ) → length l ≡ 128 → d < 16 → v < 8 → d′ ≡ d → v′ ≡ v → getD (set l (byVolume d v) x) (byVolume d′ v′) y ≡ x
-  volume-at d v d′ v′ n hd hv p q = rw (p, q) (getD-set-same l (byVolume d v) x y (omega arith))
-
-  pub volume-off : (d v d′ v′ : ℕ) → v < 8 → v′ < 8 → (d′ ≡ d → v′ ≡ v → ⊥) → getD (set l (byVolume d v) x) (byVolume d′ v′) y ≡ getD l (byVolume d′ v′) y
-  volume-off d v d′ v′ hv hv′ h = getD-set-other l (byVolume d v) (byVolume d′ v′) x y (λ e. h (omega arith) (omega arith))
-
-  pub object-at : (d o d′ o′ : ℕ) → length l ≡ 512 → d < 16 → o < 32 → d′ ≡ d → o′ ≡ o → getD (set l (byObject d o) x) (byObject d′ o′) y ≡ x
-  object-at d o d′ o′ n hd ho p q = rw (p, q) (getD-set-same l (byObject d o) x y (omega arith))
-
-  pub object-off : (d o d′ o′ : ℕ) → o < 32 → o′ < 32 → (d′ ≡ d → o′ ≡ o → ⊥) → getD (set l (byObject d o) x) (byObject d′ o′) y ≡ getD l (byObject d′ o′) y
-  object-off d o d′ o′ ho ho′ h = getD-set-other l (byObject d o) (byObject d′ o′) x y (λ e. h (omega arith) (omega arith))
-
--- ---- existing items are in their tables
-module _ {s : Setup} (range : Ranges s) where
-  pub client-fits : {d : ℕ} → d < s .clients → d < 16
-  client-fits h = let b = range .clients .1 in omega arith
-
-  pub volume-fits : {v : ℕ} → v < s .volumes → v < 8
-  volume-fits h = let b = range .volumes .1 in omega arith
-
-  pub object-fits : {o : ℕ} → o < s .objects → o < 32
-  object-fits h = let b = range .objects .1 in omega arith
-
-  pub session-fits : {d v : ℕ} → d < s .clients → v < s .volumes → byVolume d v < 128
-  session-fits h k = let a = range .clients .1 in let b = range .volumes .1 in omega arith
-
-  pub holder-fits : {d o : ℕ} → d < s .clients → o < s .objects → byObject d o < 512
-  holder-fits h k = let a = range .clients .1 in let b = range .objects .1 in omega arith
-
-  -- .. where a list of one value holds it
-  pub zero-session : (d v : ℕ) → d < s .clients → v < s .volumes → _≡_ {A = ℕ} (getD (replicate 128 0) (byVolume d v) 0) 0
-  zero-session d v hd hv = getD-replicate {A = ℕ} 128 (byVolume d v) 0 0 (session-fits hd hv)
-
-  pub zero-holder : (d o : ℕ) → d < s .clients → o < s .objects → _≡_ {A = ℕ} (getD (replicate 512 0) (byObject d o) 0) 0
-  zero-holder d o hd ho = getD-replicate {A = ℕ} 512 (byObject d o) 0 0 (holder-fits hd ho)
-
-  pub nothing-stands : {A : Type 0} (o : ℕ) → o < s .objects → getD (replicate 32 false) o false ≡ true → A
-  nothing-stands o h e = not-both e (getD-replicate {A = Bool} 32 o false false (object-fits h))
-
--- rows of n: the places of two rows do not meet
-pub row-below : (n d e o : ℕ) → d < e → o < n → d * n + o < e * n
-row-below n d e o h k =
-    let m = mul-le-mul-right n h in
-    let q = suc-mul d n in
-    omega arith
-
-pub row-same : (n d o e u : ℕ) → o < n → u < n → d * n + o ≡ e * n + u → (d ≡ e) × (o ≡ u)
-row-same n d o e u h k q = go (decLt d e) (decLt e d)
+-- .. and so is the lesser of two that are
+pub lesser-alive : (clock e f : ℕ) → serverAlive clock e ≡ true → serverAlive clock f ≡ true → serverAlive clock (min e f) ≡ true
+lesser-alive clock e f p q = go (decLe e f)
   where
-    go : Dec (d < e) → Dec (e < d) → (d ≡ e) × (o ≡ u)
-    go (yes a) b = let r = row-below n d e o a h in absurd (omega arith)
-    go (no a) (yes b) = let r = row-below n e d u b k in absurd (omega arith)
-    go (no a) (no b) = let z : d ≡ e = omega arith in (z, same z)
-      where
-        same : d ≡ e → o ≡ u
-        same z = let q′ = rw z at q in omega arith
+    go : Dec (e ≤ f) → serverAlive clock (min e f) ≡ true
+    go (yes h) = longer-alive clock (omega arith) p
+    go (no h) = longer-alive clock (omega arith) q
 
-module _ (s : Setup) (copies : List Copy) (x : Copy) where
-  pub copy-set : (d o : ℕ) → length copies ≡ s .clients * s .objects → d < s .clients → o < s .objects → (d′ o′ : ℕ) → o′ < s .objects
-      → After d o d′ o′ (copyAt s (set copies (d * s .objects + o) x) d′ o′) x (copyAt s copies d′ o′)
-  copy-set d o n hd ho d′ o′ ho′ =
-      let b = row-below (s .objects) d (s .clients) o hd ho in
-      ⊎-elim (λ w. let z = row-same (s .objects) d′ o′ d o ho′ ho (w .0) in inl (z .0, z .1, w .1)) (λ w. inr (λ a c. w .0 (rw (a, c)), w .1))
-      (set-at copies (d * s .objects + o) x (d′ * s .objects + o′) noCopy (omega arith))
-
-  pub copy-at : (d o d′ o′ : ℕ) → length copies ≡ s .clients * s .objects → d < s .clients → o < s .objects → d′ ≡ d → o′ ≡ o
-      → copyAt s (set copies (d * s .objects + o) x) d′ o′ ≡ x
-  copy-at d o d′ o′ n hd ho p q =
-      let b = row-below (s .objects) d (s .clients) o hd ho in
-      rw (p, q) (getD-set-same copies (d * s .objects + o) x noCopy (omega arith))
-
-  pub copy-off : (d o d′ o′ : ℕ) → o < s .objects → o′ < s .objects → (d′ ≡ d → o′ ≡ o → ⊥)
-      → copyAt s (set copies (d * s .objects + o) x) d′ o′ ≡ copyAt s copies d′ o′
-  copy-off d o d′ o′ ho ho′ h =
-      getD-set-other copies (d * s .objects + o) (d′ * s .objects + o′) x noCopy (λ e. let z = row-same (s .objects) d′ o′ d o ho′ ho e in h (z .0) (z .1))
-
--- ---- time
-
+-- T3: at a later time no more is alive
 pub later-dead : (clock later e : ℕ) → clock ≤ later → serverAlive clock e ≡ false → serverAlive later e ≡ false
 unfolding serverAlive
 later-dead clock later e h p = let q = ltb-false clock e p in le-ltb later e (omega arith)
 
--- T3
-pub earlier-alive : (clock later e : ℕ) → clock ≤ later → clientAlive later e ≡ true → clientAlive clock e ≡ true
-unfolding clientAlive
-earlier-alive clock later e h p = let q = ltb-true later e p in lt-ltb clock e (omega arith)
+pub earlier-alive : (clock later d e : ℕ) → clock ≤ later → clientAlive (clientClock later d) e ≡ true → clientAlive (clientClock clock d) e ≡ true
+unfolding clientAlive clientClock
+earlier-alive clock later d e h p = let q = ltb-true later e p in lt-ltb clock e (omega arith)
 
--- T1: what a client holds to be alive, the server does
-pub client-server : (clock e : ℕ) → clientAlive clock e ≡ true → serverAlive clock e ≡ true
-unfolding clientAlive serverAlive
-client-server clock e p = p
-
--- T2
-pub longer-alive : (clock e f : ℕ) → e ≤ f → serverAlive clock e ≡ true → serverAlive clock f ≡ true
-unfolding serverAlive
-longer-alive clock e f h p = let q = ltb-true clock e p in lt-ltb clock f (omega arith)
-
--- T4
+-- T4: what ends by a latest end that is over is dead; so is a guard that has passed
 pub over-dead : (clock end e : ℕ) → endOver clock end ≡ true → e ≤ end → serverAlive clock e ≡ false
 unfolding serverAlive endOver
 over-dead clock end e p h = let q = ltb-true end clock p in le-ltb clock e (omega arith)
 
--- T5
+pub passed-dead : (t : Tables) (v : ℕ) → guardPassed t v ≡ true → serverAlive (t .clock) (guardAt t v) ≡ false
+unfolding guardPassed
+passed-dead t v p = not-true _ p
+
+-- T5: 0 is dead
 pub zero-dead : (clock : ℕ) → serverAlive clock 0 ≡ false
 unfolding serverAlive
 zero-dead clock = le-ltb clock 0 (omega arith)
 
-pub zero-dead-client : (clock : ℕ) → clientAlive clock 0 ≡ false
+pub zero-dead-client : (clock : ℕ) {e : ℕ} → e ≡ 0 → clientAlive clock e ≡ true → ⊥
 unfolding clientAlive
-zero-dead-client clock = le-ltb clock 0 (omega arith)
+zero-dead-client clock {e} z p = let q = ltb-true clock e p in omega arith
+
+-- ---- E1: a mark excuses the client for every object of the volume, no mark for none, and other marks do not matter
+
+pub marked-excused : (un : List Bool) (d v o : ℕ) → getD un (byVolume d v) false ≡ true → excused un d v o ≡ true
+unfolding excused
+marked-excused un d v o e = e
+
+pub unmarked-trusted : (un : List Bool) (d v o : ℕ) → getD un (byVolume d v) false ≡ false → excused un d v o ≡ false
+unfolding excused
+unmarked-trusted un d v o e = e
+
+pub excused-grows : (un un′ : List Bool) (d v o : ℕ) → (getD un (byVolume d v) false ≡ true → getD un′ (byVolume d v) false ≡ true) → excused un d v o ≡ true → excused un′ d v o ≡ true
+unfolding excused
+excused-grows un un′ d v o h e = h e
+
+-- ---- what a DROPPED leaves of a lease: no more than there was, and no less of a longer one
+
+pub left-below : (lease : ℕ) → left lease ≤ lease
+unfolding left
+left-below lease = omega arith
+
+pub left-grows : {lease lease′ : ℕ} → lease ≤ lease′ → left lease ≤ left lease′
+unfolding left
+left-grows h = omega arith
+
+-- .. and nothing at all
+pub left-none : (lease : ℕ) → left lease ≡ 0
+unfolding left
+left-none lease = refl
 
 -- ---- the standing request
 
 pub stands-true : (requests : List Request) (d n : ℕ) → stands (requestAt requests d) n ≡ true → Stands requests d n
 unfolding stands
 stands-true requests d n e =
-    let w = and-true (requestAt requests d .standing) (eqb (requestAt requests d .number) n) e in
-    record { there = w .0; same = eqb-true _ _ (w .1) }
+    let a = and-true (requestAt requests d .standing) (eqb (requestAt requests d .number) n) e in
+    record { there = a .0; same = eqb-true _ _ (a .1) }
 
 -- ---- the message list
 
-pub sent-pushed : (q : Queue) (x m : Message) → length (q .items) ≡ 64 → Sent (pushed q x) m → Sent q m ⊎ (m ≡ x)
+pub sent-pushed : (q : Queue) (g m : Message) → length (q .items) ≡ 64 → Sent (pushed q g) m → Sent q m ⊎ (m ≡ g)
 unfolding pushed
-sent-pushed q x m n = cond-keeps (λ (r : Queue). Sent r m → Sent q m ⊎ (m ≡ x)) (hasRoom q) room (λ e z. inl z)
+sent-pushed q g m n = cond-keeps (λ (r : Queue). Sent r m → Sent q m ⊎ (m ≡ g)) (hasRoom q) room (λ e z. inl z)
   where
-    room : hasRoom q ≡ true → Sent (record { items = set (q .items) (q .len) x; len = q .len + 1 }) m → Sent q m ⊎ (m ≡ x)
+    room : hasRoom q ≡ true → Sent (record { items = set (q .items) (q .len) g; len = q .len + 1 }) m → Sent q m ⊎ (m ≡ g)
     room e z =
         let h = ltb-true (q .len) 64 e in
-        ⊎-elim (λ w. inr (sym (z .there) ∙ w .1))
-        (λ w. let k = z .below in let i : z .place < q .len = omega (arith, w .0) in inl (record { place = z .place; below = i; there = sym (w .1) ∙ z .there }))
-        (set-at (q .items) (q .len) x (z .place) blank (omega arith))
+        ⊎-elim (λ a. inr (sym (z .there) ∙ a .1))
+        (λ a. let k = z .below in let i : z .place < q .len = omega (arith, a .0) in inl (record { place = z .place; below = i; there = sym (a .1) ∙ z .there }))
+        (set-at (q .items) (q .len) g (z .place) blank (omega arith))
 
 -- an element of a list without one
 removed-at : {A : Type 0} (l : List A) (i j : ℕ) (y : A) → (getD (removeAt l i) j y ≡ getD l j y) ⊎ (getD (removeAt l i) j y ≡ getD l (suc j) y)
@@ -193,8 +135,8 @@ sent-removed q i m n k h z =
     let c = length-removed (q .items) i (omega arith) in
     let e : getD (removeAt (q .items) i ++ (blank ∷ [])) (z .place) blank ≡ getD (removeAt (q .items) i) (z .place) blank =
     List·getD-append (removeAt (q .items) i) (blank ∷ []) blank (z .place) (omega arith) in
-    ⊎-elim (λ w. record { place = z .place; below = omega arith; there = sym (e ∙ w) ∙ z .there })
-    (λ w. record { place = suc (z .place); below = omega arith; there = sym (e ∙ w) ∙ z .there })
+    ⊎-elim (λ a. record { place = z .place; below = omega arith; there = sym (e ∙ a) ∙ z .there })
+    (λ a. record { place = suc (z .place); below = omega arith; there = sym (e ∙ a) ∙ z .there })
     (removed-at (q .items) i (z .place) blank)
 
 pub sent-at : (q : Queue) (i : ℕ) → i < q .len → Sent q (messageAt q i)
