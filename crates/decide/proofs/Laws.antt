@@ -4,7 +4,7 @@ use native.Mathlib.Nat.{mul-le-mul-right, le-of-lt}
 use native.Mathlib.Omega.{arith}
 use mathlib.Core.Bool.{Bool, true, false, _&&_, _||_}
 use mathlib.Core.Path.{_≡_, refl, sym, _∙_}
-use lib.Dec.{ltb, eqb}
+use lib.Dec.{ltb}
 use borrow.Author.Tests.{eq-eqb, ne-eqb, eqb-true, ltb-true}
 use Rattle.protocol.specs.declared.message.Kind.{Kind}
 use Rattle.protocol.specs.declared.message.Kind.the-variants.{Renew, Grant, Invalidate, Ack, Offer, Dropped}
@@ -19,7 +19,6 @@ use Rattle.protocol.specs.declared.tables.Views.{Views}
 use Rattle.protocol.specs.declared.tables.Tables.{Tables}
 use Rattle.protocol.specs.declared.records.Copy.{Copy}
 use Rattle.protocol.specs.declared.records.Request.{Request}
-use Rattle.protocol.specs.declared.step.Answer.{Answer}
 use Rattle.protocol.specs.declared.step.Answer.the-variants.{Done, Completed, Delivered}
 use Rattle.protocol.specs.declared.step.Decision.{Decision}
 use Rattle.protocol.specs.Setup.{volumeOf, inRange}
@@ -30,10 +29,10 @@ use Rattle.protocol.specs.Writes.{Counted, settled, writeStaged, clockStaged}
 use Rattle.protocol.specs.Server.{renewed, ackStaged, dropStaged, serverRestarted}
 use Rattle.protocol.specs.Sound.{kindSound, timeFits, tablesSound}
 use Rattle.protocol.specs.Ranges.{ranges}
-use Rattle.protocol.specs.Soundness.Steps.{passed, step-passes, accepted-all, setup-in-range, tables-sound, client-exists, object-exists, place-exists, by-kind, clock-performed, read-performed, ask-performed, write-performed, deliver-performed, lose-performed, double-performed, server-performed, client-performed}
+use Rattle.protocol.specs.Soundness.Steps.{passed, step-passes, accepted-all, setup-in-range, tables-sound, client-exists, by-kind, clock-performed, read-performed, ask-performed, write-performed, deliver-performed, lose-performed, double-performed, server-performed, client-performed}
 use Rattle.protocol.specs.Gate.{isClock, isWrite, isRestartServer, refusalOfStep, refusal}
 use Rattle.protocol.specs.Answers.{completedAnswer}
-use Rattle.protocol.specs.Decide.{Received, kept, uncounted, byServer, grantReceived, invalidateReceived, offerReceived, received, answered, counting, readDecided, askDecided, delivered, taken, deliverDecided, restartDecided, performed, refusedWith, decided}
+use Rattle.protocol.specs.Decide.{Received, kept, uncounted, byServer, grantReceived, invalidateReceived, offerReceived, received, answered, counting, readDecided, askDecided, taken, deliverDecided, restartDecided, performed, refusedWith, decided}
 use Rattle.protocol.specs.World.{targetAt, target}
 use Rattle.laws.specs.Choice.{and-true, not-both}
 
@@ -70,8 +69,6 @@ module _ (s : Setup) (e : inRange s ≡ true) where
 
   pub volumes-8 : s .volumes ≤ 8
   volumes-8 = ranges s e .volumes .1
-
-pub ruleset bounds = (client-16, object-32, volume-8, volume-of-8, volumes-8)
 
 -- the item that a sound message names exists
 module _ (s : Setup) (k : Kind) (h : kindSound s k ≡ true) where
@@ -157,17 +154,6 @@ module _ (s : Setup) (t : Tables) (c : Copy) (r : Request) (x : Step) (d : Decis
   pub by-restart-server : (u : Tables) → x .kind ≡ 8 → u ≡ serverRestarted s t → d ≡ answered (kept c r) u Done → d ≡ performed s t c r x
   by-restart-server u k h e = rw (server-performed s t c r x k, ← h) e
 
--- what an accepted step names exists, and what must grow can
-module _ (s : Setup) (t : Tables) (r : Request) (x : Step) (a : refusalOfStep s t r x ≡ 0) (k : ℕ) (h : x .kind ≡ k) where
-  pub client-named : (eqb k 2 || eqb k 3 || eqb k 9) ≡ true → x .client < s .clients
-  client-named e = client-exists (passed s t r x a) (rw h e)
-
-  pub object-named : (eqb k 2 || eqb k 3 || eqb k 4) ≡ true → x .object < s .objects
-  object-named e = object-exists (passed s t r x a) (rw h e)
-
-  pub place-named : (eqb k 5 || eqb k 6 || eqb k 7) ≡ true → x .place < t .queue .len
-  place-named e = place-exists (passed s t r x a) (rw h e)
-
 -- which kinds are the server's
 pub at-eight : (x : Step) → (isClock x || isWrite x || isRestartServer x) ≡ true → (x .kind ≡ 1 → ⊥) → (x .kind ≡ 4 → ⊥) → x .kind ≡ 8
 at-eight x e h i = eqb-true _ _ (rw (ne-eqb _ _ h, ne-eqb _ _ i) at e)
@@ -198,7 +184,7 @@ module _ (s : Setup) (t : Tables) (r : Request) (x : Step) (e : refusalOfStep s 
       (λ k. k)
 
   pub last-client : x .client < s .clients
-  last-client = client-named s t r x e 9 last refl
+  last-client = client-exists (passed s t r x e) (rw last)
 
   pub by-last : (c : Copy) (d : Decision) → d ≡ restartDecided s t c r (x .client) → d ≡ performed s t c r x
   by-last c d h = rw (client-performed s t c r x last) h

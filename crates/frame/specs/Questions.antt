@@ -1,5 +1,5 @@
 -- The test of a frame's fields is 01's, written out: "kind, value present and zero fields right?"
-use Prim.Native.Nat.{ℕ, zero}
+use Prim.Native.Nat.{ℕ}
 use native.Mathlib.Decide.{ℕ-discrete}
 use mathlib.Core.Bool.{Bool, true, false, cond, _&&_, _||_, and-true}
 use mathlib.Core.Path.{_≡_, refl, sym, subst, _∙_}

@@ -6,7 +6,7 @@ ghost use Rattle.laws.specs.Loop.{allFrom};
 ghost use Rattle.protocol.specs.declared.tables.Tables.{Tables};
 ghost use Rattle.protocol.specs.Sound.{canGrow, clockLimit};
 ghost use Rattle.protocol.specs.Setup.{between};
-ghost use Rattle.protocol.specs.Gate.{known, isClock, isWrite, orRefuse, refusalOfStep};
+ghost use Rattle.protocol.specs.Gate.{isClock, isWrite, orRefuse, refusalOfStep};
 ghost use Rattle.gate.specs.Scans.{epochGrows, existsWith};
 use protocol::records::Request;
 use protocol::setup::Setup;
@@ -24,30 +24,20 @@ pub fn or_refuse(ok: bool, number: u8, next: u8) -> u8
     number
 }
 
-// 2. "Is the kind 1 to 9?"
-fn known(x: Step) -> bool
-    ensures { λ r. ⌜ r ≡ known x ⌝ }
-{
-    (1 <= x.kind) & (x.kind <= 9)
-}
-
 // 3. "Do the dash, object and place it uses exist?"
 fn exists(s: Setup, len: usize, x: Step) -> bool
     ensures { λ r. ⌜ r ≡ existsWith s len x ⌝ }
 {
-    let client = (x.kind == 2) | (x.kind == 3) | (x.kind == 9);
-    let object = (x.kind == 2) | (x.kind == 3) | (x.kind == 4);
-    let place = (x.kind == 5) | (x.kind == 6) | (x.kind == 7);
-    (!client | ((x.client as u32) < s.clients))
-        & (!object | ((x.object as u32) < s.objects))
-        & (!place | ((x.place as usize) < len))
+    (!kinds::uses_client(x) | ((x.client as u32) < s.clients))
+        & (!kinds::uses_object(x) | ((x.object as u32) < s.objects))
+        & (!kinds::uses_place(x) | ((x.place as usize) < len))
 }
 
 // 4. "Is T from the clock to 2,147,483,647?"
 fn timely(clock: u32, x: Step) -> bool
     ensures { λ r. ⌜ r ≡ (not (isClock x) || between clock clockLimit (x .clock)) ⌝ }
 {
-    (x.kind != 1) | ((clock <= x.clock) & (x.clock <= 2147483647))
+    !kinds::uses_clock(x) | ((clock <= x.clock) & (x.clock <= 2147483647))
 }
 
 // 5. "For a write, is none standing there?" An object that does not exist has none.
@@ -97,7 +87,7 @@ fn first_no(known: bool, exists: bool, timely: bool, vacant: bool, growable: boo
     or_refuse(known, 2, second)
 }
 
-// Questions 2 to 6, once the setup is in range, of tables with these parts: no question reads the others.
+// Questions 2 ("Is the kind 1 to 9?") to 6, once the setup is in range, of tables with these parts: no question reads the others.
 pub fn refusal_of_step(
     s: Setup,
     clock: u32,
@@ -110,7 +100,7 @@ pub fn refusal_of_step(
     requires { ⌜ s .volumes ≤ 8 ⌝ }
     ensures { λ k. ⌜ ((t : Tables) → t .clock ≡ clock → t .volumes ≡ w → t .objects ≡ b → t .queue .len ≡ len → k ≡ refusalOfStep s t r x) ⌝ }
 {
-    let known = known(x);
+    let known = kinds::known(x);
     let exists = exists(s, len, x);
     let timely = timely(clock, x);
     let standing = b.standing;

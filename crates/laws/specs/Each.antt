@@ -1,7 +1,7 @@
 -- What holds of each element of a table, and stores that keep it.
 use Prim.Native.Nat.{ℕ, zero, suc, _<_}
 use native.Mathlib.Omega.{arith}
-use mathlib.Core.Bool.{Bool, false}
+use mathlib.Core.Bool.{Bool}
 use mathlib.Core.List.{List, [], _∷_}
 use mathlib.Core.Path.{_≡_, refl}
 use lib.ListN.{length, getD, set, replicate}
@@ -40,8 +40,8 @@ module _ {ℓ κ} {A : Type ℓ} (P : A → Type κ) where
       (λ m k b i. cond-keeps (All P) (q k) (λ e. each-set m (f k) (g k) i (p k b)) (λ e. i))
       l 0 n (omega arith) h
 
--- a flag that is cleared, in the list or past its end
-pub cleared : (l : List Bool) (i : ℕ) → getD (set l i false) i false ≡ false
+-- where the default was stored it is read, in the list or past its end
+pub cleared {ℓ} : {A : Type ℓ} (l : List A) (i : ℕ) {d : A} → getD (set l i d) i d ≡ d
 cleared [] i = refl
 cleared (x ∷ l) zero = refl
 cleared (x ∷ l) (suc i) = cleared l i

@@ -39,11 +39,11 @@ countFrom p j zero = 0
 countFrom p j (suc n) = cond (p j) 1 0 + countFrom p (j + 1) n
 
 module _ {ℓ} {S : Type ℓ} (f : S → ℕ → S) (N : ℕ) where
-  pub fold-more : (s : S) (j : ℕ) → j < N → foldFrom f (f s j) (j + 1) (N - (j + 1)) ≡ foldFrom f s j (N - j)
+  fold-more : (s : S) (j : ℕ) → j < N → foldFrom f (f s j) (j + 1) (N - (j + 1)) ≡ foldFrom f s j (N - j)
   unfolding foldFrom
   fold-more s j h = rw (left-more N j h)
 
-  pub fold-none : (s : S) (j : ℕ) → N ≤ j → foldFrom f s j (N - j) ≡ s
+  fold-none : (s : S) (j : ℕ) → N ≤ j → foldFrom f s j (N - j) ≡ s
   unfolding foldFrom
   fold-none s j h = rw (left-none N j h)
 
@@ -77,41 +77,32 @@ fold-reaches R P f N k all keep hit s j (suc n) h a b r =
     pick g (no e) = g (omega arith)
 
 module _ (p : ℕ → Bool) (N : ℕ) where
-  pub any-hit : (j : ℕ) → j < N → p j ≡ true → anyFrom p j (N - j) ≡ true
-  unfolding anyFrom
-  any-hit j h e = rw (left-more N j h, e)
-
-  pub any-miss : (j : ℕ) → j < N → p j ≡ false → anyFrom p (j + 1) (N - (j + 1)) ≡ anyFrom p j (N - j)
-  unfolding anyFrom
-  any-miss j h e = rw (left-more N j h, e)
-
-  pub any-none : (j : ℕ) → N ≤ j → anyFrom p j (N - j) ≡ false
-  unfolding anyFrom
-  any-none j h = rw (left-none N j h)
-
-  pub all-hit : (j : ℕ) → j < N → p j ≡ true → allFrom p (j + 1) (N - (j + 1)) ≡ allFrom p j (N - j)
-  unfolding allFrom
-  all-hit j h e = rw (left-more N j h, e)
-
-  pub all-miss : (j : ℕ) → j < N → p j ≡ false → allFrom p j (N - j) ≡ false
-  unfolding allFrom
-  all-miss j h e = rw (left-more N j h, e)
-
-  pub all-none : (j : ℕ) → N ≤ j → allFrom p j (N - j) ≡ true
+  all-none : (j : ℕ) → N ≤ j → allFrom p j (N - j) ≡ true
   unfolding allFrom
   all-none j h = rw (left-none N j h)
 
-  pub first-hit : (j : ℕ) → j < N → p j ≡ true → firstFrom p j (N - j) ≡ j
+  first-hit : (j : ℕ) → j < N → p j ≡ true → firstFrom p j (N - j) ≡ j
   unfolding firstFrom
   first-hit j h e = rw (left-more N j h, e)
 
-  pub first-miss : (j : ℕ) → j < N → p j ≡ false → firstFrom p (j + 1) (N - (j + 1)) ≡ firstFrom p j (N - j)
+  first-miss : (j : ℕ) → j < N → p j ≡ false → firstFrom p (j + 1) (N - (j + 1)) ≡ firstFrom p j (N - j)
   unfolding firstFrom
   first-miss j h e = rw (left-more N j h, e)
 
-  pub first-none : (j : ℕ) → N ≤ j → firstFrom p j (N - j) ≡ j
+  first-none : (j : ℕ) → N ≤ j → firstFrom p j (N - j) ≡ j
   unfolding firstFrom
   first-none j h = rw (left-none N j h)
+
+-- Invariants of a loop that has come to j of N: what is left gives, with the answer so far, what the whole loop gives.
+-- A scan with `ok` so far; a fold from s₀ with s so far; a search from `from` on.
+abbrev pub Scanning : (ℕ → Bool) → ℕ → Bool → ℕ → Type 0
+Scanning p N ok j = (j ≤ N) × ((ok && allFrom p j (N - j)) ≡ allFrom p 0 N)
+
+abbrev pub Folding : {S : Type 0} → (S → ℕ → S) → ℕ → S → S → ℕ → Type 0
+Folding f N s₀ s j = (j ≤ N) × (foldFrom f s j (N - j) ≡ foldFrom f s₀ 0 N)
+
+abbrev pub Seeking : (ℕ → Bool) → ℕ → ℕ → ℕ → Type 0
+Seeking p N from j = (from ≤ j) × (j ≤ N) × (firstFrom p j (N - j) ≡ firstFrom p from (N - from))
 
 -- The same laws in the form that `search` applies at a loop's needs: u is what the body's call gave, A what the loop has to come to.
 pub fold-again {ℓ} : {S : Type ℓ} (f : S → ℕ → S) (N j : ℕ) (s u A : S) → j < N → u ≡ f s j → foldFrom f s j (N - j) ≡ A → foldFrom f u (j + 1) (N - (j + 1)) ≡ A
@@ -136,7 +127,7 @@ module _ (p : ℕ → Bool) (N j : ℕ) where
   unfolding allFrom
   all-step h = rw (left-more N j h)
 
-  pub all-again : (ok A : Bool) → j < N → (ok && allFrom p j (N - j)) ≡ A → (ok && p j && allFrom p (j + 1) (N - (j + 1))) ≡ A
+  all-again : (ok A : Bool) → j < N → (ok && allFrom p j (N - j)) ≡ A → (ok && p j && allFrom p (j + 1) (N - (j + 1))) ≡ A
   all-again true A h i = all-step h ∙ i
   all-again false A h i = i
 
@@ -148,6 +139,14 @@ module _ (p : ℕ → Bool) (N j : ℕ) where
   all-end true A h i = sym (all-none p N j h) ∙ i
   all-end false A h i = i
 
+-- a number from j on is j, or one of those from j + 1 on
+on-from : (p : ℕ → Bool) (b : Bool) (j k : ℕ) → j ≤ k → p j ≡ b → (j + 1 ≤ k → p k ≡ b) → p k ≡ b
+on-from p b j k g q r = pick (ℕ-discrete k j)
+  where
+    pick : Dec (k ≡ j) → p k ≡ b
+    pick (yes f) = rw f q
+    pick (no f) = r (omega arith)
+
 -- what a test of all numbers says of each, and back
 module _ (p : ℕ → Bool) where
   all-true : (j n : ℕ) → allFrom p j n ≡ true → (k : ℕ) → j ≤ k → k < j + n → p k ≡ true
@@ -155,11 +154,7 @@ module _ (p : ℕ → Bool) where
   all-true j zero e k g h = absurd (omega arith)
   all-true j (suc n) e k g h =
       let w = and-true (p j) (allFrom p (j + 1) n) e in
-      pick (w .0) (λ f. all-true (j + 1) n (w .1) k f (omega arith)) (ℕ-discrete k j)
-    where
-      pick : p j ≡ true → (j + 1 ≤ k → p k ≡ true) → Dec (k ≡ j) → p k ≡ true
-      pick q r (yes f) = rw f q
-      pick q r (no f) = r (omega arith)
+      on-from p true j k g (w .0) (λ f. all-true (j + 1) n (w .1) k f (omega arith))
 
   pub all-each : (n : ℕ) → allFrom p 0 n ≡ true → (k : ℕ) → k < n → p k ≡ true
   all-each n e k h = all-true 0 n e k (omega arith) (omega arith)
@@ -177,11 +172,7 @@ module _ (p : ℕ → Bool) where
   any-false j zero e k g h = absurd (omega arith)
   any-false j (suc n) e k g h =
       let w = or-false (p j) (anyFrom p (j + 1) n) e in
-      pick (w .0) (λ f. any-false (j + 1) n (w .1) k f (omega arith)) (ℕ-discrete k j)
-    where
-      pick : p j ≡ false → (j + 1 ≤ k → p k ≡ false) → Dec (k ≡ j) → p k ≡ false
-      pick q r (yes f) = rw f q
-      pick q r (no f) = r (omega arith)
+      on-from p false j k g (w .0) (λ f. any-false (j + 1) n (w .1) k f (omega arith))
 
   -- a test of any that fails says that each fails
   pub none-each : (n : ℕ) → anyFrom p 0 n ≡ false → (k : ℕ) → k < n → p k ≡ false
@@ -200,8 +191,4 @@ module _ (p : ℕ → Bool) where
   first-missing j zero h k a b = absurd (omega arith)
   first-missing j (suc n) h k a b =
       cond-keeps (λ (i : ℕ). j + suc n ≤ i → p k ≡ false) (p j) (λ e i. absurd (omega arith))
-      (λ e i. pick e (λ u. first-missing (j + 1) n (omega arith) k u (omega arith)) (ℕ-discrete k j)) h
-    where
-      pick : p j ≡ false → (j + 1 ≤ k → p k ≡ false) → Dec (k ≡ j) → p k ≡ false
-      pick e r (yes q) = rw q e
-      pick e r (no q) = r (omega arith)
+      (λ e i. on-from p false j k a e (λ u. first-missing (j + 1) n (omega arith) k u (omega arith))) h

@@ -7,38 +7,9 @@ use mathlib.Core.Path.{_≡_, sym, _∙_}
 use lib.Dec.{ltb}
 use borrow.Author.Tests.{lt-ltb, le-ltb}
 use Rattle.laws.specs.Choice.{true-or-false}
-use Rattle.laws.specs.Loop.{foldFrom, firstFrom, anyFrom, first-stop, first-end}
+use Rattle.laws.specs.Loop.{foldFrom, firstFrom, anyFrom, first-stop, first-end, first-found}
 
 module _ (p : ℕ → Bool) where
-  -- where the first number is
-  first-low : (j n : ℕ) → j ≤ firstFrom p j n
-  unfolding firstFrom
-  first-low j zero = omega arith
-  first-low j (suc n) = pick (first-low (j + 1) n) (true-or-false (p j))
-    where
-      pick : j + 1 ≤ firstFrom p (j + 1) n → (p j ≡ true) ⊎ (p j ≡ false) → j ≤ cond (p j) j (firstFrom p (j + 1) n)
-      pick h (inl e) = rw e (omega arith)
-      pick h (inr e) = rw e (omega arith)
-
-  first-high : (j n : ℕ) → firstFrom p j n ≤ j + n
-  unfolding firstFrom
-  first-high j zero = omega arith
-  first-high j (suc n) = pick (first-high (j + 1) n) (true-or-false (p j))
-    where
-      pick : firstFrom p (j + 1) n ≤ (j + 1) + n → (p j ≡ true) ⊎ (p j ≡ false) → cond (p j) j (firstFrom p (j + 1) n) ≤ j + suc n
-      pick h (inl e) = rw e (omega arith)
-      pick h (inr e) = rw e (omega arith)
-
-  hit : (j n : ℕ) → firstFrom p j n < j + n → p (firstFrom p j n) ≡ true
-  unfolding firstFrom
-  hit j zero h = absurd (omega arith)
-  hit j (suc n) h = pick (hit (j + 1) n) (true-or-false (p j)) h
-    where
-      pick : (firstFrom p (j + 1) n < (j + 1) + n → p (firstFrom p (j + 1) n) ≡ true) → (p j ≡ true) ⊎ (p j ≡ false)
-          → cond (p j) j (firstFrom p (j + 1) n) < j + suc n → p (cond (p j) j (firstFrom p (j + 1) n)) ≡ true
-      pick r (inl e) = rw e (λ h. e)
-      pick r (inr e) = rw e (λ h. r (omega arith))
-
   -- some number passes where the first one that does is one of them
   any-first : (j n : ℕ) → ltb (firstFrom p j n) (j + n) ≡ anyFrom p j n
   unfolding firstFrom anyFrom
@@ -58,14 +29,8 @@ module _ (p : ℕ → Bool) where
     whole : j + (N - j) ≡ N
     whole = omega arith
 
-    pub first-from : j ≤ k
-    first-from = rw f (first-low j (N - j))
-
-    pub first-to : k ≤ N
-    first-to = rw f (rw whole at (first-high j (N - j)))
-
     pub first-is : k < N → p k ≡ true
-    first-is h = rw f (hit j (N - j) (rw (whole, ← f) h))
+    first-is h = rw f (first-found p j (N - j) (rw (whole, ← f) h))
 
   pub first-any : (N : ℕ) → ltb (firstFrom p 0 N) N ≡ anyFrom p 0 N
   first-any N = rw same at (any-first 0 N)

@@ -7,7 +7,7 @@ use mathlib.Core.List.{List}
 use mathlib.Core.Logic.{_⊎_, inl, inr}
 use mathlib.Core.Path.{_≡_, refl, sym, _∙_}
 use lib.ListN.{length, getD, set, length-set}
-use lib.Seq.{getD-set-same, getD-set-other}
+use lib.Seq.{getD-set-same, getD-set-other, set-out}
 use Rattle.laws.specs.Choice.{cond-keeps}
 use Rattle.laws.specs.Loop.{foldFrom}
 
@@ -78,6 +78,12 @@ module _ {ℓ} {A : Type ℓ} (p : ℕ → Bool) (f : ℕ → ℕ) (g : ℕ → 
   pub store-hit : ((a b : ℕ) → f a ≡ f b → a ≡ b) → (l : List A) (n k : ℕ) (d : A) → k < n → p k ≡ true → f k < length l → getD (storeEach l n) (f k) d ≡ g k
   unfolding storeEach
   store-hit inj l n k d h e i = from-hit inj l 0 n k d (omega arith) (omega arith) e i
+
+-- a pass that stores at its own number, past the end of the list
+pub pass-past {ℓ} : {A : Type ℓ} (g : List A → ℕ → A) (l : List A) (j n : ℕ) → length l ≤ j → foldFrom (λ (m : List A) k. set m k (g m k)) l j n ≡ l
+unfolding foldFrom
+pass-past g l j zero h = refl
+pass-past g l j (suc n) h = rw (set-out l j (g l j) h) (pass-past g l (j + 1) n (omega arith))
 
 -- a pass that goes on where the last turn left it: the form of a loop
 abbrev pub always : ℕ → Bool

@@ -1,7 +1,7 @@
 -- The numbers and stores of straight-line code are those of the definitions.
 use Prim.Native.Nat.{ℕ, suc, _+_, _*_, _/_, _%_}
 use native.Mathlib.Omega.{arith}
-use mathlib.Core.List.{List, _∷_}
+use mathlib.Core.List.{List}
 use mathlib.Core.Path.{_≡_, _∙_}
 use lib.ListN.{getD, set, length-set}
 use lib.Seq.{sets}

@@ -1,5 +1,6 @@
 -- Numbers in bytes, the lowest byte first (01: "little endian"), for any width.
 use Prim.Native.Nat.{ℕ, zero, suc, _+_, _*_, _/_, _%_, _<_, _≤_}
+use native.Mathlib.Nat.{add-zero}
 use native.Mathlib.Numerals.{add-one}
 use native.Mathlib.Omega.{arith}
 use mathlib.Core.List.{List, [], _∷_, _++_}
@@ -46,11 +47,8 @@ length-bytes zero n = refl
 length-bytes (suc w) n = ap suc (length-bytes w (n / 256))
 
 -- stores one after the other
-sets-then : (l : List ℕ) (p : ℕ) (a b : List ℕ) → sets (sets l p a) (p + length a) b ≡ sets l p (a ++ b)
-sets-then l p [] b = rw (nothing p)
-  where
-    nothing : (p : ℕ) → p + 0 ≡ p
-    nothing p = omega arith
+pub sets-then : (l : List ℕ) (p : ℕ) (a b : List ℕ) → sets (sets l p a) (p + length a) b ≡ sets l p (a ++ b)
+sets-then l p [] b = rw add-zero
 sets-then l p (x ∷ a) b =
     let e : p + length (x ∷ a) ≡ suc p + length a = omega arith in
     rw e (sets-then (set l p x) (suc p) a b)
@@ -89,10 +87,7 @@ number-below l b p (suc w) = omega (arith, b p, number-below l b (p + 1) w)
 -- bytes taken out of a list and what follows them are the list from there on
 pub bytes-then : (l : List ℕ) (p w : ℕ) → p + w ≤ length l → bytesAt l p w ++ drop (p + w) l ≡ drop p l
 unfolding bytesAt
-bytes-then l p zero h = rw (nothing p)
-  where
-    nothing : (p : ℕ) → p + 0 ≡ p
-    nothing p = omega arith
+bytes-then l p zero h = rw add-zero
 bytes-then l p (suc w) h =
     let one : p + suc w ≡ p + 1 + w = omega arith in
     let here : p < length l = omega arith in

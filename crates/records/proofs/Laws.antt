@@ -6,11 +6,11 @@ use mathlib.Core.List.{List}
 use mathlib.Core.Logic.{⊎-elim}
 use mathlib.Core.Path.{_≡_, refl, sym, ap, _∙_}
 use lib.ListN.{length, getD, length-set}
-use lib.Seq.{set-out}
 use lib.Dec.{T, ltb, eqb}
 use borrow.Author.Tests.{ltb-true, ltb-false, eqb-true, lt-ltb, le-ltb, eq-eqb, ne-eqb}
 use Rattle.laws.specs.Choice.{and-true as both-of, true-or-false}
 use Rattle.laws.specs.Loop.{foldFrom}
+use Rattle.laws.specs.Store.{pass-past}
 use Rattle.protocol.specs.declared.records.Copy.{Copy}
 use Rattle.protocol.specs.declared.records.Request.{Request}
 use Rattle.protocol.specs.declared.setup.Setup.{Setup}
@@ -46,14 +46,9 @@ module _ (first n len : ℕ) where
 
 -- places past the end are neither read nor written: a pass may stop at the end
 module _ (s : Setup) (g : Sweep) (first : ℕ) where
-  pass-past : (l : List Copy) (j n : ℕ) → length l ≤ j → foldFrom (sweepAt s g first) l j n ≡ l
-  unfolding foldFrom
-  pass-past l j zero h = refl
-  pass-past l j (suc n) h = rw (set-out l j (swept s g (getD l j noCopy) (j - first)) h) (pass-past l (j + 1) n (omega arith))
-
   pass-cut : (l : List Copy) (j m n : ℕ) → m ≤ n → length l ≤ j + m → foldFrom (sweepAt s g first) l j m ≡ foldFrom (sweepAt s g first) l j n
   unfolding foldFrom
-  pass-cut l j zero n h k = sym (pass-past l j n (omega arith))
+  pass-cut l j zero n h k = sym (pass-past (λ m k. swept s g (getD m k noCopy) (k - first)) l j n (omega arith))
   pass-cut l j (suc m) zero h k = absurd (omega arith)
   pass-cut l j (suc m) (suc n) h k = pass-cut (sweepAt s g first l j) (j + 1) m n (omega arith) (rw (length-set l j (swept s g (getD l j noCopy) (j - first))) (omega arith))
 

@@ -1,5 +1,5 @@
 -- The steps of a run file, in order.
-use Prim.Native.Nat.{ℕ, zero, suc, _+_, _-_, _*_, _<_, _≤_}
+use Prim.Native.Nat.{ℕ, zero, suc, _+_, _*_, _<_, _≤_}
 use native.Mathlib.Omega.{arith}
 use mathlib.Core.Bool.{true, _&&_}
 use mathlib.Core.List.{List, [], _∷_}
@@ -9,7 +9,7 @@ use lib.ListN.{length, getD}
 use borrow.Author.Tests.{leb-true, eqb-true, le-leb}
 use Rattle.laws.specs.Choice.{and-true}
 use Rattle.protocol.specs.declared.step.Step.{Step}
-use Rattle.runfile.specs.File.{countOf, distanceOf, setupPlace, firstPlace, placeOf, stepIn, stepAt, trailerFits, measured, contentsFit, wellFormed}
+use Rattle.runfile.specs.File.{countOf, distanceOf, firstPlace, placeOf, stepIn, stepAt, trailerFits, measured, contentsFit, wellFormed}
 use Rattle.protocol.specs.Setup.{between}
 
 -- n records from place p on

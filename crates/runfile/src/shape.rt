@@ -11,13 +11,12 @@ use protocol::step::Step;
 fn step_fits(x: Step) -> bool
     ensures { λ r. ⌜ r ≡ stepFits x ⌝ }
 {
-    let known = (1 <= x.kind) & (x.kind <= 9);
-    let client = (x.kind == 2) | (x.kind == 3) | (x.kind == 9) | (x.client == 0);
-    let object = (x.kind == 2) | (x.kind == 3) | (x.kind == 4) | (x.object == 0);
-    let place = (x.kind == 5) | (x.kind == 6) | (x.kind == 7) | (x.place == 0);
-    let clock = (x.kind == 1) | (x.clock == 0);
-    let value = (x.kind == 4) | (x.value == 0);
-    !known | (client & object & place & clock & value)
+    let client = kinds::uses_client(x) | (x.client == 0);
+    let object = kinds::uses_object(x) | (x.object == 0);
+    let place = kinds::uses_place(x) | (x.place == 0);
+    let clock = kinds::uses_clock(x) | (x.clock == 0);
+    let value = kinds::uses_value(x) | (x.value == 0);
+    !kinds::known(x) | (client & object & place & clock & value)
 }
 
 fn steps_fit(file: &[u8], first: usize, count: u32) -> bool

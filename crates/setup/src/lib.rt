@@ -1,7 +1,7 @@
 // A setup in range, and fresh tables for one (01, "Tables").
 pub mod fresh;
 
-ghost use Prim.Native.Nat.{_-_, _<_};
+ghost use Prim.Native.Nat.{_<_};
 ghost use lib.Dec.{ltb, eqb};
 ghost use mathlib.Core.Bool.{cond};
 ghost use mathlib.Core.Path.{_≡_};

@@ -2,11 +2,6 @@ use borrow.Author.Needs.{needs}
 use Rattle.frame.proofs.Laws.{accept-yes, accept-no}
 use Rattle.frame.proofs.accept.Statement.{statement}
 use Rattle.frame.proofs.accept.Tie as tie
-use Rattle.frame.proofs.accept.Reads as reads
-use Rattle.frame.proofs.accept.Lts as lts
-use Rattle.frame.proofs.fields.fields_of.Reads as fields-of-reads
-use Rattle.frame.proofs.fields.message_in.Reads as message-in-reads
-use Rattle.frame.proofs.fields.same.Reads as same-reads
 
 message-in-requires : tie.Need-message-in-requires
 message-in-requires c κs = search needs

@@ -2,10 +2,6 @@ use borrow.Author.Needs.{needs}
 use Rattle.frame.proofs.Laws.{decode-yes, decode-no}
 use Rattle.frame.proofs.decode.Statement.{statement}
 use Rattle.frame.proofs.decode.Tie as tie
-use Rattle.frame.proofs.decode.Reads as reads
-use Rattle.frame.proofs.decode.Lts as lts
-use Rattle.frame.proofs.accept.Reads as accept-reads
-use Rattle.frame.proofs.place.read.Reads as read-reads
 
 read-requires : tie.Need-read-requires
 read-requires c κs = search needs

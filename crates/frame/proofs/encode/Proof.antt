@@ -2,10 +2,6 @@ use borrow.Author.Needs.{needs}
 use Rattle.frame.proofs.Laws.{encode-yes, encode-no}
 use Rattle.frame.proofs.encode.Statement.{statement}
 use Rattle.frame.proofs.encode.Tie as tie
-use Rattle.frame.proofs.encode.Reads as reads
-use Rattle.frame.proofs.encode.Lts as lts
-use Rattle.frame.proofs.fields.fields_of.Reads as fields-of-reads
-use Rattle.frame.proofs.place.write.Reads as write-reads
 
 fields-of-requires : tie.Need-fields-of-requires
 fields-of-requires c κs = search needs

@@ -2,9 +2,6 @@ use borrow.Author.Needs.{needs}
 use Rattle.layout.proofs.Laws.{four}
 use Rattle.layout.proofs.read_u32.Statement.{statement}
 use Rattle.layout.proofs.read_u32.Tie as tie
-use Rattle.layout.proofs.read_u32.Reads as reads
-use Rattle.layout.proofs.read_u32.Lts as lts
-use Rattle.layout.proofs.join.Reads as join-reads
 
 shared-slice-read-join : tie.Need-shared-slice-read-join
 shared-slice-read-join c = search needs

@@ -2,9 +2,6 @@ use borrow.Author.Needs.{needs}
 use Rattle.layout.proofs.Laws.{eight}
 use Rattle.layout.proofs.read_u64.Statement.{statement}
 use Rattle.layout.proofs.read_u64.Tie as tie
-use Rattle.layout.proofs.read_u64.Reads as reads
-use Rattle.layout.proofs.read_u64.Lts as lts
-use Rattle.layout.proofs.read_u32.Reads as read-u32-reads
 
 read-u32-requires : tie.Need-read-u32-requires
 read-u32-requires c κs = search needs

@@ -4,9 +4,6 @@ use lib.ListN.{length-set}
 use Rattle.layout.proofs.Laws.{store-four}
 use Rattle.layout.proofs.write_u32.Statement.{statement}
 use Rattle.layout.proofs.write_u32.Tie as tie
-use Rattle.layout.proofs.write_u32.Reads as reads
-use Rattle.layout.proofs.write_u32.Lts as lts
-use Rattle.layout.proofs.low_byte.Reads as low-byte-reads
 
 low-byte-requires : tie.Need-low-byte-requires
 low-byte-requires c κs = search needs

@@ -2,9 +2,6 @@ use borrow.Author.Needs.{needs}
 use Rattle.layout.proofs.Laws.{store-eight}
 use Rattle.layout.proofs.write_u64.Statement.{statement}
 use Rattle.layout.proofs.write_u64.Tie as tie
-use Rattle.layout.proofs.write_u64.Reads as reads
-use Rattle.layout.proofs.write_u64.Lts as lts
-use Rattle.layout.proofs.write_u32.Reads as write-u32-reads
 
 cast-write-u32 : tie.Need-cast-write-u32
 cast-write-u32 c = search needs

@@ -2,10 +2,6 @@ use Rattle.runfile.proofs.Laws.{note-long, formed-by, note-yes, note-no
 use borrow.Author.Needs.{needs}
 use Rattle.runfile.proofs.note.Statement.{statement}
 use Rattle.runfile.proofs.note.Tie as tie
-use Rattle.runfile.proofs.note.Reads as reads
-use Rattle.runfile.proofs.note.Lts as lts
-use Rattle.runfile.proofs.shape.setup_place.Reads as setup-place-reads
-use Rattle.runfile.proofs.shape.well_formed.Reads as well-formed-reads
 
 well-formed-requires : tie.Need-well-formed-requires
 well-formed-requires c κs = search needs

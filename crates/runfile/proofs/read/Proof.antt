@@ -2,13 +2,6 @@ use Rattle.runfile.proofs.Laws.{formed-by, setup-there, read-yes, read-
 use borrow.Author.Needs.{needs}
 use Rattle.runfile.proofs.read.Statement.{statement}
 use Rattle.runfile.proofs.read.Tie as tie
-use Rattle.runfile.proofs.read.Reads as reads
-use Rattle.runfile.proofs.read.Lts as lts
-use Rattle.runfile.proofs.record.setup_in.Reads as setup-in-reads
-use Rattle.runfile.proofs.refused.Reads as refused-reads
-use Rattle.runfile.proofs.shape.count_of.Reads as count-of-reads
-use Rattle.runfile.proofs.shape.setup_place.Reads as setup-place-reads
-use Rattle.runfile.proofs.shape.well_formed.Reads as well-formed-reads
 
 well-formed-requires : tie.Need-well-formed-requires
 well-formed-requires c κs = search needs

@@ -2,8 +2,6 @@
 use borrow.Author.Needs.{needs}
 use Rattle.runfile.proofs.refused.Statement.{statement}
 use Rattle.runfile.proofs.refused.Tie as tie
-use Rattle.runfile.proofs.refused.Reads as reads
-use Rattle.runfile.proofs.refused.Lts as lts
 
 returns : tie.Need-returns
 returns c = search needs

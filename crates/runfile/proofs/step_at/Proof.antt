@@ -2,10 +2,6 @@ use Rattle.runfile.proofs.Laws.{before-file, in-file, past-file}
 use borrow.Author.Needs.{needs}
 use Rattle.runfile.proofs.step_at.Statement.{statement}
 use Rattle.runfile.proofs.step_at.Tie as tie
-use Rattle.runfile.proofs.step_at.Reads as reads
-use Rattle.runfile.proofs.step_at.Lts as lts
-use Rattle.runfile.proofs.record.no_step.Reads as no-step-reads
-use Rattle.runfile.proofs.record.step_in.Reads as step-in-reads
 
 no-step-requires : tie.Need-no-step-requires
 no-step-requires c κs = search needs

@@ -2,10 +2,6 @@ use borrow.Author.Needs.{needs}
 use Rattle.protocol.specs.Setup.{inRange}
 use Rattle.setup.proofs.in_range.Statement.{statement}
 use Rattle.setup.proofs.in_range.Tie as tie
-use Rattle.setup.proofs.in_range.Reads as reads
-use Rattle.setup.proofs.in_range.Lts as lts
-use Rattle.setup.proofs.between.Reads as between-reads
-use Rattle.setup.proofs.volumes_fit.Reads as volumes-fit-reads
 
 between-requires : tie.Need-between-requires
 between-requires c κs = search needs

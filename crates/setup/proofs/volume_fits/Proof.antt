@@ -1,8 +1,6 @@
 use borrow.Author.Tests.{lt-ltb, le-ltb}
 use Rattle.setup.proofs.volume_fits.Statement.{statement}
 use Rattle.setup.proofs.volume_fits.Tie as tie
-use Rattle.setup.proofs.volume_fits.Reads as reads
-use Rattle.setup.proofs.volume_fits.Lts as lts
 
 returns : tie.Need-returns
 returns c = rw (lt-ltb _ _ (c .if1 .taken))

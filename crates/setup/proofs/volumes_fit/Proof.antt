@@ -1,17 +1,13 @@
 use borrow.Author.Needs.{needs}
-use Prim.Native.Nat.{_-_, _≤_}
-use mathlib.Core.Bool.{_&&_}
-use mathlib.Core.Path.{_≡_, refl}
-use Rattle.laws.specs.Loop.{allFrom, all-by, all-end}
+use Prim.Native.Nat.{_-_}
+use mathlib.Core.Path.{refl}
+use Rattle.laws.specs.Loop.{Scanning, all-by, all-end}
 use Rattle.protocol.specs.Setup.{volumeFits}
 use Rattle.setup.proofs.volumes_fit.Statement.{statement}
 use Rattle.setup.proofs.volumes_fit.Tie as tie
-use Rattle.setup.proofs.volumes_fit.Reads as reads
-use Rattle.setup.proofs.volumes_fit.Lts as lts
-use Rattle.setup.proofs.volume_fits.Reads as volume-fits-reads
 
 abbrev Inv-loop : tie.InvT-loop
-Inv-loop s ok₀ o₀ ok o = (o ≤ 32) × ((ok && allFrom (volumeFits s) o (32 - o)) ≡ allFrom (volumeFits s) 0 32)
+Inv-loop s ok₀ o₀ ok o = Scanning (volumeFits s) 32 ok o
 
 abbrev μ-loop : tie.MeasureT-loop
 μ-loop s ok₀ o₀ ok o = 32 - o

@@ -4,8 +4,8 @@ use denote.Ref.{now}
 use Rattle.client.specs.Shown.{read-answered}
 use Rattle.leases.specs.Parts.{tablesOf}
 use Rattle.protocol.specs.Tables.{freshSessions}
-use Rattle.protocol.specs.Soundness.Steps.{passed, next-grows}
-use Rattle.decide.proofs.Laws.{client-16, object-32, volume-of-8, volumes-8, client-named, object-named, place-named, last-client, by-read, by-ask, by-lose, by-double, by-last, asks, restarts}
+use Rattle.protocol.specs.Soundness.Steps.{passed, client-exists, object-exists, place-exists, next-grows}
+use Rattle.decide.proofs.Laws.{client-16, object-32, volume-of-8, volumes-8, last-client, by-read, by-ask, by-lose, by-double, by-last, asks, restarts}
 use borrow.Author.Needs.{needs}
 use Rattle.decide.proofs.client_steps.perform.Statement.{statement}
 use Rattle.decide.proofs.client_steps.perform.Tie as tie
@@ -15,8 +15,8 @@ read-requires c κs =
     let a = c .before .before .before .args in
     let p = c .before .before .before .pre in
     let e = p .1 .1 .1 freshSessions [] [] in
-    let o = object-named (a .s) (tablesOf (a .clock) (a .w) freshSessions (a .b) [] [] (record { epoch = now (a .epochs); expiry = now (a .expiries) }) (a .q)) (a .r) (a .x) e 2 (c .before .if1 .taken) refl in
-    (client-16 (a .s) (p .0) _ (client-named (a .s) (tablesOf (a .clock) (a .w) freshSessions (a .b) [] [] (record { epoch = now (a .epochs); expiry = now (a .expiries) }) (a .q)) (a .r) (a .x) e 2 (c .before .if1 .taken) refl), object-32 (a .s) (p .0) _ o, volume-of-8 (a .s) (p .0) _ o)
+    let o = object-exists (passed (a .s) (tablesOf (a .clock) (a .w) freshSessions (a .b) [] [] (record { epoch = now (a .epochs); expiry = now (a .expiries) }) (a .q)) (a .r) (a .x) e) (rw (c .before .if1 .taken)) in
+    (client-16 (a .s) (p .0) _ (client-exists (passed (a .s) (tablesOf (a .clock) (a .w) freshSessions (a .b) [] [] (record { epoch = now (a .epochs); expiry = now (a .expiries) }) (a .q)) (a .r) (a .x) e) (rw (c .before .if1 .taken))), object-32 (a .s) (p .0) _ o, volume-of-8 (a .s) (p .0) _ o)
 
 returns : tie.Need-returns
 returns c = λ v l k.
@@ -28,8 +28,8 @@ ask-requires c κs =
     let a = c .before .before .before .before .before .args in
     let p = c .before .before .before .before .before .pre in
     let e = p .1 .1 .1 freshSessions [] [] in
-    let o = object-named (a .s) (tablesOf (a .clock) (a .w) freshSessions (a .b) [] [] (record { epoch = now (a .epochs); expiry = now (a .expiries) }) (a .q)) (a .r) (a .x) e 3 (c .before .if2 .taken) refl in
-    (client-16 (a .s) (p .0) _ (client-named (a .s) (tablesOf (a .clock) (a .w) freshSessions (a .b) [] [] (record { epoch = now (a .epochs); expiry = now (a .expiries) }) (a .q)) (a .r) (a .x) e 3 (c .before .if2 .taken) refl), object-32 (a .s) (p .0) _ o, volume-of-8 (a .s) (p .0) _ o)
+    let o = object-exists (passed (a .s) (tablesOf (a .clock) (a .w) freshSessions (a .b) [] [] (record { epoch = now (a .epochs); expiry = now (a .expiries) }) (a .q)) (a .r) (a .x) e) (rw (c .before .if2 .taken)) in
+    (client-16 (a .s) (p .0) _ (client-exists (passed (a .s) (tablesOf (a .clock) (a .w) freshSessions (a .b) [] [] (record { epoch = now (a .epochs); expiry = now (a .expiries) }) (a .q)) (a .r) (a .x) e) (rw (c .before .if2 .taken))), object-32 (a .s) (p .0) _ o, volume-of-8 (a .s) (p .0) _ o)
 
 push-requires : tie.Need-push-requires
 push-requires c κs = search needs
@@ -54,7 +54,7 @@ remove-requires c κs =
     let a = c .before .before .before .before .before .before .before .args in
     let p = c .before .before .before .before .before .before .before .pre in
     let e = p .1 .1 .1 freshSessions [] [] in
-    (place-named (a .s) (tablesOf (a .clock) (a .w) freshSessions (a .b) [] [] (record { epoch = now (a .epochs); expiry = now (a .expiries) }) (a .q)) (a .r) (a .x) e 6 (c .before .if3 .taken) refl, p .1 .0)
+    (place-exists (passed (a .s) (tablesOf (a .clock) (a .w) freshSessions (a .b) [] [] (record { epoch = now (a .epochs); expiry = now (a .expiries) }) (a .q)) (a .r) (a .x) e) (rw (c .before .if3 .taken)), p .1 .0)
 
 returns-3 : tie.Need-returns-3
 returns-3 c = λ v l k.

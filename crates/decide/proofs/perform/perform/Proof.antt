@@ -1,9 +1,10 @@
-use mathlib.Core.Path.{refl, sym, _∙_}
+use mathlib.Core.Path.{sym, _∙_}
 use denote.Ref.{now}
 use Rattle.leases.specs.Parts.{sessionsOf, tablesOf}
 use Rattle.protocol.specs.Gate.{exists, timely, vacant, growable, refusalOfStep}
 use Rattle.protocol.specs.SoundLaws.{sound-clock, growing, sound-length}
-use Rattle.decide.proofs.Laws.{place-named, by-deliver, elsewhere}
+use Rattle.protocol.specs.Soundness.Steps.{passed, place-exists}
+use Rattle.decide.proofs.Laws.{by-deliver, elsewhere}
 use borrow.Author.Needs.{needs}
 use Rattle.decide.proofs.perform.perform.Statement.{statement}
 use Rattle.decide.proofs.perform.perform.Tie as tie
@@ -12,7 +13,7 @@ deliver-requires : tie.Need-deliver-requires
 deliver-requires c κs =
     let a = c .before .before .before .before .before .before .before .before .before .before .args in
     let p = c .before .before .before .before .before .before .before .before .before .before .pre in
-    (p .0, (p .1 .0, place-named (a .s) (tablesOf (a .clock) (a .w) (sessionsOf (now (a .seen)) (now (a .expiry)) (now (a .marks)) (now (a .offer))) (a .b) (now (a .lease)) (now (a .waiting)) (record { epoch = now (a .epochs); expiry = now (a .expiries) }) (a .q)) (a .r) (a .x) (p .1 .1) 5 (c .before .before .before .before .before .before .before .before .if1 .taken) refl))
+    (p .0, (p .1 .0, place-exists (passed (a .s) (tablesOf (a .clock) (a .w) (sessionsOf (now (a .seen)) (now (a .expiry)) (now (a .marks)) (now (a .offer))) (a .b) (now (a .lease)) (now (a .waiting)) (record { epoch = now (a .epochs); expiry = now (a .expiries) }) (a .q)) (a .r) (a .x) (p .1 .1)) (rw (c .before .before .before .before .before .before .before .before .if1 .taken))))
 
 returns : tie.Need-returns
 returns c =

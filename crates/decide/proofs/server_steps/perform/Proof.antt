@@ -3,8 +3,8 @@ use denote.Ref.{now}
 use Rattle.leases.specs.Parts.{sessionsOf, tablesOf}
 use Rattle.protocol.specs.Tables.{freshViews}
 use Rattle.writes.specs.Triggers.{triggered}
-use Rattle.protocol.specs.Soundness.Steps.{passed, version-grows, epochs-grow}
-use Rattle.decide.proofs.Laws.{by-clock, by-write, by-restart-server, object-named, at-eight}
+use Rattle.protocol.specs.Soundness.Steps.{passed, object-exists, version-grows, epochs-grow}
+use Rattle.decide.proofs.Laws.{by-clock, by-write, by-restart-server, at-eight}
 use borrow.Author.Needs.{needs}
 use Rattle.decide.proofs.server_steps.perform.Statement.{statement}
 use Rattle.decide.proofs.server_steps.perform.Tie as tie
@@ -30,7 +30,7 @@ accept-write-requires c κs =
     let a = c .before .before .before .before .before .before .before .before .before .args in
     let p = c .before .before .before .before .before .before .before .before .before .pre in
     let k = c .before .before .before .before .before .if2 .taken in
-    (p .0, (p .1 .0, (object-named (a .s) (tablesOf (a .clock) (a .w) (sessionsOf (now (a .seen)) (now (a .expiry)) (now (a .marks)) (now (a .offer))) (a .b) (now (a .lease)) (now (a .waiting)) v (a .q)) (a .r) (a .x) (p .1 .1 .1 .1 v) 4 k refl, version-grows (passed (a .s) (tablesOf (a .clock) (a .w) (sessionsOf (now (a .seen)) (now (a .expiry)) (now (a .marks)) (now (a .offer))) (a .b) (now (a .lease)) (now (a .waiting)) v (a .q)) (a .r) (a .x) (p .1 .1 .1 .1 v)) k)))
+    (p .0, (p .1 .0, (object-exists (passed (a .s) (tablesOf (a .clock) (a .w) (sessionsOf (now (a .seen)) (now (a .expiry)) (now (a .marks)) (now (a .offer))) (a .b) (now (a .lease)) (now (a .waiting)) v (a .q)) (a .r) (a .x) (p .1 .1 .1 .1 v)) (rw k), version-grows (passed (a .s) (tablesOf (a .clock) (a .w) (sessionsOf (now (a .seen)) (now (a .expiry)) (now (a .marks)) (now (a .offer))) (a .b) (now (a .lease)) (now (a .waiting)) v (a .q)) (a .r) (a .x) (p .1 .1 .1 .1 v)) k)))
 
 completed-answer-requires-2 : tie.Need-completed-answer-requires-2
 completed-answer-requires-2 c κs = search needs

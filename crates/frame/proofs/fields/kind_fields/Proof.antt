@@ -2,9 +2,6 @@ use borrow.Author.Needs.{needs}
 use Rattle.frame.proofs.Laws.{by-renew, by-value, by-none, by-invalidate, by-ack, by-offer, by-dropped}
 use Rattle.frame.proofs.fields.kind_fields.Statement.{statement}
 use Rattle.frame.proofs.fields.kind_fields.Tie as tie
-use Rattle.frame.proofs.fields.kind_fields.Reads as reads
-use Rattle.frame.proofs.fields.kind_fields.Lts as lts
-use Rattle.frame.proofs.fields.row.Reads as row-reads
 
 enum-known-kind : tie.Need-enum-known-kind
 enum-known-kind c = search needs

@@ -2,9 +2,6 @@ use borrow.Author.Needs.{needs}
 use Rattle.frame.proofs.Laws.{kind-2, kind-3, kind-4, kind-5, kind-6, kind-else}
 use Rattle.frame.proofs.fields.kind_in.Statement.{statement}
 use Rattle.frame.proofs.fields.kind_in.Tie as tie
-use Rattle.frame.proofs.fields.kind_in.Reads as reads
-use Rattle.frame.proofs.fields.kind_in.Lts as lts
-use Rattle.frame.proofs.fields.payload_in.Reads as payload-in-reads
 
 payload-in-requires : tie.Need-payload-in-requires
 payload-in-requires c κs = search needs

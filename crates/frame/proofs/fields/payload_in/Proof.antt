@@ -2,8 +2,6 @@ use borrow.Author.Needs.{needs}
 use Rattle.frame.proofs.Laws.{same-payload, with-payload}
 use Rattle.frame.proofs.fields.payload_in.Statement.{statement}
 use Rattle.frame.proofs.fields.payload_in.Tie as tie
-use Rattle.frame.proofs.fields.payload_in.Reads as reads
-use Rattle.frame.proofs.fields.payload_in.Lts as lts
 
 returns : tie.Need-returns
 returns c = search (same-payload, needs)

@@ -2,8 +2,6 @@ use borrow.Author.Needs.{needs}
 use Rattle.frame.specs.Frame.{same}
 use Rattle.frame.proofs.fields.same.Statement.{statement}
 use Rattle.frame.proofs.fields.same.Tie as tie
-use Rattle.frame.proofs.fields.same.Reads as reads
-use Rattle.frame.proofs.fields.same.Lts as lts
 
 returns : tie.Need-returns
 unfolding same

@@ -2,10 +2,6 @@ use borrow.Author.Needs.{needs}
 use Rattle.frame.specs.Frame.{fieldsIn}
 use Rattle.frame.proofs.place.read.Statement.{statement}
 use Rattle.frame.proofs.place.read.Tie as tie
-use Rattle.frame.proofs.place.read.Reads as reads
-use Rattle.frame.proofs.place.read.Lts as lts
-use Rattle.layout.proofs.read_u32.Reads as read-u32-reads
-use Rattle.layout.proofs.read_u64.Reads as read-u64-reads
 
 shared-slice-read-t3 : tie.Need-shared-slice-read-t3
 shared-slice-read-t3 c = search needs

@@ -3,8 +3,6 @@ use native.Mathlib.Omega.{arith}
 use lib.ListN.{length-set}
 use Rattle.frame.proofs.place.write_head.Statement.{statement}
 use Rattle.frame.proofs.place.write_head.Tie as tie
-use Rattle.frame.proofs.place.write_head.Reads as reads
-use Rattle.frame.proofs.place.write_head.Lts as lts
 
 slice-write-out : tie.Need-slice-write-out
 slice-write-out c = search needs

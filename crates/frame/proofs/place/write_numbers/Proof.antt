@@ -2,9 +2,6 @@ use borrow.Author.Needs.{needs}
 use Rattle.frame.proofs.Laws.{numbers-stored}
 use Rattle.frame.proofs.place.write_numbers.Statement.{statement}
 use Rattle.frame.proofs.place.write_numbers.Tie as tie
-use Rattle.frame.proofs.place.write_numbers.Reads as reads
-use Rattle.frame.proofs.place.write_numbers.Lts as lts
-use Rattle.layout.proofs.write_u32.Reads as write-u32-reads
 
 write-u32-requires : tie.Need-write-u32-requires
 write-u32-requires c κs = search needs

@@ -1,9 +1,7 @@
 use borrow.Author.Needs.{needs}
-use Prim.Native.Nat.{ℕ, _-_, _≤_, _<_}
+use Prim.Native.Nat.{ℕ, _-_}
 use native.Mathlib.Nat.{sub-zero}
-use mathlib.Core.Bool.{_&&_}
-use mathlib.Core.Path.{_≡_}
-use Rattle.laws.specs.Loop.{allFrom, all-by, all-end}
+use Rattle.laws.specs.Loop.{Scanning, all-by, all-end}
 use Rattle.protocol.specs.Messages.{messageAt}
 use Rattle.protocol.specs.Sound.{messageSound}
 use Rattle.gate.proofs.Laws.{queue-long, queue-short}
@@ -11,7 +9,7 @@ use Rattle.gate.proofs.messages.queue_sound.Statement.{statement}
 use Rattle.gate.proofs.messages.queue_sound.Tie as tie
 
 abbrev Inv-loop : tie.InvT-loop
-Inv-loop s q n ok₀ i₀ ok i = (i ≤ q .len) × ((ok && allFrom (λ (k : ℕ). messageSound s (messageAt q k)) i (q .len - i)) ≡ allFrom (λ (k : ℕ). messageSound s (messageAt q k)) 0 (q .len))
+Inv-loop s q n ok₀ i₀ ok i = Scanning (λ (k : ℕ). messageSound s (messageAt q k)) (q .len) ok i
 
 abbrev μ-loop : tie.MeasureT-loop
 μ-loop s q n ok₀ i₀ ok i = q .len - i

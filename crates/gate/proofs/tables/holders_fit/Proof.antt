@@ -1,15 +1,13 @@
 use borrow.Author.Needs.{needs}
-use Prim.Native.Nat.{_-_, _*_, _≤_, _<_}
+use Prim.Native.Nat.{_-_, _*_}
 use native.Mathlib.Nat.{sub-zero}
-use mathlib.Core.Bool.{_&&_}
-use mathlib.Core.Path.{_≡_}
-use Rattle.laws.specs.Loop.{allFrom, all-by, all-end}
+use Rattle.laws.specs.Loop.{Scanning, all-by, all-end}
 use Rattle.gate.specs.Scans.{rowFits}
 use Rattle.gate.proofs.tables.holders_fit.Statement.{statement}
 use Rattle.gate.proofs.tables.holders_fit.Tie as tie
 
 abbrev Inv-loop : tie.InvT-loop
-Inv-loop lease d n first ok₀ o₀ ok o = (o ≤ n) × ((ok && allFrom (rowFits lease (d * 32)) o (n - o)) ≡ allFrom (rowFits lease (d * 32)) 0 n)
+Inv-loop lease d n first ok₀ o₀ ok o = Scanning (rowFits lease (d * 32)) n ok o
 
 abbrev μ-loop : tie.MeasureT-loop
 μ-loop lease d n first ok₀ o₀ ok o = n - o

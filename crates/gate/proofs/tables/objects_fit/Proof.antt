@@ -1,15 +1,13 @@
 use borrow.Author.Needs.{needs}
-use Prim.Native.Nat.{_-_, _≤_, _<_}
+use Prim.Native.Nat.{_-_}
 use native.Mathlib.Nat.{sub-zero}
-use mathlib.Core.Bool.{_&&_}
-use mathlib.Core.Path.{_≡_}
-use Rattle.laws.specs.Loop.{allFrom, all-by, all-end}
+use Rattle.laws.specs.Loop.{Scanning, all-by, all-end}
 use Rattle.gate.specs.Scans.{objectFits}
 use Rattle.gate.proofs.tables.objects_fit.Statement.{statement}
 use Rattle.gate.proofs.tables.objects_fit.Tie as tie
 
 abbrev Inv-loop : tie.InvT-loop
-Inv-loop version expiry standing end n ok₀ o₀ ok o = (o ≤ n) × ((ok && allFrom (objectFits version expiry standing end) o (n - o)) ≡ allFrom (objectFits version expiry standing end) 0 n)
+Inv-loop version expiry standing end n ok₀ o₀ ok o = Scanning (objectFits version expiry standing end) n ok o
 
 abbrev μ-loop : tie.MeasureT-loop
 μ-loop version expiry standing end n ok₀ o₀ ok o = n - o

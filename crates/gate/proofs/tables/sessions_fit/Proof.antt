@@ -1,15 +1,13 @@
 use borrow.Author.Needs.{needs}
-use Prim.Native.Nat.{_-_, _*_, _≤_, _<_}
+use Prim.Native.Nat.{_-_, _*_}
 use native.Mathlib.Nat.{sub-zero}
-use mathlib.Core.Bool.{_&&_}
-use mathlib.Core.Path.{_≡_}
-use Rattle.laws.specs.Loop.{allFrom, all-by, all-end}
+use Rattle.laws.specs.Loop.{Scanning, all-by, all-end}
 use Rattle.gate.specs.Scans.{pairFits}
 use Rattle.gate.proofs.tables.sessions_fit.Statement.{statement}
 use Rattle.gate.proofs.tables.sessions_fit.Tie as tie
 
 abbrev Inv-loop : tie.InvT-loop
-Inv-loop server client d n first ok₀ v₀ ok v = (v ≤ n) × ((ok && allFrom (pairFits server client (d * 8)) v (n - v)) ≡ allFrom (pairFits server client (d * 8)) 0 n)
+Inv-loop server client d n first ok₀ v₀ ok v = Scanning (pairFits server client (d * 8)) n ok v
 
 abbrev μ-loop : tie.MeasureT-loop
 μ-loop server client d n first ok₀ v₀ ok v = n - v

@@ -1,15 +1,13 @@
 use borrow.Author.Needs.{needs}
-use Prim.Native.Nat.{_-_, _≤_, _<_}
+use Prim.Native.Nat.{_-_}
 use native.Mathlib.Nat.{sub-zero}
-use mathlib.Core.Bool.{_&&_}
-use mathlib.Core.Path.{_≡_}
-use Rattle.laws.specs.Loop.{allFrom, all-by, all-end}
+use Rattle.laws.specs.Loop.{Scanning, all-by, all-end}
 use Rattle.gate.specs.Scans.{volumeFits}
 use Rattle.gate.proofs.tables.volumes_fit.Statement.{statement}
 use Rattle.gate.proofs.tables.volumes_fit.Tie as tie
 
 abbrev Inv-loop : tie.InvT-loop
-Inv-loop epoch expiry guard n ok₀ v₀ ok v = (v ≤ n) × ((ok && allFrom (volumeFits epoch expiry guard) v (n - v)) ≡ allFrom (volumeFits epoch expiry guard) 0 n)
+Inv-loop epoch expiry guard n ok₀ v₀ ok v = Scanning (volumeFits epoch expiry guard) n ok v
 
 abbrev μ-loop : tie.MeasureT-loop
 μ-loop epoch expiry guard n ok₀ v₀ ok v = n - v

@@ -1,7 +1,6 @@
-use mathlib.Core.Path.{_≡_}
-use Prim.Native.Nat.{_≤_, _-_, ℕ}
+use Prim.Native.Nat.{_-_, ℕ}
 use lib.ListN.{getD}
-use Rattle.laws.specs.Loop.{foldFrom, fold-again, fold-end}
+use Rattle.laws.specs.Loop.{Folding, fold-again, fold-end}
 use Rattle.laws.specs.Store.{storeAt, storeEach, always}
 use Rattle.protocol.specs.Tables.{byVolume, byObject}
 use Rattle.leases.specs.Parts.{waitsBy}
@@ -12,7 +11,7 @@ use Rattle.leases.proofs.waiting.await_clients.Statement.{statement}
 use Rattle.leases.proofs.waiting.await_clients.Tie as tie
 
 abbrev Inv-loop : tie.InvT-loop
-Inv-loop waiting₀ lease unreachable expiry clock v o n d₀ waiting d = (d ≤ n) × (foldFrom (storeAt always (λ (d : ℕ). byObject d o) (λ (d : ℕ). waitsBy clock (getD lease (byObject d o) 0) (getD unreachable (byVolume d v) false) (getD expiry (byVolume d v) 0))) waiting d (n - d) ≡ foldFrom (storeAt always (λ (d : ℕ). byObject d o) (λ (d : ℕ). waitsBy clock (getD lease (byObject d o) 0) (getD unreachable (byVolume d v) false) (getD expiry (byVolume d v) 0))) waiting₀ 0 n)
+Inv-loop waiting₀ lease unreachable expiry clock v o n d₀ waiting d = Folding (storeAt always (λ (d : ℕ). byObject d o) (λ (d : ℕ). waitsBy clock (getD lease (byObject d o) 0) (getD unreachable (byVolume d v) false) (getD expiry (byVolume d v) 0))) n waiting₀ waiting d
 
 abbrev μ-loop : tie.MeasureT-loop
 μ-loop waiting₀ lease unreachable expiry clock v o n d₀ waiting d = n - d

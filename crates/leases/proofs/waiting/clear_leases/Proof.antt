@@ -1,6 +1,5 @@
-use mathlib.Core.Path.{_≡_}
-use Prim.Native.Nat.{_≤_, _-_, ℕ}
-use Rattle.laws.specs.Loop.{foldFrom, fold-again, fold-end}
+use Prim.Native.Nat.{_-_, ℕ}
+use Rattle.laws.specs.Loop.{Folding, fold-again, fold-end}
 use Rattle.laws.specs.Store.{storeAt, storeEach, always}
 use Rattle.protocol.specs.Tables.{byObject}
 use native.Mathlib.Nat.{sub-zero}
@@ -9,7 +8,7 @@ use Rattle.leases.proofs.waiting.clear_leases.Statement.{statement}
 use Rattle.leases.proofs.waiting.clear_leases.Tie as tie
 
 abbrev Inv-loop : tie.InvT-loop
-Inv-loop lease₀ o n d₀ lease d = (d ≤ n) × (foldFrom (storeAt always (λ (d : ℕ). byObject d o) (λ (d : ℕ). 0)) lease d (n - d) ≡ foldFrom (storeAt always (λ (d : ℕ). byObject d o) (λ (d : ℕ). 0)) lease₀ 0 n)
+Inv-loop lease₀ o n d₀ lease d = Folding (storeAt always (λ (d : ℕ). byObject d o) (λ (d : ℕ). 0)) n lease₀ lease d
 
 abbrev μ-loop : tie.MeasureT-loop
 μ-loop lease₀ o n d₀ lease d = n - d

@@ -1,6 +1,5 @@
-use mathlib.Core.Path.{_≡_}
-use Prim.Native.Nat.{_≤_, _-_, ℕ}
-use Rattle.laws.specs.Loop.{foldFrom, fold-again, fold-end}
+use Prim.Native.Nat.{_-_, ℕ}
+use Rattle.laws.specs.Loop.{Folding, fold-again, fold-end}
 use Rattle.laws.specs.Store.{storeAt, storeEach, always}
 use Rattle.protocol.specs.Tables.{byObject}
 use native.Mathlib.Nat.{sub-zero}
@@ -10,7 +9,7 @@ use Rattle.leases.proofs.waiting.clear_waiting.Statement.{statement}
 use Rattle.leases.proofs.waiting.clear_waiting.Tie as tie
 
 abbrev Inv-loop : tie.InvT-loop
-Inv-loop waiting₀ o n d₀ waiting d = (d ≤ n) × (foldFrom (storeAt always (λ (d : ℕ). byObject d o) (λ (d : ℕ). false)) waiting d (n - d) ≡ foldFrom (storeAt always (λ (d : ℕ). byObject d o) (λ (d : ℕ). false)) waiting₀ 0 n)
+Inv-loop waiting₀ o n d₀ waiting d = Folding (storeAt always (λ (d : ℕ). byObject d o) (λ (d : ℕ). false)) n waiting₀ waiting d
 
 abbrev μ-loop : tie.MeasureT-loop
 μ-loop waiting₀ o n d₀ waiting d = n - d

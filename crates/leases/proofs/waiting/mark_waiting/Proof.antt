@@ -1,6 +1,5 @@
-use mathlib.Core.Path.{_≡_}
-use Prim.Native.Nat.{_≤_, _-_}
-use Rattle.laws.specs.Loop.{foldFrom, fold-again, fold-end}
+use Prim.Native.Nat.{_-_}
+use Rattle.laws.specs.Loop.{Folding, fold-again, fold-end}
 use Rattle.leases.specs.Parts.{markOne}
 use native.Mathlib.Nat.{sub-zero}
 use borrow.Author.Needs.{needs}
@@ -8,7 +7,7 @@ use Rattle.leases.proofs.waiting.mark_waiting.Statement.{statement}
 use Rattle.leases.proofs.waiting.mark_waiting.Tie as tie
 
 abbrev Inv-loop : tie.InvT-loop
-Inv-loop marks₀ waiting v o n d₀ marks d = (d ≤ n) × (foldFrom (markOne waiting v o) marks d (n - d) ≡ foldFrom (markOne waiting v o) marks₀ 0 n)
+Inv-loop marks₀ waiting v o n d₀ marks d = Folding (markOne waiting v o) n marks₀ marks d
 
 abbrev μ-loop : tie.MeasureT-loop
 μ-loop marks₀ waiting v o n d₀ marks d = n - d

@@ -1,6 +1,6 @@
-use mathlib.Core.Path.{_≡_, refl}
-use Prim.Native.Nat.{_≤_, _-_}
-use Rattle.laws.specs.Loop.{firstFrom, first-again}
+use mathlib.Core.Path.{refl}
+use Prim.Native.Nat.{_-_}
+use Rattle.laws.specs.Loop.{Seeking, first-again}
 use Rattle.leases.specs.Parts.{waitingFor}
 use Rattle.laws.specs.Skip.{found-stop, found-end}
 use borrow.Author.Needs.{needs}
@@ -8,7 +8,7 @@ use Rattle.leases.proofs.waiting.next_waiting.Statement.{statement}
 use Rattle.leases.proofs.waiting.next_waiting.Tie as tie
 
 abbrev Inv-loop : tie.InvT-loop
-Inv-loop waiting o from n d₀ d = (from ≤ d) × (d ≤ n) × (firstFrom (waitingFor waiting o) d (n - d) ≡ firstFrom (waitingFor waiting o) from (n - from))
+Inv-loop waiting o from n d₀ d = Seeking (waitingFor waiting o) n from d
 
 abbrev μ-loop : tie.MeasureT-loop
 μ-loop waiting o from n d₀ d = n - d

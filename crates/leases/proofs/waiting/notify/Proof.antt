@@ -1,6 +1,5 @@
-use mathlib.Core.Path.{_≡_}
-use Prim.Native.Nat.{_≤_, _-_}
-use Rattle.laws.specs.Loop.{foldFrom}
+use Prim.Native.Nat.{_-_}
+use Rattle.laws.specs.Loop.{Folding}
 use Rattle.leases.specs.Parts.{notifyOne}
 use Rattle.leases.proofs.Laws.{notify-end, notify-full, notify-again}
 use native.Mathlib.Nat.{sub-zero}
@@ -9,7 +8,7 @@ use Rattle.leases.proofs.waiting.notify.Statement.{statement}
 use Rattle.leases.proofs.waiting.notify.Tie as tie
 
 abbrev Inv-loop : tie.InvT-loop
-Inv-loop waiting o e w n u₀ from₀ u from = (from ≤ n) × (foldFrom (notifyOne waiting o e w) u from (n - from) ≡ foldFrom (notifyOne waiting o e w) u₀ 0 n)
+Inv-loop waiting o e w n u₀ from₀ u from = Folding (notifyOne waiting o e w) n u₀ u from
 
 abbrev μ-loop : tie.MeasureT-loop
 μ-loop waiting o e w n u₀ from₀ u from = n - from

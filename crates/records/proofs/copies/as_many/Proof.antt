@@ -2,8 +2,6 @@ use Rattle.records.specs.Places.{mul-fits}
 use borrow.Author.Needs.{needs}
 use Rattle.records.proofs.copies.as_many.Statement.{statement}
 use Rattle.records.proofs.copies.as_many.Tie as tie
-use Rattle.records.proofs.copies.as_many.Reads as reads
-use Rattle.records.proofs.copies.as_many.Lts as lts
 
 cast-clients : tie.Need-cast-clients
 cast-clients c = search needs

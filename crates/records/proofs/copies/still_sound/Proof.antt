@@ -1,9 +1,6 @@
 use borrow.Author.Needs.{needs}
 use Rattle.records.proofs.copies.still_sound.Statement.{statement}
 use Rattle.records.proofs.copies.still_sound.Tie as tie
-use Rattle.records.proofs.copies.still_sound.Reads as reads
-use Rattle.records.proofs.copies.still_sound.Lts as lts
-use Rattle.gate.proofs.records.copy_sound.Reads as copy-sound-reads
 
 copy-sound-requires : tie.Need-copy-sound-requires
 copy-sound-requires c κs = search needs

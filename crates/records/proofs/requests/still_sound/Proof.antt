@@ -1,9 +1,6 @@
 use borrow.Author.Needs.{needs}
 use Rattle.records.proofs.requests.still_sound.Statement.{statement}
 use Rattle.records.proofs.requests.still_sound.Tie as tie
-use Rattle.records.proofs.requests.still_sound.Reads as reads
-use Rattle.records.proofs.requests.still_sound.Lts as lts
-use Rattle.gate.proofs.records.request_sound.Reads as request-sound-reads
 
 request-sound-requires : tie.Need-request-sound-requires
 request-sound-requires c κs = search needs

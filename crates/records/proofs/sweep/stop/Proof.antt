@@ -2,8 +2,6 @@ use Rattle.records.proofs.Laws.{stop-end, stop-none, stop-within}
 use borrow.Author.Needs.{needs}
 use Rattle.records.proofs.sweep.stop.Statement.{statement}
 use Rattle.records.proofs.sweep.stop.Tie as tie
-use Rattle.records.proofs.sweep.stop.Reads as reads
-use Rattle.records.proofs.sweep.stop.Lts as lts
 
 sub-if2 : tie.Need-sub-if2
 sub-if2 c = search needs

@@ -1,10 +1,6 @@
 use borrow.Author.Needs.{needs}
 use Rattle.records.proofs.sweep.stop_at.Statement.{statement}
 use Rattle.records.proofs.sweep.stop_at.Tie as tie
-use Rattle.records.proofs.sweep.stop_at.Reads as reads
-use Rattle.records.proofs.sweep.stop_at.Lts as lts
-use Rattle.records.proofs.sweep.stop.Reads as stop-reads
-use Rattle.records.proofs.sweep.sweeps.Reads as sweeps-reads
 
 sweeps-requires : tie.Need-sweeps-requires
 sweeps-requires c κs = search needs

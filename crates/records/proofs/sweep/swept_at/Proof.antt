@@ -1,10 +1,6 @@
 use borrow.Author.Needs.{needs}
 use Rattle.records.proofs.sweep.swept_at.Statement.{statement}
 use Rattle.records.proofs.sweep.swept_at.Tie as tie
-use Rattle.records.proofs.sweep.swept_at.Reads as reads
-use Rattle.records.proofs.sweep.swept_at.Lts as lts
-use Rattle.records.proofs.sweep.less.Reads as less-reads
-use Rattle.client.proofs.copy.sweep.Reads as sweep-reads
 
 less-requires : tie.Need-less-requires
 less-requires c κs = search needs

@@ -2,9 +2,6 @@ use Rattle.records.proofs.Laws.{turn-end, turn-keep, turn-take}
 use borrow.Author.Needs.{needs}
 use Rattle.records.proofs.turn.turn_of.Statement.{statement}
 use Rattle.records.proofs.turn.turn_of.Tie as tie
-use Rattle.records.proofs.turn.turn_of.Reads as reads
-use Rattle.records.proofs.turn.turn_of.Lts as lts
-use Rattle.records.proofs.turn.is_over.Reads as is-over-reads
 
 is-over-requires : tie.Need-is-over-requires
 is-over-requires c κs = search needs

@@ -2,11 +2,6 @@ use Rattle.runfile.specs.File.{setupIn}
 use borrow.Author.Needs.{needs}
 use Rattle.runfile.proofs.record.setup_in.Statement.{statement}
 use Rattle.runfile.proofs.record.setup_in.Tie as tie
-use Rattle.runfile.proofs.record.setup_in.Reads as reads
-use Rattle.runfile.proofs.record.setup_in.Lts as lts
-use Rattle.layout.proofs.read_u32.Reads as read-u32-reads
-use Rattle.runfile.proofs.record.volumes_in.Reads as volumes-in-reads
-use Rattle.runfile.proofs.record.wide.Reads as wide-reads
 
 shared-slice-read-wide : tie.Need-shared-slice-read-wide
 shared-slice-read-wide c = search needs

@@ -2,10 +2,6 @@ use Rattle.runfile.specs.File.{stepIn}
 use borrow.Author.Needs.{needs}
 use Rattle.runfile.proofs.record.step_in.Statement.{statement}
 use Rattle.runfile.proofs.record.step_in.Tie as tie
-use Rattle.runfile.proofs.record.step_in.Reads as reads
-use Rattle.runfile.proofs.record.step_in.Lts as lts
-use Rattle.layout.proofs.read_u32.Reads as read-u32-reads
-use Rattle.layout.proofs.read_u64.Reads as read-u64-reads
 
 shared-slice-read-t4 : tie.Need-shared-slice-read-t4
 shared-slice-read-t4 c = search needs

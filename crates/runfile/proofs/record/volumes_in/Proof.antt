@@ -6,8 +6,6 @@ use Rattle.layout.specs.Number.{bytesAt}
 use Rattle.runfile.proofs.Laws.{copy-again, copy-end}
 use Rattle.runfile.proofs.record.volumes_in.Statement.{statement}
 use Rattle.runfile.proofs.record.volumes_in.Tie as tie
-use Rattle.runfile.proofs.record.volumes_in.Reads as reads
-use Rattle.runfile.proofs.record.volumes_in.Lts as lts
 
 abbrev Inv-loop : tie.InvT-loop
 Inv-loop file at v₀ o₀ v o = (o ≤ 32) × ((length v ≡ 32) × (take o v ≡ bytesAt file at o))

@@ -2,13 +2,6 @@ use Rattle.runfile.proofs.Laws.{contents-by}
 use borrow.Author.Needs.{needs}
 use Rattle.runfile.proofs.shape.contents_fit.Statement.{statement}
 use Rattle.runfile.proofs.shape.contents_fit.Tie as tie
-use Rattle.runfile.proofs.shape.contents_fit.Reads as reads
-use Rattle.runfile.proofs.shape.contents_fit.Lts as lts
-use Rattle.runfile.proofs.record.setup_in.Reads as setup-in-reads
-use Rattle.runfile.proofs.shape.count_of.Reads as count-of-reads
-use Rattle.runfile.proofs.shape.setup_place.Reads as setup-place-reads
-use Rattle.runfile.proofs.shape.steps_fit.Reads as steps-fit-reads
-use Rattle.setup.proofs.in_range.Reads as in-range-reads
 
 setup-place-requires : tie.Need-setup-place-requires
 setup-place-requires c κs = search needs

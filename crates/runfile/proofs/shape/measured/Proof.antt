@@ -2,10 +2,6 @@ use Rattle.runfile.proofs.Laws.{too-short, too-long, by-trailer}
 use borrow.Author.Needs.{needs}
 use Rattle.runfile.proofs.shape.measured.Statement.{statement}
 use Rattle.runfile.proofs.shape.measured.Tie as tie
-use Rattle.runfile.proofs.shape.measured.Reads as reads
-use Rattle.runfile.proofs.shape.measured.Lts as lts
-use Rattle.layout.proofs.read_u32.Reads as read-u32-reads
-use Rattle.runfile.proofs.shape.trailer_fits.Reads as trailer-fits-reads
 
 returns : tie.Need-returns
 returns c = search (too-short, needs)

@@ -1,20 +1,14 @@
 use borrow.Author.Needs.{needs}
-use Prim.Native.Nat.{_-_, _≤_}
+use Prim.Native.Nat.{_-_}
 use native.Mathlib.Nat.{sub-zero}
-use mathlib.Core.Bool.{_&&_}
-use mathlib.Core.Path.{_≡_}
-use Rattle.laws.specs.Loop.{allFrom, all-end}
+use Rattle.laws.specs.Loop.{Scanning, all-end}
 use Rattle.runfile.specs.File.{stepFitsAt}
 use Rattle.runfile.proofs.Laws.{steps-again}
 use Rattle.runfile.proofs.shape.steps_fit.Statement.{statement}
 use Rattle.runfile.proofs.shape.steps_fit.Tie as tie
-use Rattle.runfile.proofs.shape.steps_fit.Reads as reads
-use Rattle.runfile.proofs.shape.steps_fit.Lts as lts
-use Rattle.runfile.proofs.record.step_in.Reads as step-in-reads
-use Rattle.runfile.proofs.shape.step_fits.Reads as step-fits-reads
 
 abbrev Inv-loop : tie.InvT-loop
-Inv-loop file first count n ok₀ k₀ ok k = (k ≤ count) × ((ok && allFrom (stepFitsAt file first) k (count - k)) ≡ allFrom (stepFitsAt file first) 0 count)
+Inv-loop file first count n ok₀ k₀ ok k = Scanning (stepFitsAt file first) count ok k
 
 abbrev μ-loop : tie.MeasureT-loop
 μ-loop file first count n ok₀ k₀ ok k = count - k

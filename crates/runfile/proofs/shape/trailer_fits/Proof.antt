@@ -2,8 +2,6 @@
 use borrow.Author.Needs.{needs}
 use Rattle.runfile.proofs.shape.trailer_fits.Statement.{statement}
 use Rattle.runfile.proofs.shape.trailer_fits.Tie as tie
-use Rattle.runfile.proofs.shape.trailer_fits.Reads as reads
-use Rattle.runfile.proofs.shape.trailer_fits.Lts as lts
 
 mul-result : tie.Need-mul-result
 mul-result c = search needs

@@ -2,10 +2,6 @@ use Rattle.runfile.proofs.Laws.{parts-by, by-contents, not-measured}
 use borrow.Author.Needs.{needs}
 use Rattle.runfile.proofs.shape.well_formed.Statement.{statement}
 use Rattle.runfile.proofs.shape.well_formed.Tie as tie
-use Rattle.runfile.proofs.shape.well_formed.Reads as reads
-use Rattle.runfile.proofs.shape.well_formed.Lts as lts
-use Rattle.runfile.proofs.shape.contents_fit.Reads as contents-fit-reads
-use Rattle.runfile.proofs.shape.measured.Reads as measured-reads
 
 measured-requires : tie.Need-measured-requires
 measured-requires c κs = search needs

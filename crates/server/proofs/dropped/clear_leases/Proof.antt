@@ -1,7 +1,6 @@
 use native.Mathlib.Nat.{sub-zero}
-use mathlib.Core.Path.{_≡_}
-use Prim.Native.Nat.{_≤_, _-_, ℕ}
-use Rattle.laws.specs.Loop.{foldFrom, fold-again, fold-end}
+use Prim.Native.Nat.{_-_, ℕ}
+use Rattle.laws.specs.Loop.{Folding, fold-again, fold-end}
 use Rattle.laws.specs.Store.{storeEach, storeAt}
 use Rattle.protocol.specs.Tables.{byObject}
 use Rattle.protocol.specs.Server.{ofVolume}
@@ -10,7 +9,7 @@ use Rattle.server.proofs.dropped.clear_leases.Statement.{statement}
 use Rattle.server.proofs.dropped.clear_leases.Tie as tie
 
 abbrev Inv-loop : tie.InvT-loop
-Inv-loop lease₀ s d v n o₀ lease o = (o ≤ s .objects) × (foldFrom (storeAt (ofVolume s v) (byObject d) (λ (o : ℕ). 0)) lease o (s .objects - o) ≡ foldFrom (storeAt (ofVolume s v) (byObject d) (λ (o : ℕ). 0)) lease₀ 0 (s .objects))
+Inv-loop lease₀ s d v n o₀ lease o = Folding (storeAt (ofVolume s v) (byObject d) (λ (o : ℕ). 0)) (s .objects) lease₀ lease o
 
 abbrev μ-loop : tie.MeasureT-loop
 μ-loop lease₀ s d v n o₀ lease o = s .objects - o

@@ -1,8 +1,7 @@
 use native.Mathlib.Nat.{sub-zero}
 use mathlib.Core.Bool.{false}
-use mathlib.Core.Path.{_≡_}
-use Prim.Native.Nat.{_≤_, _-_, ℕ}
-use Rattle.laws.specs.Loop.{foldFrom, fold-again, fold-end}
+use Prim.Native.Nat.{_-_, ℕ}
+use Rattle.laws.specs.Loop.{Folding, fold-again, fold-end}
 use Rattle.laws.specs.Store.{storeEach, storeAt}
 use Rattle.protocol.specs.Tables.{byObject}
 use Rattle.protocol.specs.Server.{ofVolume}
@@ -11,7 +10,7 @@ use Rattle.server.proofs.dropped.clear_waiting.Statement.{statement}
 use Rattle.server.proofs.dropped.clear_waiting.Tie as tie
 
 abbrev Inv-loop : tie.InvT-loop
-Inv-loop waiting₀ s d v n o₀ waiting o = (o ≤ s .objects) × (foldFrom (storeAt (ofVolume s v) (byObject d) (λ (o : ℕ). false)) waiting o (s .objects - o) ≡ foldFrom (storeAt (ofVolume s v) (byObject d) (λ (o : ℕ). false)) waiting₀ 0 (s .objects))
+Inv-loop waiting₀ s d v n o₀ waiting o = Folding (storeAt (ofVolume s v) (byObject d) (λ (o : ℕ). false)) (s .objects) waiting₀ waiting o
 
 abbrev μ-loop : tie.MeasureT-loop
 μ-loop waiting₀ s d v n o₀ waiting o = s .objects - o

@@ -1,22 +1,22 @@
 use native.Mathlib.Omega.{arith}
 use native.Mathlib.Nat.{sub-zero}
 use mathlib.Core.Path.{_≡_}
-use Prim.Native.Nat.{_≤_, _-_, _+_, ℕ}
+use Prim.Native.Nat.{_-_, _+_, ℕ}
 use lib.ListN.{getD, length}
-use Rattle.laws.specs.Loop.{foldFrom, fold-again, fold-end}
+use Rattle.laws.specs.Loop.{Folding, fold-again, fold-end}
 use Rattle.laws.specs.Store.{storeEach, storeAt, always}
 use borrow.Author.Needs.{needs}
 use Rattle.server.proofs.restart.grown.Statement.{statement}
 use Rattle.server.proofs.restart.grown.Tie as tie
 
 abbrev Inv-loop : tie.InvT-loop
-Inv-loop n epoch e₀ v₀ e v = (length e ≡ 8) × (v ≤ n) × (foldFrom (storeAt always (λ (v : ℕ). v) (λ (v : ℕ). getD epoch v 0 + 1)) e v (n - v) ≡ foldFrom (storeAt always (λ (v : ℕ). v) (λ (v : ℕ). getD epoch v 0 + 1)) epoch 0 n)
+Inv-loop n epoch e₀ v₀ e v = (length e ≡ 8) × Folding (storeAt always (λ (v : ℕ). v) (λ (v : ℕ). getD epoch v 0 + 1)) n epoch e v
 
 abbrev μ-loop : tie.MeasureT-loop
 μ-loop n epoch e₀ v₀ e v = n - v
 
 loop-holds : tie.Need-loop-holds Inv-loop μ-loop
-loop-holds c = (search needs, search needs, rw sub-zero)
+loop-holds c = (search needs, (search needs, rw sub-zero))
 
 mul-e : tie.Need-mul-e Inv-loop μ-loop
 mul-e c = search needs
@@ -40,7 +40,7 @@ loop-less : tie.Need-loop-less Inv-loop μ-loop
 loop-less c = search needs
 
 loop-again : tie.Need-loop-again Inv-loop μ-loop
-loop-again c = (search needs, search needs, search fold-again)
+loop-again c = (search needs, (search needs, search fold-again))
 
 returns : tie.Need-returns Inv-loop μ-loop
 unfolding storeEach

@@ -2,10 +2,6 @@ use borrow.Author.Needs.{needs}
 use Rattle.setup.proofs.Laws.{fresh-in, fresh-out}
 use Rattle.setup.proofs.fresh.fresh.Statement.{statement}
 use Rattle.setup.proofs.fresh.fresh.Tie as tie
-use Rattle.setup.proofs.fresh.fresh.Reads as reads
-use Rattle.setup.proofs.fresh.fresh.Lts as lts
-use Rattle.setup.proofs.fresh.tables.Reads as tables-reads
-use Rattle.setup.proofs.in_range.Reads as in-range-reads
 
 in-range-requires : tie.Need-in-range-requires
 in-range-requires c κs = search needs

@@ -2,14 +2,6 @@ use borrow.Author.Needs.{needs}
 use Rattle.protocol.specs.Tables.{freshTables}
 use Rattle.setup.proofs.fresh.tables.Statement.{statement}
 use Rattle.setup.proofs.fresh.tables.Tie as tie
-use Rattle.setup.proofs.fresh.tables.Reads as reads
-use Rattle.setup.proofs.fresh.tables.Lts as lts
-use Rattle.setup.proofs.fresh.holders.Reads as holders-reads
-use Rattle.setup.proofs.fresh.objects.Reads as objects-reads
-use Rattle.setup.proofs.fresh.queue.Reads as queue-reads
-use Rattle.setup.proofs.fresh.sessions.Reads as sessions-reads
-use Rattle.setup.proofs.fresh.views.Reads as views-reads
-use Rattle.setup.proofs.fresh.volumes.Reads as volumes-reads
 
 volumes-requires : tie.Need-volumes-requires
 volumes-requires c κs = search needs

@@ -2,8 +2,6 @@
 use borrow.Author.Needs.{needs}
 use Rattle.setup.proofs.fresh.volumes.Statement.{statement}
 use Rattle.setup.proofs.fresh.volumes.Tie as tie
-use Rattle.setup.proofs.fresh.volumes.Reads as reads
-use Rattle.setup.proofs.fresh.volumes.Lts as lts
 
 returns : tie.Need-returns
 returns c = search needs

@@ -1,6 +1,6 @@
-use mathlib.Core.Path.{_≡_, refl}
-use Prim.Native.Nat.{_≤_, _-_}
-use Rattle.laws.specs.Loop.{firstFrom, first-again}
+use mathlib.Core.Path.{refl}
+use Prim.Native.Nat.{_-_}
+use Rattle.laws.specs.Loop.{Seeking, first-again}
 use Rattle.laws.specs.Skip.{found-stop, found-end}
 use Rattle.leases.specs.Parts.{scene}
 use Rattle.writes.specs.Triggers.{triggered}
@@ -9,7 +9,7 @@ use Rattle.writes.proofs.settle.next_triggered.Statement.{statement}
 use Rattle.writes.proofs.settle.next_triggered.Tie as tie
 
 abbrev Inv-loop : tie.InvT-loop
-Inv-loop s p clock guard standing end waiting from n o₀ o = (from ≤ o) × (o ≤ s .objects) × (firstFrom (triggered s p (scene clock guard standing end waiting)) o (s .objects - o) ≡ firstFrom (triggered s p (scene clock guard standing end waiting)) from (s .objects - from))
+Inv-loop s p clock guard standing end waiting from n o₀ o = Seeking (triggered s p (scene clock guard standing end waiting)) (s .objects) from o
 
 abbrev μ-loop : tie.MeasureT-loop
 μ-loop s p clock guard standing end waiting from n o₀ o = s .objects - o

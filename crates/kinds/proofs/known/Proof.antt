@@ -1,7 +1,7 @@
 use borrow.Author.Needs.{needs}
 use Rattle.protocol.specs.Gate.{known}
-use Rattle.gate.proofs.steps.known.Statement.{statement}
-use Rattle.gate.proofs.steps.known.Tie as tie
+use Rattle.kinds.proofs.known.Statement.{statement}
+use Rattle.kinds.proofs.known.Tie as tie
 
 returns : tie.Need-returns
 unfolding known
