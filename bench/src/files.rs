@@ -49,7 +49,14 @@ fn timed(name: &'static str, setup: Setup, more: fn(&mut Builder)) -> Timed {
     let file = write(&[], &setup, &builder.steps);
     let lines = String::from_utf8(listing(&file)).expect("a listing is text");
     let answers = lines.lines().skip(1).map(|line| line.split(' ').nth(1));
-    let counted = |kind, answer| builder.steps.iter().zip(answers.clone()).filter(|(s, a)| (s.kind, *a) == (kind, Some(answer))).count();
+    let counted = |kind, answer| {
+        builder
+            .steps
+            .iter()
+            .zip(answers.clone())
+            .filter(|(s, a)| (s.kind, *a) == (kind, Some(answer)))
+            .count()
+    };
     let (shown, waited) = (counted(2, "1"), counted(4, "0"));
     Timed { name, queue: messages as f64 / STEPS as f64, shown, waited, file }
 }

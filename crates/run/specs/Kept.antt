@@ -15,7 +15,7 @@ use Rattle.runfile.specs.File.{setupPlace, reserved, stepsFit, firstPlace, coun
 use Rattle.runfile.specs.Steps.{stepsOf}
 use Rattle.listing.specs.Listing.{listingOf}
 use Rattle.step.specs.Calls.{Calls, calls-answer}
-use Rattle.run.specs.Listed.{setupOf, answersOf, printed}
+use Rattle.run.specs.Listed.{setupOf, answersOf, fileListing}
 
 pub file-in-range : (l : List ℕ) → wellFormed l ≡ true → inRange (setupOf l) ≡ true
 unfolding wellFormed contentsFit
@@ -32,6 +32,6 @@ pub file-in-words : (l : List ℕ) → wellFormed l ≡ true → HistoryAgrees (
 file-in-words l e = demand-3-in-words (setupOf l) (file-in-range l e) (stepsOf l)
 
 -- a listing is what a program would print that calls the public step over and over, from fresh tables on, with the file's steps
-pub file-as-calls : (l : List ℕ) (rs : List Answer) (u : World) → wellFormed l ≡ true → Calls (setupOf l) (freshWorld (setupOf l)) (stepsOf l) rs u → printed l ≡ listingOf rs
-unfolding printed answersOf
-file-as-calls l rs u e c = rw (e, calls-answer (setupOf l) c)
+pub file-as-calls : (l : List ℕ) (rs : List Answer) (u : World) → wellFormed l ≡ true → Calls (setupOf l) (freshWorld (setupOf l)) (stepsOf l) rs u → fileListing l ≡ listingOf rs
+unfolding fileListing answersOf
+file-as-calls l rs u e c = rw (calls-answer (setupOf l) c)
