@@ -4,7 +4,7 @@ use native.Mathlib.Omega.{arith}
 use mathlib.Core.Bool.{true, false, cond}
 use mathlib.Core.List.{List, [], _∷_}
 use mathlib.Core.Logic.{⊎-elim}
-use mathlib.Core.Path.{_≡_, refl, ap}
+use mathlib.Core.Path.{_≡_, refl, sym, ap, _∙_}
 use lib.Dec.{leb, eqb}
 use lib.ListN.{length, length-append}
 use borrow.Author.Tests.{le-leb, lt-leb}
@@ -80,6 +80,13 @@ module _ (l : List ℕ) (n : ℕ) where
   pub listed-none : wellFormed l ≡ false → (listRefusal l n ≡ 9) × (listedBytes l n ≡ [])
   unfolding listRefusal listedBytes
   listed-none e = (rw e, rw e)
+
+  -- what is not refused is a run file
+  pub listed-formed : listRefusal l n ≡ 0 → wellFormed l ≡ true
+  listed-formed e = ⊎-elim (λ t. t) (λ t. absurd (never (sym (listed-none t .0) ∙ e))) (true-or-false (wellFormed l))
+    where
+      never : _≡_ {A = ℕ} 9 0 → ⊥
+      never q = omega arith
 
   -- a call that writes nothing is refused: every listing has its header
   pub none-refused : length (listedBytes l n) ≡ 0 → eqb (listRefusal l n) 0 ≡ false
