@@ -1,5 +1,6 @@
 //! The proved library beside the model, on the same files in one process:
-//! time per step, time to read a file, and peak memory.
+//! time per step, time to read a file, and peak memory. With `--brief` it
+//! prints the same table of a few repetitions.
 
 mod files;
 mod memory;
@@ -11,7 +12,8 @@ use files::{kinds, refused_at_its_end, runs};
 use gevtsomi::LISTING_BYTES;
 use model::limits::STEPS;
 use model::listing::{listing, listing_trusting};
-use timing::medians;
+use model::runfile::read;
+use timing::{medians, Effort, BRIEF, FULL};
 
 fn proved(file: &[u8]) -> usize {
     let mut output = [0; LISTING_BYTES];
@@ -28,7 +30,8 @@ fn trusting(file: &[u8]) -> usize {
 
 fn main() -> io::Result<()> {
     match env::args().nth(1).as_deref() {
-        None => report(),
+        None => report(FULL),
+        Some("--brief") => report(BRIEF),
         Some(subject) => {
             let run = &runs()[0];
             match subject {
@@ -42,14 +45,14 @@ fn main() -> io::Result<()> {
     }
 }
 
-fn report() -> io::Result<()> {
+fn report(effort: Effort) -> io::Result<()> {
     for run in runs() {
         same(&run.file);
         println!(
             "{}; {STEPS} steps, {:.0} messages under way on the average, {} reads shown, {} writes that waited",
             run.name, run.queue, run.shown, run.waited
         );
-        let times = medians(&run.file, &[&proved, &asking, &trusting]);
+        let times = medians(effort, &run.file, &[&proved, &asking, &trusting]);
         let [proved, asking, trusting] = times[..] else { unreachable!() };
         let per_step = |time: f64| time / STEPS as f64;
         println!("  proved library                 {:6.0} ns a step", per_step(proved));
@@ -64,8 +67,8 @@ fn report() -> io::Result<()> {
             proved / trusting
         );
     }
-    by_kind();
-    reading();
+    by_kind(effort);
+    reading(effort);
     println!("peak memory of a process that lists the first file once");
     for subject in ["nothing", "proved", "asking"] {
         println!("  {subject:10} {:6} KiB", memory::of(&[subject])?);
@@ -73,24 +76,33 @@ fn report() -> io::Result<()> {
     Ok(())
 }
 
-fn by_kind() {
+fn by_kind(effort: Effort) {
     println!("by kind, 16 clients, 8 volumes, 32 objects: ns a step of library, asking model, other model");
     for (name, file) in kinds() {
         same(&file);
-        let times = medians(&file, &[&proved, &asking, &trusting]);
+        let times = medians(effort, &file, &[&proved, &asking, &trusting]);
         let [proved, asking, trusting] = times[..] else { unreachable!() };
         let per_step = |time: f64| time / STEPS as f64;
         println!("  {name:18} {:6.0} {:6.0} {:6.0}", per_step(proved), per_step(asking), per_step(trusting));
     }
 }
 
-fn reading() {
+fn reading(effort: Effort) {
     let file = refused_at_its_end(&runs()[0].file);
-    same(&file);
-    let times = medians(&file, &[&proved, &asking]);
+    assert_eq!(proved_refusal(&file), model_refusal(&file));
+    let times = medians(effort, &file, &[&proved_refusal, &model_refusal]);
     println!("a file of {} bytes and {STEPS} steps read to its end, then refused", file.len());
     println!("  proved library {:6.1} us", times[0] / 1000.0);
     println!("  model          {:6.1} us, ratio {:.2}", times[1] / 1000.0, times[0] / times[1]);
+}
+
+/// A file that is refused needs no output.
+fn proved_refusal(file: &[u8]) -> usize {
+    gevtsomi::list(file, &mut []).expect_err("no run file").number.into()
+}
+
+fn model_refusal(file: &[u8]) -> usize {
+    read(file).expect_err("no run file").into()
 }
 
 /// What is timed is the same work.

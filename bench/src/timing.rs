@@ -3,20 +3,28 @@
 use std::hint::black_box;
 use std::time::{Duration, Instant};
 
-/// A round of each subject after the other, so that whatever else the
-/// machine does meets them alike.
-const ROUNDS: usize = 41;
+/// How much is measured. A round of each subject comes after the other, so
+/// that whatever else the machine does meets them alike.
+#[derive(Clone, Copy)]
+pub struct Effort {
+    rounds: usize,
+    /// How long a round of one subject should take at least.
+    round: Duration,
+}
 
-/// How long a round of one subject should take at least.
-const ROUND: Duration = Duration::from_millis(20);
+/// What the numbers of docs/PERFORMANCE.md are taken with.
+pub const FULL: Effort = Effort { rounds: 41, round: Duration::from_millis(20) };
+
+/// Enough to see that everything runs.
+pub const BRIEF: Effort = Effort { rounds: 3, round: Duration::from_millis(2) };
 
 pub type Subject<'a> = &'a dyn Fn(&[u8]) -> usize;
 
 /// Nanoseconds that each subject takes for the file, median over the rounds.
-pub fn medians(file: &[u8], subjects: &[Subject]) -> Vec<f64> {
-    let repeats: Vec<usize> = subjects.iter().map(|subject| repeats(file, *subject)).collect();
+pub fn medians(effort: Effort, file: &[u8], subjects: &[Subject]) -> Vec<f64> {
+    let repeats: Vec<usize> = subjects.iter().map(|subject| repeats(effort, file, *subject)).collect();
     let mut times = vec![Vec::new(); subjects.len()];
-    for _ in 0..ROUNDS {
+    for _ in 0..effort.rounds {
         for ((subject, repeats), times) in subjects.iter().zip(&repeats).zip(&mut times) {
             times.push(round(file, *subject, *repeats).as_nanos() as f64 / *repeats as f64);
         }
@@ -24,10 +32,10 @@ pub fn medians(file: &[u8], subjects: &[Subject]) -> Vec<f64> {
     times.into_iter().map(median).collect()
 }
 
-fn repeats(file: &[u8], subject: Subject) -> usize {
+fn repeats(effort: Effort, file: &[u8], subject: Subject) -> usize {
     round(file, subject, 1);
     let once = round(file, subject, 1);
-    1 + (ROUND.as_nanos() / once.as_nanos().max(1)) as usize
+    1 + (effort.round.as_nanos() / once.as_nanos().max(1)) as usize
 }
 
 fn round(file: &[u8], subject: Subject, repeats: usize) -> Duration {

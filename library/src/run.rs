@@ -9,12 +9,12 @@ pub const FILE_BYTES: usize = 65_536;
 pub const LISTING_BYTES: usize = 112_640;
 
 /// Writes the listing of a run file to the start of `output` and gives its
-/// length. A file that is not a run file has a listing too, which says so.
-/// The bytes of `output` past the listing keep what they held.
+/// length. The bytes of `output` past the listing keep what they held.
 ///
 /// # Errors
 ///
-/// 8 if `output` is shorter than the listing; nothing is written then.
+/// 9 if `file` is not a run file, whatever the length of `output`; 8 if
+/// `output` is shorter than the listing. Nothing is written then.
 pub fn list(file: &[u8], output: &mut [u8]) -> Result<usize, Refused> {
     exports::list(file, output)
 }

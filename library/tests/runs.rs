@@ -4,6 +4,7 @@ use gevtsomi::{list, Refused, LISTING_BYTES};
 use model::examples;
 use model::gen::{damage, runs};
 use model::listing::listing;
+use model::runfile::read;
 
 const SEEDS: [u64; 2] = [1, 2];
 const RUNS: usize = 1_000;
@@ -35,13 +36,25 @@ fn generated_runs_are_the_models() {
     }
 }
 
+/// What is no run file is 9, also where the output has no room for a listing.
 #[test]
-fn damaged_files_are_the_models() {
+fn damaged_files_are_refused_where_the_model_refuses_them() {
+    let mut refused = 0;
     for seed in SEEDS {
         for (number, file) in damage::files(seed).iter().enumerate() {
-            assert!(listed(file) == listing(file), "seed {seed}, file {number}");
+            let Err(refusal) = read(file) else {
+                assert!(listed(file) == listing(file), "seed {seed}, file {number}");
+                continue;
+            };
+            refused += 1;
+            for room in [0, 18, LISTING_BYTES] {
+                let mut output = vec![0xaa; room];
+                assert_eq!(list(file, &mut output), Err(Refused { number: refusal }));
+                assert!(output.iter().all(|&byte| byte == 0xaa), "seed {seed}, file {number}");
+            }
         }
     }
+    assert!(refused > 0);
 }
 
 #[test]

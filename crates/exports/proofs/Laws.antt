@@ -15,15 +15,20 @@ use Rattle.frame.specs.declared.Encoded.the-variants as encoded
 use Rattle.frame.specs.Frame.{fieldsOf, messageIn, same, sound, framed, decodedNumber, encodedNumber, Decodes, Encodes}
 use Rattle.run.specs.declared.Listed.{Listed}
 use Rattle.run.specs.declared.Listed.the-variants as listing
-use Rattle.run.specs.Listed.{printed, listed, output}
+use Rattle.run.specs.Listed.{listRefusal, listedBytes, listedNumber, listedLength, none-refused}
 use Rattle.exports.specs.Calls.{Lists, EncodesFields, numbersOf, DecodesFields}
 
-module _ (file before after : List ℕ) (n : ℕ) (r : Listed) (e : r ≡ listed (printed file) (length before)) (f : after ≡ output (printed file) before) where
+module _ (file before after : List ℕ) (n : ℕ) (r : Listed) (e : listedNumber r ≡ listRefusal file (length before)) (f : listedLength r ≡ length (listedBytes file (length before)))
+    (g : after ≡ sets before 0 (listedBytes file (length before))) where
   pub list-written : (m : ℕ) → r ≡ listing.Written m → Lists file before after n m 0
-  list-written m g = record { number = rw (← e, g); written = rw (← e, g); bytes = f }
+  unfolding listedBytes
+  list-written m h =
+      let k : listRefusal file (length before) ≡ 0 = sym e ∙ ap listedNumber h in
+      record { number = sym k; written = rw k (sym (ap listedLength h) ∙ (rw k at f)); bytes = g }
 
   pub list-refused : (k : ℕ) → r ≡ listing.Refused k → Lists file before after n n k
-  list-refused k g = record { number = rw (← e, g); written = rw (← e, g); bytes = f }
+  list-refused k h =
+      record { number = sym (ap listedNumber h) ∙ e; written = rw (none-refused file (length before) (sym f ∙ ap listedLength h)); bytes = g }
 
 module _ (f g : Fields) (m : Message) (b : Bool) (em : m ≡ messageIn f) (eg : g ≡ fieldsOf m) (eb : b ≡ same g f) where
   right : sound f ≡ b

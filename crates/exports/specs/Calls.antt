@@ -3,26 +3,20 @@ use Prim.Native.Nat.{ℕ}
 use mathlib.Core.Bool.{Bool, cond, _&&_}
 use mathlib.Core.List.{List, [], _∷_}
 use mathlib.Core.Path.{_≡_}
-use lib.Dec.{leb}
+use lib.Dec.{leb, eqb}
 use lib.ListN.{length}
 use lib.Seq.{sets}
 use Rattle.frame.specs.declared.fields.Fields.{Fields}
 use Rattle.frame.specs.declared.Decoded.{Decoded}
 use Rattle.frame.specs.declared.Decoded.the-variants.{Accepted, Refused}
 use Rattle.frame.specs.Frame.{fieldsOf, messageIn, sound, isFrame, messageOf, fits, framed, refusal}
-use Rattle.run.specs.declared.Listed.{Listed}
-use Rattle.run.specs.declared.Listed.the-variants as listing
-use Rattle.run.specs.Listed.{printed, listed, output, listedNumber}
+use Rattle.run.specs.Listed.{fileListing, listRefusal, listedBytes}
 
--- the length that was written, or what was there
-abbrev pub writtenOr : ℕ → Listed → ℕ
-writtenOr n (listing.Written m) = m
-writtenOr n (listing.Refused k) = n
-
+-- a listing and its length; a call that is refused leaves both as they were
 pub record Lists (file before after : List ℕ) (n m r : ℕ) : Type 0 where
-  pub number : r ≡ listedNumber (listed (printed file) (length before))
-  pub written : m ≡ writtenOr n (listed (printed file) (length before))
-  pub bytes : after ≡ output (printed file) before
+  pub number : r ≡ listRefusal file (length before)
+  pub written : m ≡ cond (eqb (listRefusal file (length before)) 0) (length (fileListing file)) n
+  pub bytes : after ≡ sets before 0 (listedBytes file (length before))
 
 -- the fields of a frame, encoded where they are right
 pub record EncodesFields (f : Fields) (before after : List ℕ) (r : ℕ) : Type 0 where

@@ -11,7 +11,7 @@ use frame::Encoded;
 use frame::fields::Fields;
 use run::Listed;
 
-// The listing of a run file's bytes, at the start of the output, and its length.
+// The listing of a run file's bytes, at the start of the output, and its length. 9 for what is no run file, 8 for an output that is too short.
 #[no_mangle]
 pub extern "C" fn gevtsomi_list(file: &[u8], out: &mut [u8], written: &mut usize) -> u8
     ensures { λ r. ⌜ Lists (now (file .entry)) (now (out .entry)) (now (out .exit)) (now (written .entry)) (now (written .exit)) r ⌝ }

@@ -14,7 +14,7 @@ use Rattle.protocol.specs.declared.step.Answer.the-variants.{Completed, Deliver
 use Rattle.protocol.specs.Answers.{doneOrCompleted, answerNumber, answerValue}
 use Rattle.listing.specs.Decimal.{digit, digits, further, width, decimal, length-digits, length-decimal, further-most}
 use Rattle.listing.specs.Written.{Written, written-then, sets-then, sets-past}
-use Rattle.listing.specs.Listing.{field, line, lineOf}
+use Rattle.listing.specs.Listing.{field, line, lineOf, header, refusedListing, length-header}
 
 module _ (n : ℕ) where
   pub none-done : n ≡ 0 → 0 ≡ doneOrCompleted n
@@ -105,3 +105,9 @@ third-fits k l m p q r a b h u v = omega (arith, after-field k l p a q 32 u, aft
 pub answer-written : (l m : List ℕ) (p step e n v : ℕ) (a : Answer) → n ≡ answerNumber a → v ≡ answerValue a → Written l m p (line step n v) e
     → Written l m p (lineOf step a) e
 answer-written l m p step e n v a f g w = rw (← f, ← g) w
+
+pub refused-fits : (k l : List ℕ) (p q : ℕ) → p + 81 ≤ length k → Written k l p header q → q + 63 ≤ length l
+refused-fits k l p q h u = omega (arith, u .next, u .bytes .long, length-header)
+
+pub refused-written : (k l m : List ℕ) (p q e : ℕ) → Written k l p header q → Written l m q (line 0 4 9) e → Written k m p refusedListing e
+refused-written k l m p q e u v = written-then k l m p q e header (line 0 4 9) u v

@@ -5,7 +5,7 @@ mod number;
 ghost use Prim.Native.Nat.{_+_, _≤_};
 ghost use lib.ListN.{length};
 ghost use Rattle.listing.specs.Written.{Written};
-ghost use Rattle.listing.specs.Listing.{header, line, lineOf};
+ghost use Rattle.listing.specs.Listing.{header, line, lineOf, refusedListing};
 use protocol::step::Answer;
 
 // Any bytes.
@@ -45,4 +45,13 @@ pub fn write_line(out: &mut [u8], at: usize, step: u64, a: Answer) -> usize
     ensures { λ r. ⌜ Written (now (out .entry)) (now (out .exit)) at (lineOf step a) r ⌝ }
 {
     write_numbers(out, at, step, answer::number_of(a), answer::value_of(a))
+}
+
+// What is printed of a run file that is refused.
+pub fn write_refused(out: &mut [u8], at: usize) -> usize
+    requires { ⌜ at + 81 ≤ length (now out) ⌝ }
+    ensures { λ r. ⌜ Written (now (out .entry)) (now (out .exit)) at refusedListing r ⌝ }
+{
+    let next = write_header(out, at);
+    write_numbers(out, next, 0, 4, 9)
 }

@@ -1,14 +1,28 @@
 // Reads a run file on standard input and prints its listing (01, "Frame, run file and listing").
+ghost use Prim.Native.Nat.{_≤_};
+ghost use lib.ListN.{length};
+ghost use Rattle.listing.specs.Written.{Written};
+ghost use Rattle.roadrun.specs.Printed.{printed};
 use libc::STDIN_FILENO;
 use libc::STDOUT_FILENO;
 use run::Listed;
+
+// What is printed of a file's bytes, at the start of an output that has room for any: so a call that is refused met a file that is.
+fn print(file: &[u8], out: &mut [u8]) -> usize
+    requires { ⌜ 112640 ≤ length (now out) ⌝ }
+    ensures { λ r. ⌜ Written (now (out .entry)) (now (out .exit)) 0 (printed (now (file .entry))) r ⌝ }
+{
+    match run::list(file, out) {
+        Listed::Written(n) => n,
+        Listed::Refused(_) => listing::write_refused(out, 0),
+    }
+}
 
 // A file that is longer than a run file can be is refused all the same when one byte more is read than fits.
 fn main() {
     let mut file = [0u8; 65537];
     let n = io::read_full(STDIN_FILENO, &mut file);
     let mut out = [0u8; 112640];
-    if let Listed::Written(m) = run::list(&file[..n], &mut out) {
-        io::write_all(STDOUT_FILENO, &out[..m]);
-    }
+    let m = print(&file[..n], &mut out);
+    io::write_all(STDOUT_FILENO, &out[..m]);
 }

@@ -7,8 +7,8 @@ use mathlib.Core.List.{List, _++_}
 use mathlib.Core.Path.{_≡_, sym, ap, _∙_}
 use lib.Dec.{ltb}
 use lib.ListN.{length, getD, set, take, drop, replicate}
-use lib.Seq.{sets-eq, take-append-seam, length-take-le}
-use borrow.Author.Tests.{lt-ltb, le-ltb, le-leb, lt-leb, ne-eqb, ltb-true}
+use lib.Seq.{sets, sets-eq, take-append-seam, length-take-le}
+use borrow.Author.Tests.{lt-ltb, le-ltb, ne-eqb, ltb-true}
 use Rattle.laws.specs.Choice.{cond-keeps, and-true, true-or-false}
 use mathlib.Core.Logic.{⊎-elim}
 use Rattle.laws.specs.Loop.{foldFrom, fold-again}
@@ -33,7 +33,7 @@ use Rattle.runfile.specs.declared.Contents.{Contents}
 use Rattle.runfile.specs.File.{stepAt, countOf, firstPlace, contents, contentsOf, wellFormed}
 use Rattle.runfile.specs.Steps.{stepsOf, Parts, whole, formed-parts}
 use Rattle.runfile.specs.Reading.{formed, contents-read, setup-read}
-use Rattle.listing.specs.Listing.{header, length-header, line, lineOf}
+use Rattle.listing.specs.Listing.{header, length-header, lineOf}
 use Rattle.listing.specs.Written.{Written, written-then}
 use Rattle.protocol.specs.Client.{swept, sweeps, sweepAt}
 use Rattle.protocol.specs.Gate.{refusalOfStep}
@@ -43,8 +43,9 @@ use Rattle.protocol.specs.Soundness.Steps.{recordsOf}
 use Rattle.run.specs.Owned.{copyCount, worldOf, Owned, placeIn, reach, decidedOn, sweep-fits}
 use Rattle.run.specs.declared.steps.Left.{Left}
 use Rattle.run.specs.Ran.{RanSteps, Roomy, Running, run-on, run-again}
+use Rattle.run.specs.declared.Listed.{Listed}
 use Rattle.run.specs.declared.Listed.the-variants as listing-answer
-use Rattle.run.specs.Listed.{setupOf, answersOf, printed, listed, output, printed-short}
+use Rattle.run.specs.Listed.{setupOf, answersOf, fileListing, listRefusal, listedBytes, listedNumber, listedLength, listing-fits, listed-all, listed-short, listed-none}
 
 -- ---- places
 module _ (i n spare : ℕ) where
@@ -149,9 +150,13 @@ module _ (s : Setup) (t : Tables) (c : Copy) (r : Request) (x : Step) (no : ℕ)
     pub performs : (d : Decision) → d ≡ performed s t c r x → d ≡ decidedOn s t c r x
     performs d f = rw (← e, h) f
 
--- ---- a file printed
-module _ (l : List ℕ) (r : Contents) (e : r ≡ contentsOf l) (out₀ out : List ℕ) (at : ℕ) (w : Written out₀ out 0 header at) where
-  module _ (a : r .refusal ≡ 0) where
+-- ---- a file read
+module _ (l : List ℕ) (r : Contents) (e : r ≡ contentsOf l) where
+  pub refused : (r .refusal ≡ 0 → ⊥) → wellFormed l ≡ false
+  unfolding contentsOf
+  refused a = ⊎-elim (λ t. absurd (a (ap (λ (x : Contents). x .refusal) (rw t at e)))) (λ t. t) (true-or-false (wellFormed l))
+
+  module _ (a : r .refusal ≡ 0) (out₀ out : List ℕ) (at : ℕ) (w : Written out₀ out 0 header at) where
     read-is : r ≡ contents 0 (setupOf l) (countOf l) (firstPlace l)
     read-is = contents-read l r e a
 
@@ -165,42 +170,44 @@ module _ (l : List ℕ) (r : Contents) (e : r ≡ contentsOf l) (out₀ out : Li
           lines = omega (arith, p .few, w .next, length-header, w .bytes .long);
         }
 
-    pub printed-yes : (out′ : List ℕ) (left : Left) → RanSteps (r .setup) l (r .first) (r .count) out out′ at left → Written out₀ out′ 0 (printed l) (left .next)
-    unfolding printed answersOf stepsOf
-    printed-yes out′ left g = rw (formed l r e a) (written-then out₀ out out′ 0 at (left .next) header _ w (rw read-is at (g .lines)))
-
-  pub printed-no : (out′ : List ℕ) (end : ℕ) → (r .refusal ≡ 0 → ⊥) → Written out out′ at (line 0 4 9) end → Written out₀ out′ 0 (printed l) end
-  unfolding printed contentsOf
-  printed-no out′ end a g = rw refused (written-then out₀ out out′ 0 at end header (line 0 4 9) w g)
-    where
-      refused : wellFormed l ≡ false
-      refused = ⊎-elim (λ t. absurd (a (ap (λ (x : Contents). x .refusal) (rw t at e)))) (λ t. t) (true-or-false (wellFormed l))
+    pub print-written : (out′ : List ℕ) (left : Left) → RanSteps (r .setup) l (r .first) (r .count) out out′ at left → Written out₀ out′ 0 (fileListing l) (left .next)
+    unfolding fileListing answersOf stepsOf
+    print-written out′ left g = written-then out₀ out out′ 0 at (left .next) header _ w (rw read-is at (g .lines))
 
 -- ---- a listing copied into the lent output
-module _ (l : List ℕ) (room buffer : List ℕ) (n : ℕ) (k : length room ≡ 112640) (w : Written room buffer 0 (printed l) n) where
-  pub listing-there : n ≤ length buffer
-  listing-there = omega (arith, w .next, w .bytes .long, printed-short l, k)
+abbrev Does : List ℕ → List ℕ → List ℕ → Listed → Type 0
+Does l out out′ r =
+    (listedNumber r ≡ listRefusal l (length out)) × ((listedLength r ≡ length (listedBytes l (length out))) × (out′ ≡ sets out 0 (listedBytes l (length out))))
 
-  pub listing-fits : (m : ℕ) → n ≤ m → 0 + length (take n buffer) ≤ m
-  listing-fits m h = omega (arith, length-take-le n buffer listing-there)
+module _ (l : List ℕ) (r : Contents) (e : r ≡ contentsOf l) where
+  pub list-refused : (out : List ℕ) → (r .refusal ≡ 0 → ⊥) → Does l out out (listing-answer.Refused 9)
+  list-refused out a =
+      let f = listed-none l (length out) (refused l r e a) in
+      (sym (f .0), (rw (f .1), rw (f .1)))
 
-  taken : take n buffer ≡ printed l
-  taken =
-      let e : n ≡ length (printed l) = omega (arith, w .next) in
-      let b : buffer ≡ printed l ++ drop (0 + length (printed l)) room = w .bytes .stored ∙ sets-eq (printed l) room 0 (omega (arith, printed-short l, k)) in
-      rw (e, b) (take-append-seam (printed l) (drop (0 + length (printed l)) room))
+  module _ (a : r .refusal ≡ 0) (room buffer : List ℕ) (n : ℕ) (k : length room ≡ 112640) (w : Written room buffer 0 (fileListing l) n) where
+    fits : length (fileListing l) ≤ 112640
+    fits = listing-fits l (formed l r e a)
 
-  module _ (out : List ℕ) where
-    pub listed-yes : (out′ : List ℕ) (end : ℕ) → n ≤ length out → Written out out′ 0 (take n buffer) end
-        → (listing-answer.Written n ≡ listed (printed l) (length out)) × (out′ ≡ output (printed l) out)
-    unfolding listed output
-    listed-yes out′ end h g =
-        let e : n ≡ length (printed l) = omega (arith, w .next) in
-        let b : length (printed l) ≤ length out = omega arith in
-        (rw (le-leb (length (printed l)) (length out) b, e), rw (le-leb (length (printed l)) (length out) b, ← taken) (g .bytes .stored))
+    pub listing-there : n ≤ length buffer
+    listing-there = omega (arith, w .next, w .bytes .long, fits, k)
 
-    pub listed-no : length out < n → (listing-answer.Refused 8 ≡ listed (printed l) (length out)) × (out ≡ output (printed l) out)
-    unfolding listed output
-    listed-no h =
-        let b : length out < length (printed l) = omega (arith, w .next) in
-        (rw (lt-leb (length (printed l)) (length out) b), rw (lt-leb (length (printed l)) (length out) b))
+    pub copy-fits : (m : ℕ) → n ≤ m → 0 + length (take n buffer) ≤ m
+    copy-fits m h = omega (arith, length-take-le n buffer listing-there)
+
+    taken : take n buffer ≡ fileListing l
+    taken =
+        let i : n ≡ length (fileListing l) = omega (arith, w .next) in
+        let b : buffer ≡ fileListing l ++ drop (0 + length (fileListing l)) room = w .bytes .stored ∙ sets-eq (fileListing l) room 0 (omega (arith, fits, k)) in
+        rw (i, b) (take-append-seam (fileListing l) (drop (0 + length (fileListing l)) room))
+
+    module _ (out : List ℕ) where
+      pub list-written : (out′ : List ℕ) (end : ℕ) → n ≤ length out → Written out out′ 0 (take n buffer) end → Does l out out′ (listing-answer.Written n)
+      list-written out′ end h g =
+          let f = listed-all l (length out) (formed l r e a) (omega (arith, w .next)) in
+          (sym (f .0), (rw (f .1) (omega (arith, w .next)), rw (f .1, ← taken) (g .bytes .stored)))
+
+      pub list-short : length out < n → Does l out out (listing-answer.Refused 8)
+      list-short h =
+          let f = listed-short l (length out) (formed l r e a) (omega (arith, w .next)) in
+          (sym (f .0), (rw (f .1), rw (f .1)))

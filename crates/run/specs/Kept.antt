@@ -1,4 +1,4 @@
--- Demand 3 of a run from a file's bytes to its listing; and the same run by calls of the public step.
+-- Demand 3 of what a call writes that lists a run file: it is the listing of the answers that calls of the public step get.
 use Prim.Native.Nat.{ℕ}
 use mathlib.Core.Bool.{true, _&&_}
 use mathlib.Core.List.{List}
@@ -8,30 +8,38 @@ use Rattle.laws.specs.Choice.{and-true}
 use Rattle.protocol.specs.declared.step.Answer.{Answer}
 use Rattle.protocol.specs.Setup.{inRange}
 use Rattle.protocol.specs.World.{World, freshWorld}
-use Rattle.protocol.specs.Agreement.{AgreesThroughout}
-use Rattle.protocol.specs.History.{HistoryAgrees}
-use Rattle.protocol.specs.Demand3.{demand-3, demand-3-in-words}
 use Rattle.runfile.specs.File.{setupPlace, reserved, stepsFit, firstPlace, countOf, measured, contentsFit, wellFormed}
 use Rattle.runfile.specs.Steps.{stepsOf}
 use Rattle.listing.specs.Listing.{listingOf}
-use Rattle.step.specs.Calls.{Calls, calls-answer}
-use Rattle.run.specs.Listed.{setupOf, answersOf, printed}
+use Rattle.step.specs.Calls.{Calls, Kept, CallsAgree, calls-answer, calls-there, calls-keep, calls-in-words}
+use Rattle.run.specs.Listed.{setupOf, answersOf, leftBy, fileListing, listRefusal, listedBytes, listed-formed}
 
-pub file-in-range : (l : List ℕ) → wellFormed l ≡ true → inRange (setupOf l) ≡ true
+file-in-range : (l : List ℕ) → wellFormed l ≡ true → inRange (setupOf l) ≡ true
 unfolding wellFormed contentsFit
 file-in-range l e =
     let a = and-true (measured l) (contentsFit l) e in
     let b = and-true (eqb (reserved l (setupPlace l)) 0 && inRange (setupOf l)) (stepsFit l (firstPlace l) (countOf l)) (a .1) in
     and-true (eqb (reserved l (setupPlace l)) 0) (inRange (setupOf l)) (b .0) .1
 
--- the answers and tables of every run file that is not refused agree with the ledger after every step, and with the customer's words
-pub file-agrees : (l : List ℕ) → AgreesThroughout (setupOf l) (stepsOf l)
-file-agrees l = demand-3 (setupOf l) (stepsOf l)
+-- The bytes are the listing of answers that, with the world left after them, are those of the file's steps, agree with the ledger after every step, and
+-- with the customer's words about the history
+pub record FileAgrees (l bytes : List ℕ) (rs : List Answer) (u : World) : Type 0 where
+  pub listing : bytes ≡ listingOf rs
+  pub kept : Kept (setupOf l) (stepsOf l) rs u
+  pub words : CallsAgree (setupOf l) (stepsOf l) rs u
 
-pub file-in-words : (l : List ℕ) → wellFormed l ≡ true → HistoryAgrees (setupOf l) (stepsOf l)
-file-in-words l e = demand-3-in-words (setupOf l) (file-in-range l e) (stepsOf l)
+-- what is written for a file that is not refused is what a program would print that calls the public step over and over, from fresh tables on, with the
+-- file's steps
+pub file-as-calls : (l : List ℕ) (n : ℕ) (rs : List Answer) (u : World) → listRefusal l n ≡ 0 → Calls (setupOf l) (freshWorld (setupOf l)) (stepsOf l) rs u
+    → FileAgrees l (listedBytes l n) rs u
+unfolding listedBytes fileListing answersOf
+file-as-calls l n rs u e c = record {
+  listing = rw (e, calls-answer (setupOf l) c);
+  kept = calls-keep (setupOf l) (stepsOf l) rs u c;
+  words = calls-in-words (setupOf l) (file-in-range l (listed-formed l n e)) (stepsOf l) rs u c;
+}
 
--- a listing is what a program would print that calls the public step over and over, from fresh tables on, with the file's steps
-pub file-as-calls : (l : List ℕ) (rs : List Answer) (u : World) → wellFormed l ≡ true → Calls (setupOf l) (freshWorld (setupOf l)) (stepsOf l) rs u → printed l ≡ listingOf rs
-unfolding printed answersOf
-file-as-calls l rs u e c = rw (e, calls-answer (setupOf l) c)
+-- and so it is of the run's own answers and what it leaves
+pub file-agrees : (l : List ℕ) (n : ℕ) → listRefusal l n ≡ 0 → FileAgrees l (listedBytes l n) (answersOf l) (leftBy l)
+unfolding answersOf leftBy
+file-agrees l n e = file-as-calls l n (answersOf l) (leftBy l) e (calls-there (setupOf l) (freshWorld (setupOf l)) (stepsOf l))

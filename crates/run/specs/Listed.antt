@@ -1,22 +1,22 @@
--- What a run of a file's bytes prints, and how it fits a lent output.
-use Prim.Native.Nat.{ℕ, suc, _≤_}
+-- The listing of a run file's bytes, and what a call that lists them answers and writes.
+use Prim.Native.Nat.{ℕ, suc, _<_, _≤_}
 use native.Mathlib.Omega.{arith}
 use mathlib.Core.Bool.{true, false, cond}
 use mathlib.Core.List.{List, [], _∷_}
 use mathlib.Core.Logic.{⊎-elim}
 use mathlib.Core.Path.{_≡_, refl, sym, ap, _∙_}
-use lib.Dec.{leb}
+use lib.Dec.{leb, eqb}
 use lib.ListN.{length, length-append}
-use lib.Seq.{sets, length-sets}
-use borrow.Author.Tests.{leb-true}
+use borrow.Author.Tests.{le-leb, lt-leb}
+use Rattle.laws.specs.Choice.{true-or-false}
 use Rattle.protocol.specs.declared.setup.Setup.{Setup}
 use Rattle.protocol.specs.declared.step.Answer.{Answer}
 use Rattle.protocol.specs.declared.step.Step.{Step}
+use Rattle.protocol.specs.Gate.{orRefuse}
 use Rattle.protocol.specs.World.{World, freshWorld, stepped, ran, answers}
 use Rattle.runfile.specs.File.{setupPlace, setupIn, wellFormed}
 use Rattle.runfile.specs.Steps.{stepsOf, length-steps, Parts, formed-parts}
-use Rattle.laws.specs.Choice.{cond-keeps, true-or-false}
-use Rattle.listing.specs.Listing.{header, line, listingOf, refusedListing, length-header, line-short, listing-short}
+use Rattle.listing.specs.Listing.{header, linesFrom, listingOf, length-header, listing-short}
 use Rattle.run.specs.declared.Listed.{Listed}
 use Rattle.run.specs.declared.Listed.the-variants.{Written, Refused}
 
@@ -31,16 +31,18 @@ answersOf l = answers (setupOf l) (freshWorld (setupOf l)) (stepsOf l)
 unfoldable pub leftBy : List ℕ → World
 leftBy l = ran (setupOf l) (freshWorld (setupOf l)) (stepsOf l)
 
--- "prints a header, then a line a step"; "A refused file prints the header and "0 4 9"."
-unfoldable pub printed : List ℕ → List ℕ
-printed l = cond (wellFormed l) (listingOf (answersOf l)) refusedListing
+-- the listing of a run file: "prints a header, then a line a step"
+unfoldable pub fileListing : List ℕ → List ℕ
+fileListing l = listingOf (answersOf l)
 
--- "a lent output long enough? 8": the answer, and the output afterwards
-unfoldable pub listed : List ℕ → ℕ → Listed
-listed b n = cond (leb (length b) n) (Written (length b)) (Refused 8)
+-- The refusal of a call that lists file l into an output of n bytes, 0 for none: "Run file shaped as above, its setup in range? 9"; "a lent output long
+-- enough? 8", which asks about a listing, and a refused file has none
+unfoldable pub listRefusal : List ℕ → ℕ → ℕ
+listRefusal l n = orRefuse (wellFormed l) 9 (orRefuse (leb (length (fileListing l)) n) 8 0)
 
-unfoldable pub output : List ℕ → List ℕ → List ℕ
-output b out = cond (leb (length b) (length out)) (sets out 0 b) out
+-- what the call writes: the listing, or, where it is refused, nothing ("every lent table and buffer is unchanged")
+unfoldable pub listedBytes : List ℕ → ℕ → List ℕ
+listedBytes l n = cond (eqb (listRefusal l n) 0) (fileListing l) []
 
 -- 01's number of the answer: 0 where the listing was written
 abbrev pub listedNumber : Listed → ℕ
@@ -58,33 +60,38 @@ unfolding answers
 length-answers s w [] = refl
 length-answers s w (x ∷ xs) = ap suc (length-answers s (stepped s w x) xs)
 
-pub printed-short : (l : List ℕ) → length (printed l) ≤ 112640
-unfolding printed answersOf
-printed-short l = cond-keeps (λ (b : List ℕ). length b ≤ 112640) (wellFormed l) (λ e. omega (arith, listing-short (answersOf l) (few e))) (λ _. short)
+pub listing-fits : (l : List ℕ) → wellFormed l ≡ true → length (fileListing l) ≤ 112640
+unfolding fileListing answersOf
+listing-fits l e = omega (arith, listing-short (answersOf l) (few (formed-parts l e)))
   where
-    few : wellFormed l ≡ true → length (answersOf l) ≤ 4000
-    few e = count (formed-parts l e)
-      where
-        count : Parts l → length (answersOf l) ≤ 4000
-        count p = omega (arith, p .few, length-steps l, length-answers (setupOf l) (freshWorld (setupOf l)) (stepsOf l))
+    few : Parts l → length (answersOf l) ≤ 4000
+    few p = omega (arith, p .few, length-steps l, length-answers (setupOf l) (freshWorld (setupOf l)) (stepsOf l))
 
-    short : length refusedListing ≤ 112640
-    short = omega (arith, length-append header (line 0 4 9), length-header, line-short 0 4 9 (omega arith) (omega arith))
+-- ---- what each way through the call comes to
+module _ (l : List ℕ) (n : ℕ) where
+  pub listed-all : wellFormed l ≡ true → length (fileListing l) ≤ n → (listRefusal l n ≡ 0) × (listedBytes l n ≡ fileListing l)
+  unfolding listRefusal listedBytes
+  listed-all e h = (rw (e, le-leb _ _ h), rw (e, le-leb _ _ h))
 
--- what a caller goes by: the bytes that were written are in the output
-pub listed-fits : (b before after : List ℕ) (r : Listed) (n : ℕ) → r ≡ listed b (length before) → after ≡ output b before → r ≡ Written n → n ≤ length after
-unfolding listed output
-listed-fits b before after r n e f g = ⊎-elim yes no (true-or-false (leb (length b) (length before)))
-  where
-    yes : leb (length b) (length before) ≡ true → n ≤ length after
-    yes h =
-        let k : Written n ≡ Written (length b) = sym g ∙ (rw h at e) in
-        let l : n ≡ length b = cc in
-        let m : length after ≡ length before = ap length (rw h at f) ∙ length-sets before 0 b in
-        omega (arith, leb-true (length b) (length before) h)
+  pub listed-short : wellFormed l ≡ true → n < length (fileListing l) → (listRefusal l n ≡ 8) × (listedBytes l n ≡ [])
+  unfolding listRefusal listedBytes
+  listed-short e h = (rw (e, lt-leb _ _ h), rw (e, lt-leb _ _ h))
 
-    no : leb (length b) (length before) ≡ false → n ≤ length after
-    no h =
-        let k : Written n ≡ Refused 8 = sym g ∙ (rw h at e) in
-        let z : _≡_ {A = ℕ} 0 1 = cc in
-        absurd (omega arith)
+  pub listed-none : wellFormed l ≡ false → (listRefusal l n ≡ 9) × (listedBytes l n ≡ [])
+  unfolding listRefusal listedBytes
+  listed-none e = (rw e, rw e)
+
+  -- what is not refused is a run file
+  pub listed-formed : listRefusal l n ≡ 0 → wellFormed l ≡ true
+  listed-formed e = ⊎-elim (λ t. t) (λ t. absurd (never (sym (listed-none t .0) ∙ e))) (true-or-false (wellFormed l))
+    where
+      never : _≡_ {A = ℕ} 9 0 → ⊥
+      never q = omega arith
+
+  -- a call that writes nothing is refused: every listing has its header
+  pub none-refused : length (listedBytes l n) ≡ 0 → eqb (listRefusal l n) 0 ≡ false
+  unfolding listedBytes fileListing
+  none-refused e = ⊎-elim (λ t. absurd (headed (rw t at e))) (λ t. t) (true-or-false (eqb (listRefusal l n) 0))
+    where
+      headed : length (listingOf (answersOf l)) ≡ 0 → ⊥
+      headed h = omega (arith, length-append header (linesFrom 1 (answersOf l)), length-header)

@@ -1,9 +1,10 @@
 // The public step over lent records: look up the records that a step can touch, decide on values, store what became of them.
-ghost use mathlib.Core.Bool.{true, _&&_};
+ghost use mathlib.Core.Bool.{_&&_};
 ghost use mathlib.Core.Path.{_≡_};
-ghost use Rattle.protocol.specs.Answers.{isRefused};
+ghost use Rattle.protocol.specs.Answers.{answerNumber, answerValue};
 ghost use Rattle.protocol.specs.World.{answerOf, stepped};
 ghost use Rattle.step.specs.Lent.{world};
+ghost use Rattle.step.specs.Numbers.{numberOf, valueOf};
 use decide::decide;
 use decide::records::target;
 use protocol::records::Copy;
@@ -51,7 +52,9 @@ pub fn step(
 ) -> Outcome
     ensures answers { λ r. ⌜ r .answer ≡ answerOf setup (world tables (now (copies .entry)) (now (requests .entry))) x ⌝ }
     ensures moves { λ r. ⌜ world (r .tables) (now (copies .exit)) (now (requests .exit)) ≡ stepped setup (world tables (now (copies .entry)) (now (requests .entry))) x ⌝ }
-    ensures refuses { λ r. ⌜ (isRefused (r .answer) ≡ true → world (r .tables) (now (copies .exit)) (now (requests .exit)) ≡ world tables (now (copies .entry)) (now (requests .entry))) ⌝ }
+    ensures numbers { λ r. ⌜ answerNumber (r .answer) ≡ numberOf setup (world tables (now (copies .entry)) (now (requests .entry))) x ⌝ }
+    ensures values { λ r. ⌜ answerValue (r .answer) ≡ valueOf setup (world tables (now (copies .entry)) (now (requests .entry))) x ⌝ }
+    ensures refuses { λ r. ⌜ (answerNumber (r .answer) ≡ 4 → world (r .tables) (now (copies .exit)) (now (requests .exit)) ≡ world tables (now (copies .entry)) (now (requests .entry))) ⌝ }
 {
     let held = copies::sound(&*copies, setup);
     let asked = requests::sound(&*requests, setup);

@@ -1,13 +1,16 @@
-use Rattle.roadrun.proofs.Laws.{part-long}
-use Rattle.run.specs.Listed.{listed-fits}
+use Rattle.roadrun.proofs.Laws.{part-there, part-long}
 use borrow.Author.Needs.{needs}
+use Prim.Native.Nat.{ℕ}
+use native.Mathlib.Nat.{le-of-eq}
+use mathlib.Core.Path.{sym}
+use lib.ListN.{length-replicate}
 use Rattle.roadrun.proofs.main.Statement.{statement}
 use Rattle.roadrun.proofs.main.Tie as tie
 use Rattle.roadrun.proofs.main.Reads as reads
 use Rattle.roadrun.proofs.main.Lts as lts
 use Rattle.io.proofs.read_full.Reads as read-full-reads
 use Rattle.io.proofs.write_all.Reads as write-all-reads
-use Rattle.run.proofs.list.Reads as list-reads
+use Rattle.roadrun.proofs.print.Reads as print-reads
 
 slice-aggregate-read-full : tie.Need-slice-aggregate-read-full
 slice-aggregate-read-full c = search needs
@@ -18,35 +21,26 @@ read-full-requires c κs = search needs
 array-share-prefix-file : tie.Need-array-share-prefix-file
 array-share-prefix-file c = search needs
 
-slice-aggregate-list : tie.Need-slice-aggregate-list
-slice-aggregate-list c = search needs
+slice-aggregate-print : tie.Need-slice-aggregate-print
+slice-aggregate-print c = search needs
 
-slice-aggregate-list-2 : tie.Need-slice-aggregate-list-2
-slice-aggregate-list-2 c = search needs
+slice-aggregate-print-2 : tie.Need-slice-aggregate-print-2
+slice-aggregate-print-2 c = sym (length-replicate {A = ℕ} 112640 0)
 
-list-requires : tie.Need-list-requires
-list-requires c κs = search needs
-
-enum-known-m : tie.Need-enum-known-m
-enum-known-m c = search needs
+print-requires : tie.Need-print-requires
+print-requires c κs = le-of-eq (sym (length-replicate {A = ℕ} 112640 0))
 
 array-share-prefix-out : tie.Need-array-share-prefix-out
-array-share-prefix-out c = search (listed-fits, needs)
+array-share-prefix-out c = part-there _ _ _ _ (length-replicate {A = ℕ} 112640 0) (c .before .print .ensures)
 
 slice-aggregate-write-all : tie.Need-slice-aggregate-write-all
-slice-aggregate-write-all c = search (part-long, needs)
+slice-aggregate-write-all c = part-long _ _ _ _ (length-replicate {A = ℕ} 112640 0) (c .before .before .print .ensures)
 
 write-all-requires : tie.Need-write-all-requires
 write-all-requires c κs = search needs
 
-enum-told : tie.Need-enum-told
-enum-told c = search needs
-
 returns : tie.Need-returns
 returns c = search needs
-
-returns-2 : tie.Need-returns-2
-returns-2 c = search needs
 
 pub main-spec : {M : Type 1} → statement M
 main-spec =
@@ -55,13 +49,10 @@ main-spec =
     slice-aggregate-read-full
     read-full-requires
     array-share-prefix-file
-    slice-aggregate-list
-    slice-aggregate-list-2
-    list-requires
-    enum-known-m
+    slice-aggregate-print
+    slice-aggregate-print-2
+    print-requires
     array-share-prefix-out
     slice-aggregate-write-all
     write-all-requires
-    enum-told
-    returns
-    returns-2)
+    returns)

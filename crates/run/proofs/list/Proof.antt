@@ -4,42 +4,50 @@ use native.Mathlib.Nat.{le-of-eq}
 use mathlib.Core.Path.{sym}
 use lib.ListN.{length-replicate}
 use lib.Seq.{length-take-le}
-use Rattle.run.proofs.Laws.{listing-there, listing-fits, listed-yes, listed-no}
+use Rattle.run.proofs.Laws.{list-refused, listing-there, copy-fits, list-written, list-short}
 use Rattle.run.proofs.list.Statement.{statement}
 use Rattle.run.proofs.list.Tie as tie
 use Rattle.run.proofs.list.Reads as reads
 use Rattle.run.proofs.list.Lts as lts
 use Rattle.listing.proofs.write_bytes.Reads as write-bytes-reads
 use Rattle.run.proofs.print.Reads as print-reads
+use Rattle.runfile.proofs.read.Reads as read-reads
+
+read-requires : tie.Need-read-requires
+read-requires c κs = search needs
 
 slice-aggregate-print : tie.Need-slice-aggregate-print
 slice-aggregate-print c = sym (length-replicate {A = ℕ} 112640 0)
 
 print-requires : tie.Need-print-requires
-print-requires c κs = le-of-eq (sym (length-replicate {A = ℕ} 112640 0))
+print-requires c κs = (c .before .before .before .read .ensures, (c .before .if1 .taken, le-of-eq (sym (length-replicate {A = ℕ} 112640 0))))
 
 array-share-prefix-buffer : tie.Need-array-share-prefix-buffer
-array-share-prefix-buffer c = listing-there _ _ _ _ (length-replicate {A = ℕ} 112640 0) (c .before .before .before .print .ensures)
+array-share-prefix-buffer c = listing-there _ _ (c .before .before .before .before .before .before .before .read .ensures) (c .before .before .before .before .before .if1 .taken) _ _ _ (length-replicate {A = ℕ} 112640 0) (c .before .before .before .print .ensures)
 
 slice-aggregate-write-bytes : tie.Need-slice-aggregate-write-bytes
-slice-aggregate-write-bytes c = sym (length-take-le _ _ (listing-there _ _ _ _ (length-replicate {A = ℕ} 112640 0) (c .before .before .before .before .print .ensures)))
+slice-aggregate-write-bytes c = sym (length-take-le _ _ (listing-there _ _ (c .before .before .before .before .before .before .before .before .read .ensures) (c .before .before .before .before .before .before .if1 .taken) _ _ _ (length-replicate {A = ℕ} 112640 0) (c .before .before .before .before .print .ensures)))
 
 write-bytes-requires : tie.Need-write-bytes-requires
-write-bytes-requires c κs = listing-fits _ _ _ _ (length-replicate {A = ℕ} 112640 0) (c .before .before .before .before .print .ensures) _ (c .before .before .if1 .taken)
+write-bytes-requires c κs = copy-fits _ _ (c .before .before .before .before .before .before .before .before .read .ensures) (c .before .before .before .before .before .before .if1 .taken) _ _ _ (length-replicate {A = ℕ} 112640 0) (c .before .before .before .before .print .ensures) _ (c .before .before .if2 .taken)
 
 same-length : tie.Need-same-length
 same-length c = search needs
 
 returns : tie.Need-returns
-returns c = listed-yes _ _ _ _ (length-replicate {A = ℕ} 112640 0) (c .before .before .before .before .before .before .before .print .ensures) _ _ _ (c .before .before .before .before .before .if1 .taken) (c .before .before .write-bytes .ensures)
+returns c = list-written _ _ (c .before .before .before .before .before .before .before .before .before .before .before .read .ensures) (c .before .before .before .before .before .before .before .before .before .if1 .taken) _ _ _ (length-replicate {A = ℕ} 112640 0) (c .before .before .before .before .before .before .before .print .ensures) _ _ _ (c .before .before .before .before .before .if2 .taken) (c .before .before .write-bytes .ensures)
 
 returns-2 : tie.Need-returns-2
-returns-2 c = listed-no _ _ _ _ (length-replicate {A = ℕ} 112640 0) (c .before .before .print .ensures) _ (c .if1 .left)
+returns-2 c = list-short _ _ (c .before .before .before .before .before .before .read .ensures) (c .before .before .before .before .if1 .taken) _ _ _ (length-replicate {A = ℕ} 112640 0) (c .before .before .print .ensures) _ (c .if2 .left)
+
+returns-3 : tie.Need-returns-3
+returns-3 c = list-refused _ _ (c .before .before .read .ensures) _ (c .if1 .left)
 
 pub list-spec : {M : Type 1} → statement M
 list-spec =
     tie.close
     (tie.spec
+    read-requires
     slice-aggregate-print
     print-requires
     array-share-prefix-buffer
@@ -47,4 +55,5 @@ list-spec =
     write-bytes-requires
     same-length
     returns
-    returns-2)
+    returns-2
+    returns-3)
