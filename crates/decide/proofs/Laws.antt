@@ -29,7 +29,7 @@ use Rattle.protocol.specs.Writes.{Counted, settled, writeStaged, clockStaged}
 use Rattle.protocol.specs.Server.{renewed, ackStaged, dropStaged, serverRestarted}
 use Rattle.protocol.specs.Sound.{kindSound, timeFits, tablesSound}
 use Rattle.protocol.specs.Ranges.{ranges}
-use Rattle.protocol.specs.Soundness.Steps.{passed, step-passes, accepted-all, setup-in-range, tables-sound, client-exists, by-kind, clock-performed, read-performed, ask-performed, write-performed, deliver-performed, lose-performed, double-performed, server-performed, client-performed}
+use Rattle.protocol.specs.Soundness.StepCases.{passed, step-passes, accepted-all, setup-in-range, tables-sound, client-exists, by-kind, clock-performed, read-performed, ask-performed, write-performed, deliver-performed, lose-performed, double-performed, server-performed, client-performed}
 use Rattle.protocol.specs.Gate.{isClock, isWrite, isRestartServer, refusalOfStep, refusal}
 use Rattle.protocol.specs.Answers.{completedAnswer}
 use Rattle.protocol.specs.Decide.{Received, kept, uncounted, byServer, grantReceived, invalidateReceived, offerReceived, received, answered, counting, readDecided, askDecided, taken, deliverDecided, restartDecided, performed, refusedWith, decided}

@@ -2,6 +2,6 @@
 pub mod Booked
 pub mod Settled
 pub mod Happening
-pub mod Kept
+pub mod StepsBooked
 pub mod Shown
 pub mod Agreed

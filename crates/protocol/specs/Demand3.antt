@@ -7,16 +7,16 @@ use Rattle.protocol.specs.declared.setup.Setup.{Setup}
 use Rattle.protocol.specs.declared.step.Answer.{Answer}
 use Rattle.protocol.specs.declared.step.Step.{Step}
 use Rattle.protocol.specs.Setup.{inRange}
-use Rattle.protocol.specs.World.{freshWorld, answers}
+use Rattle.protocol.specs.World.{freshWorld, ran, answers}
 use Rattle.protocol.specs.Agreement.{AgreesThroughout}
 use Rattle.protocol.specs.History.{HistoryAgrees}
-use Rattle.protocol.specs.History.Kept.{history-agrees}
+use Rattle.protocol.specs.History.StepsLawful.{history-agrees}
 use Rattle.protocol.specs.Ranges.{ranges}
 use Rattle.protocol.specs.Soundness.Question.{RefusedOne, question-one-never, question-one-always}
 use Rattle.protocol.specs.Bookkeeping.Agreed.{Invariant, agrees-throughout}
 use Rattle.protocol.specs.Safety.Invariant.{Inv}
 use Rattle.protocol.specs.Safety.Fresh.{fresh-inv}
-use Rattle.protocol.specs.Safety.Steps.{step-keeps, reads-current}
+use Rattle.protocol.specs.Safety.InvariantKept.{step-keeps, reads-current}
 
 -- the lease-safety invariant: it holds of fresh tables, every step keeps it, and under it every client reads what is current
 pub leases-safe : (s : Setup) → inRange s ≡ true → Invariant s (Inv s)
@@ -29,7 +29,7 @@ demand-3 s xs = agrees-throughout s (Inv s) (leases-safe s) xs
 -- The same of the history of a run, which tells as shown exactly what was answered "shown": "every copy shown is the value of the last write to that
 -- notice completed before it, or zero"; every accepted write not cut off is complete by the end of the first accepted clock step past its latest end;
 -- accepted = completed + cut off + still open
-pub demand-3-in-words : (s : Setup) → inRange s ≡ true → (xs : List Step) → HistoryAgrees s xs
+pub demand-3-in-words : (s : Setup) → inRange s ≡ true → (xs : List Step) → HistoryAgrees s xs (answers s (freshWorld s) xs) (ran s (freshWorld s) xs)
 demand-3-in-words s i xs = history-agrees s (Inv s) (leases-safe s i) i xs
 
 -- Question 1 refuses no step of a run in range; "out of range, every step gets 1"

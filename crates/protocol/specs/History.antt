@@ -1,8 +1,8 @@
 -- The history of a run is the events of its steps, told newest first. Demand 3 once more, in functions of the history alone.
--- Letters: s setup, w world, x a step, a its answer, h a history, e an event, p a test of events, d client, o and k objects, v value, u latest end, T clock.
+-- Letters: s setup, w world, x a step, a its answer, rs all answers, h a history, e an event, p a test of events, d client, o and k objects, v value, u latest end, T clock.
 pub mod Lawful
 pub mod Showings
-pub mod Kept
+pub mod StepsLawful
 use Prim.Native.Nat.{ℕ, _+_, _<_, _≤_}
 use mathlib.Core.Bool.{Bool, true, false, cond, _||_}
 use mathlib.Core.List.{List, [], _∷_, _++_}
@@ -14,7 +14,7 @@ use Rattle.protocol.specs.declared.step.Answer.{Answer}
 use Rattle.protocol.specs.declared.step.Step.{Step}
 use Rattle.protocol.specs.Tables.{valueAt}
 use Rattle.protocol.specs.Answers.{answerValue, reported, isShown}
-use Rattle.protocol.specs.World.{World, freshWorld, stepped, ran, answers}
+use Rattle.protocol.specs.World.{World, freshWorld, stepped}
 use Rattle.protocol.specs.Ledger.{Event, acceptance, completion, serverRestart, showing, clockStep, events, Open, none, write, isOpen}
 use Rattle.protocol.specs.Agreement.{standingWrite}
 
@@ -145,15 +145,15 @@ EndsInTime h =
 abbrev pub AddsUp : Setup → List Event → Type 0
 AddsUp s h = howOften isAcceptance h ≡ howOften isCompletion h + cutOffs s h + stillOpen s h
 
--- together, of a run from fresh tables
-pub record HistoryAgrees (s : Setup) (xs : List Step) : Type 0 where
+-- together, of steps from fresh tables on, the answers to them and the world left after them
+pub record HistoryAgrees (s : Setup) (xs : List Step) (rs : List Answer) (last : World) : Type 0 where
   -- each answer "shown" is told, and nothing else is told as shown
-  pub showings : shownByAll xs (answers s (freshWorld s) xs) ≡ shownIn (history s xs)
+  pub showings : shownByAll xs rs ≡ shownIn (history s xs)
   pub shows : ShowsLast (history s xs)
   pub ends : EndsInTime (history s xs)
   pub tallies : AddsUp s (history s xs)
   -- "the numbers of writes completed that the steps reported add up to completed"
-  pub reports : reportedIn (answers s (freshWorld s) xs) ≡ howOften isCompletion (history s xs)
+  pub reports : reportedIn rs ≡ howOften isCompletion (history s xs)
   -- each object's value in the server's tables is that of the write completed last, and the standing write is the one still open
-  pub values : (o : ℕ) → o < s .objects → valueAt (ran s (freshWorld s) xs .tables) o ≡ lastCompleted o (history s xs)
-  pub writes : (o : ℕ) → o < s .objects → standingWrite (ran s (freshWorld s) xs .tables) o ≡ openIn o (history s xs)
+  pub values : (o : ℕ) → o < s .objects → valueAt (last .tables) o ≡ lastCompleted o (history s xs)
+  pub writes : (o : ℕ) → o < s .objects → standingWrite (last .tables) o ≡ openIn o (history s xs)

@@ -26,5 +26,5 @@ pub mod Acknowledging
 pub mod Dropping
 pub mod ServerRestart
 pub mod Delivering
-pub mod Steps
+pub mod InvariantKept
 pub mod Fresh

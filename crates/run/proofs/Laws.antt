@@ -39,7 +39,7 @@ use Rattle.protocol.specs.Client.{swept, sweeps, sweepAt}
 use Rattle.protocol.specs.Gate.{refusalOfStep}
 use Rattle.protocol.specs.Decide.{kept, answered, performed}
 use Rattle.protocol.specs.Ranges.{ranges}
-use Rattle.protocol.specs.Soundness.Steps.{recordsOf}
+use Rattle.protocol.specs.Soundness.StepCases.{recordsOf}
 use Rattle.run.specs.Owned.{copyCount, worldOf, Owned, placeIn, reach, decidedOn, sweep-fits}
 use Rattle.run.specs.declared.steps.Left.{Left}
 use Rattle.run.specs.Ran.{RanSteps, Roomy, Running, run-on, run-again}

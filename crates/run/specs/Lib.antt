@@ -1,4 +1,4 @@
 pub mod Owned
 pub mod Ran
 pub mod Listed
-pub mod Kept
+pub mod FileAgrees

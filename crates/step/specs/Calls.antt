@@ -1,5 +1,4 @@
 -- A list of calls of the public step, each on what the last one left, is a run of the definitions: so demand 3 is about such a program.
-use Prim.Native.Nat.{ℕ, _<_}
 use mathlib.Core.Bool.{true}
 use mathlib.Core.List.{List, [], _∷_}
 use mathlib.Core.Path.{_≡_, refl, ap, _∙_}
@@ -7,10 +6,9 @@ use Rattle.protocol.specs.declared.setup.Setup.{Setup}
 use Rattle.protocol.specs.declared.step.Answer.{Answer}
 use Rattle.protocol.specs.declared.step.Step.{Step}
 use Rattle.protocol.specs.Setup.{inRange}
-use Rattle.protocol.specs.Tables.{valueAt}
 use Rattle.protocol.specs.World.{World, freshWorld, answerOf, stepped, ran, answers}
-use Rattle.protocol.specs.Agreement.{standingWrite, AgreesThroughout}
-use Rattle.protocol.specs.History.{history, lastCompleted, openIn, isCompletion, howOften, reportedIn, ShowsLast, EndsInTime, AddsUp, HistoryAgrees}
+use Rattle.protocol.specs.Agreement.{AgreesThroughout}
+use Rattle.protocol.specs.History.{HistoryAgrees}
 use Rattle.protocol.specs.Demand3.{demand-3, demand-3-in-words}
 
 -- From the first world to the last: a call of step x on `w` answered `a` and left `v`, which is what the contract of `step` says of them (`answers` and
@@ -47,22 +45,5 @@ pub calls-keep : (s : Setup) (xs : List Step) (rs : List Answer) (u : World) →
 calls-keep s xs rs u c = record { answered = calls-answer s c; left = calls-leave s c; agrees = demand-3 s xs }
 
 -- the same in words about the history of the steps, of which the answers and the state that the calls left tell
-pub record CallsAgree (s : Setup) (xs : List Step) (rs : List Answer) (u : World) : Type 0 where
-  pub shows : ShowsLast (history s xs)
-  pub ends : EndsInTime (history s xs)
-  pub tallies : AddsUp s (history s xs)
-  pub reports : reportedIn rs ≡ howOften isCompletion (history s xs)
-  pub values : (o : ℕ) → o < s .objects → valueAt (u .tables) o ≡ lastCompleted o (history s xs)
-  pub writes : (o : ℕ) → o < s .objects → standingWrite (u .tables) o ≡ openIn o (history s xs)
-
-pub calls-in-words : (s : Setup) → inRange s ≡ true → (xs : List Step) (rs : List Answer) (u : World) → Calls s (freshWorld s) xs rs u → CallsAgree s xs rs u
-calls-in-words s i xs rs u c =
-    let h = demand-3-in-words s i xs in
-    record {
-      shows = h .shows;
-      ends = h .ends;
-      tallies = h .tallies;
-      reports = rw (calls-answer s c) (h .reports);
-      values = rw (calls-leave s c) (h .values);
-      writes = rw (calls-leave s c) (h .writes);
-    }
+pub calls-in-words : (s : Setup) → inRange s ≡ true → (xs : List Step) (rs : List Answer) (u : World) → Calls s (freshWorld s) xs rs u → HistoryAgrees s xs rs u
+calls-in-words s i xs rs u c = rw (calls-answer s c, calls-leave s c) (demand-3-in-words s i xs)

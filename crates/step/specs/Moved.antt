@@ -20,7 +20,7 @@ use Rattle.protocol.specs.Gate.{isClock, isRead, isAsk, isWrite, isDeliver, isL
 use Rattle.protocol.specs.Decide.{Received, grantReceived, invalidateReceived, offerReceived, received, readDecided, askDecided, taken, deliverDecided, restartDecided, performed}
 use Rattle.protocol.specs.World.{World, decision}
 use Rattle.protocol.specs.Ledger.{accepts}
-use Rattle.protocol.specs.Soundness.Steps.{Accepted, requestOf, recordsOf, accepted, decision-accepted, decision-refused, next-grows}
+use Rattle.protocol.specs.Soundness.StepCases.{Accepted, requestOf, recordsOf, accepted, decision-accepted, decision-refused, next-grows}
 use Rattle.records.specs.Turns.{Moves, stays, ends, takes}
 
 module _ (r : Request) where

@@ -18,7 +18,7 @@ use Rattle.protocol.specs.Answers.{doneOrCompleted, answerNumber, answerValue, 
 use Rattle.protocol.specs.Gate.{isClock, isRead, isWrite, isDeliver, known, refusal}
 use Rattle.protocol.specs.Decide.{received, taken, readDecided, askDecided, deliverDecided, restartDecided, performed}
 use Rattle.protocol.specs.World.{World, answerOf}
-use Rattle.protocol.specs.Soundness.Steps.{copyOf, requestOf, recordsOf, accepted, accepted-answer, refused-answer, by-kind, clock-performed, read-performed, ask-performed, write-performed, deliver-performed, lose-performed, double-performed, server-performed, client-performed}
+use Rattle.protocol.specs.Soundness.StepCases.{copyOf, requestOf, recordsOf, accepted, accepted-answer, refused-answer, by-kind, clock-performed, read-performed, ask-performed, write-performed, deliver-performed, lose-performed, double-performed, server-performed, client-performed}
 
 -- "the first "no" gives its number": the gate's refusal of a step, 0 for none
 abbrev pub refusalAt : Setup → World → Step → ℕ

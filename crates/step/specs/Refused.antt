@@ -8,7 +8,7 @@ use Rattle.protocol.specs.declared.step.Step.{Step}
 use Rattle.protocol.specs.Answers.{answerNumber}
 use Rattle.protocol.specs.World.{World, stepped, answerOf}
 use Rattle.protocol.specs.Ledger.{accepts}
-use Rattle.protocol.specs.Soundness.Steps.{refused-keeps}
+use Rattle.protocol.specs.Soundness.StepCases.{refused-keeps}
 use Rattle.protocol.specs.Soundness.Answered.{accepted-not-refused}
 
 -- a step whose answer has the number 4 leaves tables and lent records as they were

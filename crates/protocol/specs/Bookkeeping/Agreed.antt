@@ -26,12 +26,12 @@ use Rattle.protocol.specs.World.{World, freshWorld, stepped, answerOf}
 use Rattle.protocol.specs.Ledger.{none, write, accepts, events, Ledger, emptyLedger, bookAll, Books, booksAfter}
 use Rattle.protocol.specs.Agreement.{standingWrite, Agrees, AgreesFrom, AgreesThroughout}
 use Rattle.protocol.specs.Ranges.{ranges}
-use Rattle.protocol.specs.Soundness.Steps.{accepted, setup-in-range, copyOf, requestOf, tables-after, accepted-answer, refused-answer, refused-keeps, clock-performed, read-performed}
+use Rattle.protocol.specs.Soundness.StepCases.{accepted, setup-in-range, copyOf, requestOf, tables-after, accepted-answer, refused-answer, refused-keeps, clock-performed, read-performed}
 use Rattle.protocol.specs.Soundness.Answered.{accepted-of, refused-is-refused}
 use Rattle.protocol.specs.Soundness.Question.{SoundWorld, stepped-sound, fresh-sound}
 use Rattle.protocol.specs.Bookkeeping.Booked.{Booked, fresh-booked}
 use Rattle.protocol.specs.Bookkeeping.Settled.{clock-ended}
-use Rattle.protocol.specs.Bookkeeping.Kept.{performed-recorded}
+use Rattle.protocol.specs.Bookkeeping.StepsBooked.{performed-recorded}
 use Rattle.protocol.specs.Bookkeeping.Shown.{shown-read}
 use Rattle.protocol.specs.Safety.Invariant.{copyAt}
 

@@ -21,7 +21,7 @@ use Rattle.protocol.specs.Answers.{answerValue, doneOrCompleted, isShown
 use Rattle.protocol.specs.Decide.{received, taken, performed, readDecided, askDecided, deliverDecided, restartDecided}
 use Rattle.protocol.specs.World.{World, target, answerOf}
 use Rattle.protocol.specs.Ledger.{accepts}
-use Rattle.protocol.specs.Soundness.Steps.{Accepted, accepted, copyOf, requestOf, accepted-answer, refused-answer, by-kind, client-exists, object-exists, clock-performed, read-performed, ask-performed, write-performed, deliver-performed, lose-performed, double-performed, server-performed, client-performed}
+use Rattle.protocol.specs.Soundness.StepCases.{Accepted, accepted, copyOf, requestOf, accepted-answer, refused-answer, by-kind, client-exists, object-exists, clock-performed, read-performed, ask-performed, write-performed, deliver-performed, lose-performed, double-performed, server-performed, client-performed}
 use Rattle.protocol.specs.Safety.Invariant.{copyAt}
 
 -- a number of completed writes is not shown

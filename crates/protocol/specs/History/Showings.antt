@@ -18,7 +18,7 @@ use Rattle.protocol.specs.Client.{showable}
 use Rattle.protocol.specs.Decide.{performed, readDecided}
 use Rattle.protocol.specs.World.{World, freshWorld, stepped, answerOf, answers}
 use Rattle.protocol.specs.Ledger.{Event, completion, clockStep, settlingOf, completions, deliveryStaged, readEvents, happening, accepts, events}
-use Rattle.protocol.specs.Soundness.Steps.{Accepted, accepted, copyOf, requestOf, accepted-answer, refused-answer, by-kind, read-performed}
+use Rattle.protocol.specs.Soundness.StepCases.{Accepted, accepted, copyOf, requestOf, accepted-answer, refused-answer, by-kind, read-performed}
 use Rattle.protocol.specs.Bookkeeping.Happening.{clock-happening, read-happening, ask-happening, write-happening, deliver-happening, lose-happening, double-happening, server-happening, client-happening}
 use Rattle.protocol.specs.Bookkeeping.Shown.{unread-unshown}
 use Rattle.protocol.specs.History.{told, historyFrom, history, shownBy, shownByAll, shownIn}

@@ -13,7 +13,7 @@ use Rattle.protocol.specs.Decide.{counting}
 use Rattle.protocol.specs.World.{World, stepped}
 use Rattle.protocol.specs.Ledger.{accepts}
 use Rattle.protocol.specs.Ranges.{ranges}
-use Rattle.protocol.specs.Soundness.Steps.{accepted, copyOf, requestOf, performedOf, decision-accepted, clock-performed, write-performed, clock-grows, object-exists, none-stands, setup-in-range}
+use Rattle.protocol.specs.Soundness.StepCases.{accepted, copyOf, requestOf, performedOf, decision-accepted, clock-performed, write-performed, clock-grows, object-exists, none-stands, setup-in-range}
 use Rattle.protocol.specs.Soundness.Shape.{Shape}
 use Rattle.protocol.specs.Soundness.ShapeKept.{written-shape}
 use Rattle.protocol.specs.Safety.Invariant.{Inv}

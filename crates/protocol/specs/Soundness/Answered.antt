@@ -19,7 +19,7 @@ use Rattle.protocol.specs.Answers.{doneOrCompleted, isRefused, completed
 use Rattle.protocol.specs.Decide.{received, taken, performed, readDecided, askDecided, deliverDecided, restartDecided}
 use Rattle.protocol.specs.World.{World, answerOf}
 use Rattle.protocol.specs.Ledger.{accepts}
-use Rattle.protocol.specs.Soundness.Steps.{Accepted, accepted, copyOf, requestOf, accepted-answer, refused-answer, by-kind, clock-performed, read-performed, ask-performed, write-performed, deliver-performed, lose-performed, double-performed, server-performed, client-performed}
+use Rattle.protocol.specs.Soundness.StepCases.{Accepted, accepted, copyOf, requestOf, accepted-answer, refused-answer, by-kind, clock-performed, read-performed, ask-performed, write-performed, deliver-performed, lose-performed, double-performed, server-performed, client-performed}
 
 -- a number of completed writes is no refusal
 not-four : (n : ℕ) → eqb (doneOrCompleted n) 4 ≡ false

@@ -25,11 +25,11 @@ use Rattle.protocol.specs.Gate.{known, exists, timely, vacant, growable,
 use Rattle.protocol.specs.World.{World, freshWorld, stepped, answerOf, answers}
 use Rattle.protocol.specs.Ledger.{accepts}
 use Rattle.protocol.specs.Ranges.{Ranges, ranges}
-use Rattle.protocol.specs.Soundness.Steps.{requestOf, recordsOf, refused-answer}
+use Rattle.protocol.specs.Soundness.StepCases.{requestOf, recordsOf, refused-answer}
 use Rattle.protocol.specs.Soundness.Shape.{Shape, WorldShape, fresh-shape}
 use Rattle.protocol.specs.Soundness.ShapeKept.{stepped-shape}
 use Rattle.protocol.specs.Soundness.Bounds.{Timed, Started, Named, Bounded, CopyBounded, RequestBounded, WorldBounded, fresh-bounded}
-use Rattle.protocol.specs.Soundness.Kept.{stepped-bounded}
+use Rattle.protocol.specs.Soundness.BoundsKept.{stepped-bounded}
 use Rattle.protocol.specs.Soundness.Answered.{accepted-not-refused}
 
 -- lengths and bounds together

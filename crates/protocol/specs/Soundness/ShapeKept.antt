@@ -31,7 +31,7 @@ use Rattle.protocol.specs.Gate.{usesPlace}
 use Rattle.protocol.specs.Decide.{Received, performed, readDecided, askDecided, deliverDecided, restartDecided, grantReceived, invalidateReceived, offerReceived, received}
 use Rattle.protocol.specs.World.{World, stepped}
 use Rattle.protocol.specs.Ledger.{accepts}
-use Rattle.protocol.specs.Soundness.Steps.{Accepted, accepted, copyOf, requestOf, tables-after, refused-keeps, by-kind, place-exists, queue-fits, clock-performed, read-performed, ask-performed, write-performed, deliver-performed, lose-performed, double-performed, server-performed, client-performed}
+use Rattle.protocol.specs.Soundness.StepCases.{Accepted, accepted, copyOf, requestOf, tables-after, refused-keeps, by-kind, place-exists, queue-fits, clock-performed, read-performed, ask-performed, write-performed, deliver-performed, lose-performed, double-performed, server-performed, client-performed}
 use Rattle.protocol.specs.Soundness.Shape.{ViewsShape, QueueShape, Shape, WorldShape, epoch-shape, volume-expiry-shape, guard-shape, seen-shape, session-expiry-shape, unreachable-shape, offer-shape, value-shape, version-shape, object-expiry-shape, write-shape, lease-shape, waiting-shape, view-epoch-shape, view-expiry-shape, clock-shape, volumes-shape, sessions-shape, objects-shape, holders-shape, views-shape, queue-shape, pushed-shape, sent-shape, taken-shape, fresh-sessions, fresh-objects, fresh-holders}
 
 -- ---- writes

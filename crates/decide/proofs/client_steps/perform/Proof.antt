@@ -4,7 +4,7 @@ use denote.Ref.{now}
 use Rattle.client.specs.Shown.{read-answered}
 use Rattle.leases.specs.Parts.{tablesOf}
 use Rattle.protocol.specs.Tables.{freshSessions}
-use Rattle.protocol.specs.Soundness.Steps.{passed, client-exists, object-exists, place-exists, next-grows}
+use Rattle.protocol.specs.Soundness.StepCases.{passed, client-exists, object-exists, place-exists, next-grows}
 use Rattle.decide.proofs.Laws.{client-16, object-32, volume-of-8, volumes-8, last-client, by-read, by-ask, by-lose, by-double, by-last, asks, restarts}
 use borrow.Author.Needs.{needs}
 use Rattle.decide.proofs.client_steps.perform.Statement.{statement}

@@ -3,7 +3,7 @@ use denote.Ref.{now}
 use Rattle.leases.specs.Parts.{sessionsOf, tablesOf}
 use Rattle.protocol.specs.Gate.{exists, timely, vacant, growable, refusalOfStep}
 use Rattle.protocol.specs.SoundLaws.{sound-clock, growing, sound-length}
-use Rattle.protocol.specs.Soundness.Steps.{passed, place-exists}
+use Rattle.protocol.specs.Soundness.StepCases.{passed, place-exists}
 use Rattle.decide.proofs.Laws.{by-deliver, elsewhere}
 use borrow.Author.Needs.{needs}
 use Rattle.decide.proofs.perform.perform.Statement.{statement}

@@ -3,7 +3,7 @@ use denote.Ref.{now}
 use Rattle.leases.specs.Parts.{sessionsOf, tablesOf}
 use Rattle.protocol.specs.Tables.{freshViews}
 use Rattle.writes.specs.Triggers.{triggered}
-use Rattle.protocol.specs.Soundness.Steps.{passed, object-exists, version-grows, epochs-grow}
+use Rattle.protocol.specs.Soundness.StepCases.{passed, object-exists, version-grows, epochs-grow}
 use Rattle.decide.proofs.Laws.{by-clock, by-write, by-restart-server, at-eight}
 use borrow.Author.Needs.{needs}
 use Rattle.decide.proofs.server_steps.perform.Statement.{statement}

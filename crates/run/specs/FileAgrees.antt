@@ -8,10 +8,11 @@ use Rattle.laws.specs.Choice.{and-true}
 use Rattle.protocol.specs.declared.step.Answer.{Answer}
 use Rattle.protocol.specs.Setup.{inRange}
 use Rattle.protocol.specs.World.{World, freshWorld}
+use Rattle.protocol.specs.History.{HistoryAgrees}
 use Rattle.runfile.specs.File.{setupPlace, reserved, stepsFit, firstPlace, countOf, measured, contentsFit, wellFormed}
 use Rattle.runfile.specs.Steps.{stepsOf}
 use Rattle.listing.specs.Listing.{listingOf}
-use Rattle.step.specs.Calls.{Calls, Kept, CallsAgree, calls-answer, calls-there, calls-keep, calls-in-words}
+use Rattle.step.specs.Calls.{Calls, Kept, calls-answer, calls-there, calls-keep, calls-in-words}
 use Rattle.run.specs.Listed.{setupOf, answersOf, leftBy, fileListing, listRefusal, listedBytes, listed-formed}
 
 file-in-range : (l : List ℕ) → wellFormed l ≡ true → inRange (setupOf l) ≡ true
@@ -26,7 +27,7 @@ file-in-range l e =
 pub record FileAgrees (l bytes : List ℕ) (rs : List Answer) (u : World) : Type 0 where
   pub listing : bytes ≡ listingOf rs
   pub kept : Kept (setupOf l) (stepsOf l) rs u
-  pub words : CallsAgree (setupOf l) (stepsOf l) rs u
+  pub words : HistoryAgrees (setupOf l) (stepsOf l) rs u
 
 -- what is written for a file that is not refused is what a program would print that calls the public step over and over, from fresh tables on, with the
 -- file's steps

@@ -22,14 +22,14 @@ use Rattle.protocol.specs.Answers.{reported}
 use Rattle.protocol.specs.World.{World, freshWorld, stepped, answerOf, ran, answers}
 use Rattle.protocol.specs.Ledger.{Event, acceptance, clockStep, settlingOf, completions, deliveryStaged, readEvents, happening, accepts, events, none, Ledger}
 use Rattle.protocol.specs.Agreement.{standingWrite}
-use Rattle.protocol.specs.Soundness.Steps.{accepted, setup-in-range, copyOf, requestOf, by-kind, client-exists, object-exists, place-exists, queue-fits, none-stands}
+use Rattle.protocol.specs.Soundness.StepCases.{accepted, setup-in-range, copyOf, requestOf, by-kind, client-exists, object-exists, place-exists, queue-fits, none-stands}
 use Rattle.protocol.specs.Soundness.Shape.{Shape}
 use Rattle.protocol.specs.Soundness.Bounds.{Bounded}
 use Rattle.protocol.specs.Soundness.Question.{SoundWorld, stepped-sound, fresh-sound}
 use Rattle.protocol.specs.Bookkeeping.Booked.{Booked, vacant-closed, begun-booked, fresh-booked}
 use Rattle.protocol.specs.Bookkeeping.Settled.{settle, clock-ended}
 use Rattle.protocol.specs.Bookkeeping.Happening.{clock-happening, read-happening, ask-happening, write-happening, deliver-happening, lose-happening, double-happening, server-happening, client-happening}
-use Rattle.protocol.specs.Bookkeeping.Kept.{clock-on, write-on, deliver-settles}
+use Rattle.protocol.specs.Bookkeeping.StepsBooked.{clock-on, write-on, deliver-settles}
 use Rattle.protocol.specs.Bookkeeping.Shown.{copy-read}
 use Rattle.protocol.specs.Bookkeeping.Agreed.{Invariant, ReadsCurrent, open-stands, step-booked}
 use Rattle.protocol.specs.History.{told, historyFrom, history, lastCompleted, openIn, howOften, isCompletion, reportedIn, AddsUp, HistoryAgrees}
@@ -153,7 +153,8 @@ module _ (s : Setup) (w : World) (h : List Event) (r : Remembered s w h) where
   writes-are-open : (o : ℕ) → o < s .objects → standingWrite (w .tables) o ≡ openIn o h
   writes-are-open o p = r .booked .writes o p ∙ ledger-open s h o
 
-pub history-agrees {κ} : (s : Setup) (P : World → Type κ) → Invariant s P → inRange s ≡ true → (xs : List Step) → HistoryAgrees s xs
+pub history-agrees {κ} : (s : Setup) (P : World → Type κ) → Invariant s P → inRange s ≡ true → (xs : List Step)
+    → HistoryAgrees s xs (answers s (freshWorld s) xs) (ran s (freshWorld s) xs)
 unfolding howOften
 history-agrees s P v i xs =
     let k = fresh-sound s i in

@@ -28,7 +28,7 @@ use Rattle.protocol.specs.SoundLaws.{named}
 use Rattle.protocol.specs.Decide.{performed, readDecided, askDecided, deliverDecided, restartDecided}
 use Rattle.protocol.specs.World.{World, stepped}
 use Rattle.protocol.specs.Ledger.{accepts}
-use Rattle.protocol.specs.Soundness.Steps.{Accepted, accepted, setup-in-range, copyOf, requestOf, tables-after, copies-after, requests-after, refused-keeps, by-kind, client-exists, object-exists, clock-grows, version-grows, clock-performed, read-performed, ask-performed, write-performed, deliver-performed, lose-performed, double-performed, server-performed, client-performed}
+use Rattle.protocol.specs.Soundness.StepCases.{Accepted, accepted, setup-in-range, copyOf, requestOf, tables-after, copies-after, requests-after, refused-keeps, by-kind, client-exists, object-exists, clock-grows, version-grows, clock-performed, read-performed, ask-performed, write-performed, deliver-performed, lose-performed, double-performed, server-performed, client-performed}
 use Rattle.protocol.specs.Soundness.Bounds.{Bounded, CopyBounded, RequestBounded, WorldBounded, clock-bounded, views-bounded, sent-bounded, taken-bounded, named-at}
 use Rattle.protocol.specs.Soundness.Written.{written-bounded, settled-bounded}
 use Rattle.protocol.specs.Soundness.Received.{Leaves, unchanged, received-bounded, server-bounded, client-bounded, ended-bounded}

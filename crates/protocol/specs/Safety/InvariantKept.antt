@@ -21,7 +21,7 @@ use Rattle.protocol.specs.Decide.{readDecided, askDecided, deliverDecide
 use Rattle.protocol.specs.World.{World, targetAt, target, copiesAfter, requestsAfter, stepped}
 use Rattle.protocol.specs.Ledger.{accepts}
 use Rattle.protocol.specs.Ranges.{Ranges, ranges}
-use Rattle.protocol.specs.Soundness.Steps.{Accepted, accepted, by-kind, copyOf, requestOf, recordsOf, performedOf, decision-accepted, refused-keeps, setup-in-range, client-exists, object-exists, place-exists, queue-fits, read-performed, ask-performed, deliver-performed, lose-performed, double-performed, server-performed, client-performed}
+use Rattle.protocol.specs.Soundness.StepCases.{Accepted, accepted, by-kind, copyOf, requestOf, recordsOf, performedOf, decision-accepted, refused-keeps, setup-in-range, client-exists, object-exists, place-exists, queue-fits, read-performed, ask-performed, deliver-performed, lose-performed, double-performed, server-performed, client-performed}
 use Rattle.protocol.specs.Soundness.Question.{SoundWorld}
 use Rattle.protocol.specs.Bookkeeping.Agreed.{ReadsCurrent}
 use Rattle.protocol.specs.Safety.Invariant.{Inv, copyAt, clocksOf}
