@@ -1,5 +1,7 @@
 //! The clients' copies of objects: lent records, all clients' in one list.
 
+use std::fmt::{Display, Formatter, Result};
+
 use crate::limits::{CLIENTS, OBJECTS};
 
 /// Version 0 is no copy (01, Tables).
@@ -12,6 +14,12 @@ pub struct ObjectCopy {
 
 impl ObjectCopy {
     pub const NONE: ObjectCopy = ObjectCopy { version: 0, expiry: 0, value: 0 };
+}
+
+impl Display for ObjectCopy {
+    fn fmt(&self, f: &mut Formatter) -> Result {
+        write!(f, "version {}, value {}, expiry {}", self.version, self.value, self.expiry)
+    }
 }
 
 /// Room for the copies of the largest setup.

@@ -6,74 +6,104 @@ use std::fmt::Display;
 use crate::cases::rows::Row;
 use crate::cases::tables::CaseTables;
 use crate::limits::{CLIENTS, OBJECTS, QUEUE, VOLUMES};
-use crate::tables::{ClientVolumes, Server};
+use crate::tables::{ClientVolumes, Server, Tables};
+
+/// What was before a step, and what after it.
+type Both<'a, T> = [&'a T; 2];
 
 pub fn left(before: &CaseTables, after: &CaseTables) -> Vec<String> {
-    let pairs = lines(before).into_iter().zip(lines(after));
-    pairs.filter(|(before, after)| before != after).map(|(_, after)| after).collect()
-}
-
-/// Everything, a line each, in an order that does not depend on what it is.
-fn lines(case: &CaseTables) -> Vec<String> {
-    let mut lines = vec![format!("clock: {}", case.tables.clock)];
-    by_volume(&mut lines, &case.tables.server);
-    by_object(&mut lines, &case.tables.server);
-    known(&mut lines, &case.tables.clients);
-    lines.push(format!("messages: {}", case.tables.queue.len));
-    each(&mut lines, "message", QUEUE, |place| Row::of(&case.tables.queue.places[place]));
-    records(&mut lines, case);
+    let mut lines = Vec::new();
+    let tables = [&before.tables, &after.tables];
+    one(&mut lines, tables, "clock", |tables| tables.clock);
+    by_volume(&mut lines, tables.map(|tables| &tables.server));
+    by_object(&mut lines, tables.map(|tables| &tables.server));
+    known(&mut lines, tables.map(|tables| &tables.clients));
+    messages(&mut lines, tables);
+    records(&mut lines, [before, after]);
     lines
 }
 
-fn by_volume(lines: &mut Vec<String>, server: &Server) {
-    each(lines, "epoch", VOLUMES, |volume| server.epoch[volume]);
-    each(lines, "VE", VOLUMES, |volume| server.volume_latest[volume]);
-    each(lines, "guard", VOLUMES, |volume| server.guard[volume]);
-    each(lines, "seen", CLIENTS, |client| server.seen[client]);
-    by_client(lines, "volume lease", VOLUMES, |client, volume| server.volume_expiry[volume][client]);
-    by_client(lines, "unreachable", VOLUMES, |client, volume| server.unreachable[volume] >> client & 1);
-    by_client(lines, "offer", VOLUMES, |client, volume| server.offer[volume][client]);
-}
-
-fn by_object(lines: &mut Vec<String>, server: &Server) {
-    each(lines, "value", OBJECTS, |object| server.value[object]);
-    each(lines, "version", OBJECTS, |object| server.version[object]);
-    each(lines, "OE", OBJECTS, |object| server.object_latest[object]);
-    each(lines, "standing", OBJECTS, |object| server.standing >> object & 1);
-    each(lines, "pending", OBJECTS, |object| server.write[object].value);
-    each(lines, "end", OBJECTS, |object| server.write[object].latest_end);
-    by_client(lines, "object lease", OBJECTS, |client, object| server.object_expiry[object][client]);
-    by_client(lines, "waiting", OBJECTS, |client, object| server.write[object].waiting >> client & 1);
-}
-
-fn known(lines: &mut Vec<String>, clients: &ClientVolumes) {
-    by_client(lines, "known epoch", VOLUMES, |client, volume| clients.epoch[client][volume]);
-    by_client(lines, "known expiry", VOLUMES, |client, volume| clients.expiry[client][volume]);
-}
-
-fn records(lines: &mut Vec<String>, case: &CaseTables) {
-    each(lines, "copy", case.copies.len(), |place| {
-        let copy = &case.copies[place];
-        format!("version {}, value {}, expiry {}", copy.version, copy.value, copy.expiry)
+fn by_volume(lines: &mut Vec<String>, both: Both<Server>) {
+    each(lines, both, "epoch", VOLUMES, |server, volume| server.epoch[volume]);
+    each(lines, both, "VE", VOLUMES, |server, volume| server.volume_latest[volume]);
+    each(lines, both, "guard", VOLUMES, |server, volume| server.guard[volume]);
+    each(lines, both, "seen", CLIENTS, |server, client| server.seen[client]);
+    by_client(lines, both, "volume lease", VOLUMES, |server, client, volume| {
+        server.volume_expiry[volume][client]
     });
-    each(lines, "request", case.requests.len(), |client| {
+    by_client(lines, both, "unreachable", VOLUMES, |server, client, volume| {
+        server.unreachable[volume] >> client & 1
+    });
+    by_client(lines, both, "offer", VOLUMES, |server, client, volume| server.offer[volume][client]);
+}
+
+fn by_object(lines: &mut Vec<String>, both: Both<Server>) {
+    each(lines, both, "value", OBJECTS, |server, object| server.value[object]);
+    each(lines, both, "version", OBJECTS, |server, object| server.version[object]);
+    each(lines, both, "OE", OBJECTS, |server, object| server.object_latest[object]);
+    each(lines, both, "standing", OBJECTS, |server, object| server.standing >> object & 1);
+    each(lines, both, "pending", OBJECTS, |server, object| server.write[object].value);
+    each(lines, both, "end", OBJECTS, |server, object| server.write[object].latest_end);
+    by_client(lines, both, "object lease", OBJECTS, |server, client, object| {
+        server.object_expiry[object][client]
+    });
+    by_client(lines, both, "waiting", OBJECTS, |server, client, object| {
+        server.write[object].waiting >> client & 1
+    });
+}
+
+fn known(lines: &mut Vec<String>, both: Both<ClientVolumes>) {
+    by_client(lines, both, "known epoch", VOLUMES, |clients, client, volume| clients.epoch[client][volume]);
+    by_client(lines, both, "known expiry", VOLUMES, |clients, client, volume| clients.expiry[client][volume]);
+}
+
+fn messages(lines: &mut Vec<String>, both: Both<Tables>) {
+    one(lines, both, "messages", |tables| tables.queue.len);
+    each(lines, both, "message", QUEUE, |tables, place| Row::of(&tables.queue.places[place]));
+}
+
+fn records(lines: &mut Vec<String>, both: Both<CaseTables>) {
+    each(lines, both, "copy", CLIENTS * OBJECTS, |case, place| case.copies[place]);
+    each(lines, both, "request", CLIENTS, |case, client| {
         let (request, asked) = (&case.requests[client], &case.asked[client]);
         let stands = if request.standing.is_some() { "standing" } else { "none standing" };
         format!("next {}, {stands}, number {}, object {}", request.next, asked.number, asked.object)
     });
 }
 
-fn each<T: Display>(lines: &mut Vec<String>, name: &str, count: usize, get: impl Fn(usize) -> T) {
-    lines.extend((0..count).map(|place| format!("{name} {place}: {}", get(place))));
+fn one<S, T: Display + PartialEq>(lines: &mut Vec<String>, both: Both<S>, name: &str, get: impl Fn(&S) -> T) {
+    let [before, after] = both.map(get);
+    if before != after {
+        lines.push(format!("{name}: {after}"));
+    }
 }
 
-fn by_client<T: Display>(
+/// An element for each place: the ones that differ.
+fn each<S, T: Display + PartialEq>(
     lines: &mut Vec<String>,
+    both: Both<S>,
+    name: &str,
+    count: usize,
+    get: impl Fn(&S, usize) -> T,
+) {
+    for place in 0..count {
+        let [before, after] = both.map(|tables| get(tables, place));
+        if before != after {
+            lines.push(format!("{name} {place}: {after}"));
+        }
+    }
+}
+
+/// The same with a row of places for each client.
+fn by_client<S, T: Display + PartialEq>(
+    lines: &mut Vec<String>,
+    both: Both<S>,
     name: &str,
     columns: usize,
-    get: impl Fn(usize, usize) -> T,
+    get: impl Fn(&S, usize, usize) -> T,
 ) {
     for client in 0..CLIENTS {
-        each(lines, &format!("{name} {client}"), columns, |column| get(client, column));
+        let name = format!("{name} {client}");
+        each(lines, both, &name, columns, |tables, column| get(tables, client, column));
     }
 }

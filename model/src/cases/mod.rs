@@ -16,11 +16,17 @@ use numbers::Numbers;
 use rows::Row;
 
 use crate::answer::Answer;
+use crate::mistakes::{Honest, Rules};
 use crate::step_record::Step;
 
 /// A line `case answer value` for each step of each case. Below it, each after
 /// two spaces, the message that was delivered and what the step left.
 pub fn lines(text: &str) -> String {
+    lines_under(Honest, text)
+}
+
+/// The same under other rules, to see what a mistake changes.
+pub fn lines_under(rules: impl Rules, text: &str) -> String {
     let mut numbers = Numbers::of(text);
     let base = changed(&mut numbers, &CaseTables::fresh());
     let mut lines = String::new();
@@ -28,7 +34,7 @@ pub fn lines(text: &str) -> String {
         let mut tables = changed(&mut numbers, &base);
         for _ in 0..numbers.need() {
             let before = tables.clone();
-            let answer = tables.take(&read_step(&mut numbers));
+            let answer = tables.take(rules, &read_step(&mut numbers));
             let (number, value) = answer.numbers();
             lines.push_str(&format!("{case} {number} {value}\n"));
             let below = delivered(&answer).into_iter().chain(left(&before, &tables));

@@ -4,7 +4,7 @@ use std::fmt::{Display, Formatter, Result};
 
 use crate::message::{Grant, Kind, Message};
 
-#[derive(Clone, Copy, Debug, Default)]
+#[derive(Clone, Copy, Debug, PartialEq, Eq)]
 pub struct Row {
     pub fields: [u64; 10],
 }

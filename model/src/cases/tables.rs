@@ -4,12 +4,14 @@ use crate::answer::Answer;
 use crate::cases::free::settle;
 use crate::cases::rows::Row;
 use crate::copies::{ObjectCopy, NO_COPIES};
-use crate::limits::{CLIENTS, QUEUE};
+use crate::limits::{CLIENTS, QUEUE, UNSOUND};
+use crate::mistakes::Rules;
 use crate::requests::{Request, Standing, NO_REQUESTS};
 use crate::setup::Setup;
-use crate::step::step;
+use crate::sound::sound;
 use crate::step_record::Step;
 use crate::tables::Tables;
+use crate::world::World;
 
 #[derive(Clone, Debug)]
 pub struct CaseTables {
@@ -59,15 +61,24 @@ impl CaseTables {
         self.copies_lent = self.requests_lent * usize::from(self.setup.objects);
     }
 
-    pub fn take(&mut self, record: &Step) -> Answer {
+    /// All six questions, then the step.
+    pub fn take(&mut self, rules: impl Rules, record: &Step) -> Answer {
         let before = self.clone();
-        let copies = self.copies_lent.min(self.copies.len());
-        let requests = self.requests_lent.min(self.requests.len());
-        let (copies, requests) = (&mut self.copies[..copies], &mut self.requests[..requests]);
-        let answer = step(&self.setup, &mut self.tables, copies, requests, record);
+        let answer = self.asked_and_taken(rules, record);
         if !matches!(answer, Answer::Refused(_)) {
             settle(&before, self, record);
         }
         answer
+    }
+
+    fn asked_and_taken(&mut self, rules: impl Rules, record: &Step) -> Answer {
+        let copies = self.copies_lent.min(self.copies.len());
+        let requests = self.requests_lent.min(self.requests.len());
+        let (setup, tables) = (&self.setup, &mut self.tables);
+        let (copies, requests) = (&mut self.copies[..copies], &mut self.requests[..requests]);
+        if !sound(setup, tables, copies, requests) {
+            return Answer::Refused(UNSOUND);
+        }
+        World { rules, setup, tables, copies, requests }.step(record)
     }
 }
