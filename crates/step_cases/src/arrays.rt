@@ -2,6 +2,7 @@
 // and object, is two numbers.
 use crate::lines::end;
 use crate::lines::number;
+use crate::lines::spaced;
 use crate::lines::text;
 
 // How many elements of an array are one client's.
@@ -13,14 +14,14 @@ pub enum Row {
 
 fn place(row: Row, i: usize) {
     match row {
-        Row::One => number(b" ", i as u64),
+        Row::One => spaced(i as u64),
         Row::Volumes => {
-            number(b" ", (i / 8) as u64);
-            number(b" ", (i % 8) as u64);
+            spaced((i / 8) as u64);
+            spaced((i % 8) as u64);
         }
         Row::Objects => {
-            number(b" ", (i / 32) as u64);
-            number(b" ", (i % 32) as u64);
+            spaced((i / 32) as u64);
+            spaced((i % 32) as u64);
         }
     }
 }

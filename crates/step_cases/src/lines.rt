@@ -11,21 +11,25 @@ pub fn number(words: &[u8], n: u64) {
     io::print_decimal(1, n);
 }
 
+pub fn spaced(n: u64) {
+    number(b" ", n);
+}
+
 pub fn end() {
     text(b"\n");
 }
 
 // A message as its ten fields, in the frame's order.
 pub fn fields(f: Fields) {
-    number(b" ", f.kind as u64);
-    number(b" ", f.client as u64);
-    number(b" ", f.object as u64);
-    number(b" ", f.present as u64);
-    number(b" ", f.number as u64);
-    number(b" ", f.lease as u64);
-    number(b" ", f.epoch as u64);
-    number(b" ", f.version as u64);
-    number(b" ", f.expiry as u64);
-    number(b" ", f.value);
+    spaced(f.kind as u64);
+    spaced(f.client as u64);
+    spaced(f.object as u64);
+    spaced(f.present as u64);
+    spaced(f.number as u64);
+    spaced(f.lease as u64);
+    spaced(f.epoch as u64);
+    spaced(f.version as u64);
+    spaced(f.expiry as u64);
+    spaced(f.value);
     end();
 }

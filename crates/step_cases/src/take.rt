@@ -1,7 +1,7 @@
 // One step of a case, and its answer printed.
 use crate::lines::end;
 use crate::lines::fields;
-use crate::lines::number;
+use crate::lines::spaced;
 use crate::lines::text;
 use crate::world::World;
 use protocol::message::Message;
@@ -38,8 +38,8 @@ pub fn stepped(w: World, x: Step) -> Taken {
 }
 
 fn line(answer: u64, value: u64) {
-    number(b" ", answer);
-    number(b" ", value);
+    spaced(answer);
+    spaced(value);
     end();
 }
 
@@ -59,7 +59,7 @@ fn delivered(m: Message, n: u32) {
 
 // The case, 01's number and value of the answer, and the message in it.
 pub fn show(id: u64, a: Answer) {
-    number(b"", id);
+    io::print_decimal(1, id);
     match a {
         Answer::Done => line(0, 0),
         Answer::Shown(x) => line(1, x),

@@ -1,4 +1,4 @@
-//! Prints the model's answers to the cases on standard input.
+//! Prints the model's answers to the cases on standard input, and what it left.
 
 use std::io::{self, Read};
 
