@@ -1,6 +1,7 @@
 -- Demand 3, all of it but one thing: that a client which may show its copy has the server's value. That is asked of an invariant P of worlds.
--- Letters: s setup, w world, k that it is sound, t tables, x a step, c a copy, r a request, g a decision or what is recorded of it, d client, o object,
--- y value, u latest end, n writes reported before, l and m ledgers, h that one is booked, b what a step books, v what is asked of P; the others are proofs.
+-- Letters: s setup, w world, k that it is sound, t tables, x a step, c a copy, r a request, g a decision or what is recorded of it, d client, o
+-- object, y value, u latest end, n writes reported before, l and m ledgers, h that one is booked, b what a step books, v what is asked of P; the
+-- others are proofs.
 use Prim.Native.Nat.{ℕ, _+_, _<_, _≤_}
 use native.Mathlib.Omega.{arith}
 use mathlib.Core.Bool.{Bool, true, false, cond}

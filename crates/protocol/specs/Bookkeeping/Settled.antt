@@ -1,6 +1,6 @@
 -- Whichever step completes writes: the tables that it leaves, the number that it reports and the events that the ledger books go together.
--- Letters: s setup, t and u tables, k their shape, c and d tables with a count, n a count or how many objects are left, g what is staged, l and m ledgers,
--- h what holds before, o and j objects, T clock, b a test; the others are proofs.
+-- Letters: s setup, t and u tables, k their shape, c and d tables with a count, n a count or how many objects are left, g what is staged, l and m
+-- ledgers, h what holds before, o and j objects, T clock, b a test; the others are proofs.
 use Prim.Native.Nat.{ℕ, zero, suc, _+_, _<_, _≤_}
 use native.Mathlib.Omega.{arith}
 use mathlib.Core.Bool.{Bool, true, false, cond, not, _&&_, _||_}

@@ -1,7 +1,7 @@
 -- Every accepted step keeps the ledger and the tables together.
--- Letters: s setup, t and u tables, k their shape, b their bounds, c a copy, r a request, g a decision or what is staged, l a ledger, h that it is booked,
--- m a ledger or a message, q its kind, d client, o object, i place, T clock, y value, n how many, x a step. Of a message: n number, e epoch, w version,
--- x and y the volume's and the object's expiry, v volume or payload. The others, and e elsewhere, are proofs.
+-- Letters: s setup, t and u tables, k their shape, b their bounds, c a copy, r a request, g a decision or what is staged, l a ledger, h that it is
+-- booked, m a ledger or a message, q its kind, d client, o object, i place, T clock, y value, n how many, x a step. Of a message: n number, e epoch,
+-- w version, x and y the volume's and the object's expiry, v volume or payload. The others, and e elsewhere, are proofs.
 use Prim.Native.Nat.{ℕ, zero, suc, _+_, _<_}
 use native.Mathlib.Omega.{arith}
 use mathlib.Core.Bool.{Bool, true, false}

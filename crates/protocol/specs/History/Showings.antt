@@ -1,5 +1,6 @@
 -- What the steps of a run were answered "shown" is what its history tells as shown.
--- Letters: s setup, w world, t its tables, x a step, y an answer, c a copy, r a request, d client, o object, g a decision or what is staged, b a test; the others are proofs.
+-- Letters: s setup, w world, t its tables, x a step, y an answer, c a copy, r a request, d client, o object, g a decision or what is staged, b a
+-- test; the others are proofs.
 use Prim.Native.Nat.{ℕ}
 use mathlib.Core.Bool.{Bool, true, false, cond}
 use mathlib.Core.List.{List, [], _∷_, _++_, map, append-assoc, append-nil}

@@ -1,7 +1,7 @@
 -- Every step of a run makes lawful history.
--- Letters: s setup, w world, t its tables, k their shape or that the world is sound, b their bounds, x a step, i its place or what its kind is, c and z
--- copies, r a request or what is remembered, d client, o object, y value, u latest end, T clock, l ledger, h a history or that a ledger is booked, a that
--- a history is lawful, g what is staged, v what is asked of the invariant P; the others are proofs.
+-- Letters: s setup, w world, t its tables, k their shape or that the world is sound, b their bounds, x a step, i its place or what its kind is, c and
+-- z copies, r a request or what is remembered, d client, o object, y value, u latest end, T clock, l ledger, h a history or that a ledger is booked,
+-- a that a history is lawful, g what is staged, v what is asked of the invariant P; the others are proofs.
 use Prim.Native.Nat.{ℕ, _+_, _<_}
 use native.Mathlib.Omega.{arith}
 use mathlib.Core.Bool.{true, false}
