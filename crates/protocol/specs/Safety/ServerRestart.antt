@@ -7,7 +7,7 @@ use mathlib.Core.List.{List}
 use mathlib.Core.Logic.{inl, ⊎-elim}
 use mathlib.Core.Path.{_≡_, refl}
 use lib.ListN.{getD, replicate, getD-replicate}
-use Rattle.laws.specs.Store.{storeEach, always, store-hit}
+use Rattle.laws.specs.Store.{always, store-hit}
 use Rattle.protocol.specs.declared.message.Kind.the-variants.{Renew, Grant, Invalidate, Ack, Offer, Dropped}
 use Rattle.protocol.specs.declared.setup.Setup.{Setup}
 use Rattle.protocol.specs.Setup.{volumeOf}
@@ -37,9 +37,10 @@ covered-restarted {epoch} {volume} {view} c old next g k = record {
 
 module _ (s : Setup) (range : Ranges s) (w : World) (inv : Inv s w) (shape : Shape (w .tables)) where
   abbrev epoch : List ℕ
-  epoch = storeEach always (λ (v : ℕ). v) (λ (v : ℕ). epochAt (w .tables) v + 1) (w .tables .volumes .epoch) (s .volumes)
+  epoch = serverRestarted s (w .tables) .volumes .epoch
 
   grown : (v : ℕ) → v < s .volumes → getD epoch v 0 ≡ epochAt (w .tables) v + 1
+  unfolding serverRestarted
   grown v h =
       let b = range .volumes .1 in
       store-hit always (λ (v : ℕ). v) (λ (v : ℕ). epochAt (w .tables) v + 1) (λ i j e. e) (w .tables .volumes .epoch) (s .volumes) v 0 h refl (omega (arith, shape .volumes .epoch))
