@@ -13,7 +13,8 @@ use Rattle.protocol.specs.Client.{ended, swept, sweptAll, clientRestarte
 use Rattle.protocol.specs.World.{World}
 use Rattle.protocol.specs.Soundness.Steps.{Ranges}
 use Rattle.protocol.specs.Soundness.Shape.{WorldShape}
-use Rattle.protocol.specs.Safety.Invariant.{Inv, copyAt, requestAt, viewAt, clocksOf}
+use Rattle.protocol.specs.Safety.View.{copyAt, requestAt, viewAt}
+use Rattle.protocol.specs.Safety.Invariant.{Inv, clocksOf}
 use Rattle.protocol.specs.Safety.Stores.{volume-fits, same-version}
 use Rattle.protocol.specs.Safety.Covering.{Empty, covered-empty, remains-empty}
 use Rattle.protocol.specs.Safety.Taking.{Others, Own, taken}

@@ -19,7 +19,8 @@ use Rattle.protocol.specs.Writes.{posted, released, deserted, completed}
 use Rattle.protocol.specs.World.{World}
 use Rattle.protocol.specs.Soundness.Steps.{Ranges}
 use Rattle.protocol.specs.Soundness.Shape.{Shape, ObjectsShape, HoldersShape}
-use Rattle.protocol.specs.Safety.Invariant.{left, View, Held, Claimed, ViewOk, PayloadOk, Recent, InvalidateOk, Acknowledges, Remains, clocksOf, excusesOf, CoveredIn, RemainsIn, Inv}
+use Rattle.protocol.specs.Safety.View.{left, View, Held, Claimed, ViewOk, Remains}
+use Rattle.protocol.specs.Safety.Invariant.{PayloadOk, Recent, InvalidateOk, Acknowledges, clocksOf, excusesOf, CoveredIn, RemainsIn, Inv}
 use Rattle.protocol.specs.Safety.Tools.{client-server, longer-alive, lesser-alive, over-dead, zero-dead-client}
 use Rattle.protocol.specs.Safety.Replaced.{withTables, Replaced, ReplacedFor, here-at, here-for, set-replaced, store-replaced}
 use Rattle.protocol.specs.Safety.Marks.{deserted-marks, deserted-keeps}

@@ -13,7 +13,8 @@ use Rattle.protocol.specs.declared.records.Request.{Request}
 use Rattle.protocol.specs.declared.setup.Setup.{Setup}
 use Rattle.protocol.specs.Setup.{volumeOf}
 use Rattle.protocol.specs.Tables.{byObject}
-use Rattle.protocol.specs.Safety.Invariant.{Stands, copyAt, left, heldOf, untilOf, View, viewOf, viewGranted, Held, Claimed, Covered, ViewOk, GrantOk, Remains}
+use Rattle.protocol.specs.Safety.View.{Stands, copyAt, left, heldOf, untilOf, View, viewOf, viewGranted, Held, Claimed, Covered, ViewOk, Remains}
+use Rattle.protocol.specs.Safety.Invariant.{GrantOk}
 use Rattle.protocol.specs.Safety.Stores.{same-version, same-expiry}
 use Rattle.protocol.specs.Safety.Tools.{updated-other, updated-agree, left-grows}
 

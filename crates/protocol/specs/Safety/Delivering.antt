@@ -22,7 +22,8 @@ use Rattle.protocol.specs.Decide.{Received, taken, grantReceived, invali
 use Rattle.protocol.specs.World.{World}
 use Rattle.protocol.specs.Soundness.Steps.{Ranges}
 use Rattle.protocol.specs.Soundness.Shape.{WorldShape, taken-shape, ack-shape, drop-shape}
-use Rattle.protocol.specs.Safety.Invariant.{Inv, Sent, from, copyAt, requestAt}
+use Rattle.protocol.specs.Safety.View.{copyAt, requestAt}
+use Rattle.protocol.specs.Safety.Invariant.{Inv, Sent, from}
 use Rattle.protocol.specs.Safety.Tools.{stands-true, sent-removed}
 use Rattle.protocol.specs.Safety.Replaced.{withTables}
 use Rattle.protocol.specs.Safety.Settling.{Admits, ready-admits, ready-in-admits, none-admits, settled-keeps}

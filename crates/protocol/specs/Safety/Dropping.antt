@@ -20,7 +20,8 @@ use Rattle.protocol.specs.Server.{dropTaken, ofVolume, disowned, dropped
 use Rattle.protocol.specs.World.{World}
 use Rattle.protocol.specs.Soundness.Steps.{Ranges}
 use Rattle.protocol.specs.Soundness.Shape.{Shape}
-use Rattle.protocol.specs.Safety.Invariant.{Inv, left, excusesOf, View, viewIn, AnswersIn, KindOk, CoveredIn}
+use Rattle.protocol.specs.Safety.View.{left, View}
+use Rattle.protocol.specs.Safety.Invariant.{Inv, excusesOf, viewIn, AnswersIn, KindOk, CoveredIn}
 use Rattle.protocol.specs.Safety.Stores.{After, at-place, off-place, volume-set, object-fits}
 use Rattle.protocol.specs.Safety.Tools.{zero-dead, left-below, excused-grows}
 use Rattle.protocol.specs.Safety.Replaced.{withTables}

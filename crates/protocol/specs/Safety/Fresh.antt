@@ -12,7 +12,8 @@ use Rattle.protocol.specs.Messages.{emptyQueue}
 use Rattle.protocol.specs.Tables.{noCopy, noRequest, freshRequest, freshTables}
 use Rattle.protocol.specs.World.{freshWorld}
 use Rattle.protocol.specs.Soundness.Steps.{Ranges}
-use Rattle.protocol.specs.Safety.Invariant.{Inv, Sent, copyAt, requestAt}
+use Rattle.protocol.specs.Safety.View.{copyAt, requestAt}
+use Rattle.protocol.specs.Safety.Invariant.{Inv, Sent}
 use Rattle.protocol.specs.Safety.Stores.{same-version, row-below, nothing-stands, object-fits, volume-fits, zero-holder, zero-session}
 use Rattle.protocol.specs.Safety.Covering.{covered-empty}
 

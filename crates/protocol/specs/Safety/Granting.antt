@@ -15,7 +15,8 @@ use Rattle.protocol.specs.Client.{ended, viewed, filled, payloadOr}
 use Rattle.protocol.specs.World.{World}
 use Rattle.protocol.specs.Soundness.Steps.{Ranges}
 use Rattle.protocol.specs.Soundness.Shape.{WorldShape}
-use Rattle.protocol.specs.Safety.Invariant.{Inv, Sent, Stands, from, copyAt, requestAt, heldOf, untilOf, viewOf, viewGranted, NamesHeld, PayloadOk, KindOk, clocksOf, AcknowledgesIn}
+use Rattle.protocol.specs.Safety.View.{Stands, copyAt, requestAt, heldOf, untilOf, viewOf, viewGranted}
+use Rattle.protocol.specs.Safety.Invariant.{Inv, Sent, from, NamesHeld, PayloadOk, KindOk, clocksOf, AcknowledgesIn}
 use Rattle.protocol.specs.Safety.Stores.{After, off-place, copy-set, same-version, same-expiry}
 use Rattle.protocol.specs.Safety.Tools.{updated-same, updated-other}
 use Rattle.protocol.specs.Safety.Covering.{Less, covered-less}

@@ -17,7 +17,8 @@ use Rattle.protocol.specs.Tables.{byVolume, unreachableAt, waitingAt, wi
 use Rattle.protocol.specs.Writes.{markIfWaiting, deserted}
 use Rattle.protocol.specs.World.{World}
 use Rattle.protocol.specs.Soundness.Steps.{Ranges}
-use Rattle.protocol.specs.Safety.Invariant.{excused, excusesOf, View, CoveredIn, Inv}
+use Rattle.protocol.specs.Safety.View.{excused, View}
+use Rattle.protocol.specs.Safety.Invariant.{excusesOf, CoveredIn, Inv}
 use Rattle.protocol.specs.Safety.Tools.{marked-excused, excused-grows}
 use Rattle.protocol.specs.Safety.Replaced.{withTables}
 use Rattle.protocol.specs.Safety.Covering.{covered-by, grant-covered}

@@ -14,7 +14,8 @@ use Rattle.protocol.specs.Tables.{byVolume, epochAt, seenAt, unreachable
 use Rattle.protocol.specs.Server.{noted}
 use Rattle.protocol.specs.World.{World}
 use Rattle.protocol.specs.Soundness.Steps.{Ranges}
-use Rattle.protocol.specs.Safety.Invariant.{Inv, Stands, requestAt, Header, HeaderIn, Answers, AnswersIn}
+use Rattle.protocol.specs.Safety.View.{Stands, requestAt}
+use Rattle.protocol.specs.Safety.Invariant.{Inv, Header, HeaderIn, Answers, AnswersIn}
 use Rattle.protocol.specs.Safety.Stores.{After, volume-set}
 use Rattle.protocol.specs.Safety.Replaced.{withTables}
 use Rattle.protocol.specs.Safety.Sending.{Keeps, each}

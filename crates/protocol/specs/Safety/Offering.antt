@@ -19,7 +19,8 @@ use Rattle.protocol.specs.Client.{ended, viewed, swept, sweptAll}
 use Rattle.protocol.specs.World.{World}
 use Rattle.protocol.specs.Soundness.Steps.{Ranges}
 use Rattle.protocol.specs.Soundness.Shape.{WorldShape}
-use Rattle.protocol.specs.Safety.Invariant.{Inv, copyAt, requestAt, viewOf, KindOk, clocksOf}
+use Rattle.protocol.specs.Safety.View.{copyAt, requestAt, viewOf}
+use Rattle.protocol.specs.Safety.Invariant.{Inv, KindOk, clocksOf}
 use Rattle.protocol.specs.Safety.Stores.{same-version, same-expiry}
 use Rattle.protocol.specs.Safety.Tools.{zero-dead-client, left-none}
 use Rattle.protocol.specs.Safety.Covering.{remains-less, Empty, covered-empty, remains-empty}

@@ -17,7 +17,8 @@ use Rattle.protocol.specs.Tables.{noRequest}
 use Rattle.protocol.specs.Client.{numbered, ended, forgotten, asksFor}
 use Rattle.protocol.specs.World.{World}
 use Rattle.protocol.specs.Soundness.Shape.{WorldShape}
-use Rattle.protocol.specs.Safety.Invariant.{Inv, Stands, requestAt, Numbers, Header, HeaderIn, KindOk, Bringing}
+use Rattle.protocol.specs.Safety.View.{Stands, requestAt}
+use Rattle.protocol.specs.Safety.Invariant.{Inv, Numbers, Header, HeaderIn, KindOk, Bringing}
 use Rattle.protocol.specs.Safety.Sending.{Keeps, each, bringing-case}
 
 abbrev pub requesting : World → List Request → World

@@ -16,7 +16,8 @@ use Rattle.protocol.specs.Server.{serverRestarted}
 use Rattle.protocol.specs.World.{World}
 use Rattle.protocol.specs.Soundness.Steps.{Ranges}
 use Rattle.protocol.specs.Soundness.Shape.{Shape}
-use Rattle.protocol.specs.Safety.Invariant.{Inv, View, Covered, Header, HeaderIn, InvalidateOk, CoveredIn}
+use Rattle.protocol.specs.Safety.View.{View, Covered}
+use Rattle.protocol.specs.Safety.Invariant.{Inv, Header, HeaderIn, InvalidateOk, CoveredIn}
 use Rattle.protocol.specs.Safety.Stores.{nothing-stands, zero-holder, zero-session}
 use Rattle.protocol.specs.Safety.Replaced.{withTables}
 use Rattle.protocol.specs.Safety.Sending.{Keeps, each, acked-before}

@@ -14,7 +14,7 @@ use Rattle.protocol.specs.declared.records.Copy.{Copy}
 use Rattle.protocol.specs.declared.setup.Setup.{Setup}
 use Rattle.protocol.specs.Tables.{byVolume, byObject, noCopy}
 use Rattle.protocol.specs.Soundness.Steps.{Ranges}
-use Rattle.protocol.specs.Safety.Invariant.{copyAt}
+use Rattle.protocol.specs.Safety.View.{copyAt}
 
 -- what is read at row k and column u after a store at row d and column v: the new element, or the old one elsewhere
 abbrev pub After {ℓ} : {A : Type ℓ} → ℕ → ℕ → ℕ → ℕ → A → A → A → Type ℓ

@@ -17,7 +17,8 @@ use Rattle.protocol.specs.Client.{ended, viewed}
 use Rattle.protocol.specs.World.{World}
 use Rattle.protocol.specs.Soundness.Steps.{Ranges}
 use Rattle.protocol.specs.Soundness.Shape.{WorldShape}
-use Rattle.protocol.specs.Safety.Invariant.{Inv, Sent, Stands, from, copyAt, requestAt, viewOf, viewAt, viewIn, NamesHeld, clocksOf, CoveredIn, RemainsIn, AnswersIn, AcknowledgesIn}
+use Rattle.protocol.specs.Safety.View.{Stands, copyAt, requestAt, viewOf, viewAt}
+use Rattle.protocol.specs.Safety.Invariant.{Inv, Sent, from, viewIn, NamesHeld, clocksOf, CoveredIn, RemainsIn, AnswersIn, AcknowledgesIn}
 use Rattle.protocol.specs.Safety.Stores.{After, at-place, off-place, volume-set, same-version}
 use Rattle.protocol.specs.Safety.Covering.{Less, Fewer, view-less, granted-less, covered-less, remains-less}
 use Rattle.protocol.specs.Safety.Sending.{Keeps, each}

@@ -22,7 +22,8 @@ use Rattle.protocol.specs.Tables.{byVolume, guardAt}
 use Rattle.protocol.specs.Leases.{serverAlive, clientAlive, clientClock, guardPassed, endOver}
 use Rattle.protocol.specs.Client.{stands}
 use Rattle.protocol.specs.Ledger.{updated}
-use Rattle.protocol.specs.Safety.Invariant.{Sent, Stands, requestAt, excused, left}
+use Rattle.protocol.specs.Safety.View.{Stands, requestAt, excused, left}
+use Rattle.protocol.specs.Safety.Invariant.{Sent}
 
 -- ---- time: e is an expiry by the server's clock or by client d's
 
