@@ -58,7 +58,7 @@ module _ (s : Setup) (range : Ranges s) (w : World) (inv : Inv s w) (shape : Wor
         (at-copy d i (h .exists));
   }
 
-  inside : Inside s range w inv shape d hd (volumeOf s o) e x (range .within o ho) copies (λ k i h m. off-place (at-copy k i h) (λ a b. m a (ap (volumeOf s) b)))
+  inside : Inside s range w inv shape d hd (volumeOf s o) e x (range .within o ho) copies (λ k i h ne. off-place (at-copy k i h) (λ a b. ne a (ap (volumeOf s) b)))
   inside = record {
     epoch = ok .header .reached;
     reached = λ i h q. ⊎-elim (λ a. rw (a .2, a .1) (ok .reached)) (λ a. rw (a .1) (inv .versions .reached d i hd h)) (at-copy d i h);
@@ -75,4 +75,4 @@ module _ (s : Setup) (range : Ranges s) (w : World) (inv : Inv s w) (shape : Wor
     copies = copies;
     requests = set (w .requests) d (ended (requestAt (w .requests) d));
   })
-  grant-taken = taken-inside s range w inv shape d hd (volumeOf s o) e x (range .within o ho) copies (λ k i h m. off-place (at-copy k i h) (λ a b. m a (ap (volumeOf s) b))) inside
+  grant-taken = taken-inside s range w inv shape d hd (volumeOf s o) e x (range .within o ho) copies (λ k i h ne. off-place (at-copy k i h) (λ a b. ne a (ap (volumeOf s) b))) inside

@@ -1,8 +1,9 @@
 -- What holds after every step of every run: of the tables, of each message under way, and of each two. Each clause is stated over what it reads, so what
 -- a step leaves alone needs no proof.
--- Letters in this folder: s a setup, w a world, t tables, q a message list, m a message, g another or its kind; d and k clients, v and u volumes, o, i and j objects. Of a
--- message n is the number, e the epoch (n′ and f another's), x the volume expiry, ver the version, y the object expiry, p the payload; z says that it is sent
--- and c is its clause.
+-- Letters in this folder: s is a setup, w a world, t tables, q a message list, m a message, g another or its kind; d and k are clients, v and u volumes, o, i
+-- and j objects. Of a message n is the number, e the epoch (n′ and f another's), x the volume expiry, ver the version, y the object expiry, p the payload; z
+-- says that it is sent, and c is its clause. In proofs a, b, e, h, l, p, q and r are facts, ne is one that says that two are not the same, and hd, hv and ho
+-- are that an item exists.
 use Prim.Native.Nat.{ℕ, _+_, _<_, _≤_, min}
 use mathlib.Core.Bool.{Bool, true, false}
 use mathlib.Core.List.{List}

@@ -75,12 +75,12 @@ module _ (s : Setup) (range : Ranges s) (w : World) (inv : Inv s w) (shape : Sha
 
   session-grows : (k u : ℕ) → k < s .clients → u < s .volumes → sessionExpiryAt (w .tables) k u ≤ sessionExpiryAt t k u
   session-grows k u hk h =
-      let b = inv .bounds .volumes u h in let c = inv .bounds .sessions k u hk h in
+      let b = inv .bounds .volumes u h in let l = inv .bounds .sessions k u hk h in
       ⊎-elim (λ a. omega (arith, a .2)) (λ a. omega (arith, a .1)) (at-session k u h)
 
   lease-grows : (k i : ℕ) → k < s .clients → i < s .objects → leaseAt (w .tables) k i ≤ leaseAt t k i
   lease-grows k i hk h =
-      let b = inv .bounds .objects i h in let c = inv .bounds .leases k i hk h in
+      let b = inv .bounds .objects i h in let l = inv .bounds .leases k i hk h in
       ⊎-elim (λ a. omega (arith, a .2)) (λ a. omega (arith, a .1)) (at-lease k i h)
 
   -- no lease on what is being written changes
@@ -110,12 +110,12 @@ module _ (s : Setup) (range : Ranges s) (w : World) (inv : Inv s w) (shape : Sha
       volumes = λ u h. volume-grows u h .1;
       sessions = λ k u hk h.
           let b = inv .bounds .sessions k u hk h in
-          let c = volume-grows u h in
+          let l = volume-grows u h in
           ⊎-elim (λ a. omega (arith, a .2, here-at at-volume u (a .1))) (λ a. omega (arith, a .1)) (at-session k u h);
       objects = λ i h. object-grows i h .1;
       leases = λ k i hk h.
           let b = inv .bounds .leases k i hk h in
-          let c = object-grows i h in
+          let l = object-grows i h in
           ⊎-elim (λ a. omega (arith, a .2, here-at at-object i (a .1))) (λ a. omega (arith, a .1)) (at-lease k i h);
     };
     epochs = inv .epochs;
@@ -179,14 +179,14 @@ module _ (s : Setup) (range : Ranges s) (w : World) (inv : Inv s w) (shape : Sha
         rest : (i : ℕ) → (i ≡ o → ⊥) → Held s (clocksOf (w .tables) d) v view i → Owed i
         rest i q h =
             let cur = sym (renew .knows a) ∙ same in
-            let c = inv .views d v hd hv .holds i (record {
+            let l = inv .views d v hd hv .holds i (record {
               exists = h .exists;
               inside = h .inside;
               copy = λ r. h .copy (updated-other (heldOf s (w .copies) d) o i _ q ∙ r);
               alive = rw (updated-other (untilOf s (w .copies) d) o i longer q) at (h .alive);
             }) (inr (cur, trusted i (h .exists) (h .inside))) in (
-              updated-other (heldOf s (w .copies) d) o i _ q ∙ c .0,
-              λ r. let b = c .1 cur in rw (updated-other (untilOf s (w .copies) d) o i longer q, off-place (at-lease d i (h .exists)) (λ p r. q r)) b,
+              updated-other (heldOf s (w .copies) d) o i _ q ∙ l .0,
+              λ r. let b = l .1 cur in rw (updated-other (untilOf s (w .copies) d) o i longer q, off-place (at-lease d i (h .exists)) (λ p r. q r)) b,
             )
 
     pub granted-keeps : Inv s (withTables w (granted s (w .tables) d o n ver))

@@ -54,7 +54,7 @@ module _ (s : Setup) (w : World) (un : List Bool) (range : Ranges s)
     epochs = inv .epochs;
     numbers = inv .numbers;
     versions = inv .versions;
-    offers = λ d v hd hv m. marks d v hd hv (inv .offers d v hd hv m);
+    offers = λ d v hd hv ne. marks d v hd hv (inv .offers d v hd hv ne);
     writes = record {
       guards = inv .writes .guards;
       waits = inv .writes .waits;

@@ -83,8 +83,8 @@ module _ (s : Setup) (range : Ranges s) (w : World) (inv : Inv s w) (shape : Sha
   unwaited : ltb low (s .objects) ≡ false → (i : ℕ) → i < s .objects → volumeOf s i ≡ v → standingAt t i ≡ true → waitingAt t d i ≡ false
   unfolding lowestWaited
   unwaited none i h q a =
-      let m = first-missing (waitedIn s t d v) 0 (s .objects) (let z = ltb-false low (s .objects) none in omega arith) i (omega arith) (omega arith) in
-      ⊎-elim (λ b. not-both (eq-eqb _ _ q) b) (λ b. ⊎-elim (λ c. not-both a c) (λ c. c) (and-false _ _ b)) (and-false _ _ m)
+      let r = first-missing (waitedIn s t d v) 0 (s .objects) (let l = ltb-false low (s .objects) none in omega arith) i (omega arith) (omega arith) in
+      ⊎-elim (λ b. not-both (eq-eqb _ _ q) b) (λ b. ⊎-elim (λ l. not-both a l) (λ l. l) (and-false _ _ b)) (and-false _ _ r)
 
   -- "resend INVALIDATE"
   by-resend : low < s .objects → Inv s (withTables w (sent t (invalidation s t low d)))
@@ -118,7 +118,7 @@ module _ (s : Setup) (range : Ranges s) (w : World) (inv : Inv s w) (shape : Sha
   renewed-new =
       cond-keeps (λ (x : Tables). Inv s (withTables w x)) (mustDrop t d v e) (λ a. by-offer)
       (λ a. cond-keeps (λ (x : Tables). Inv s (withTables w x)) (ltb low (s .objects)) (λ b. by-resend (ltb-true _ _ b))
-      (λ b. cond-keeps (λ (x : Tables). Inv s (withTables w x)) (beingWritten t o) (λ c. noticed) (λ c. by-grant a b c)))
+      (λ b. cond-keeps (λ (x : Tables). Inv s (withTables w x)) (beingWritten t o) (λ l. noticed) (λ l. by-grant a b l)))
 
 -- "number not above the highest seen: nothing"
 pub renewed-keeps : (s : Setup) → Ranges s → (w : World) → Inv s w → Shape (w .tables) → (d o n e ver : ℕ) → d < s .clients → KindOk s w d (Renew o n e ver)
