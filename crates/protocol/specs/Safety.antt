@@ -1,4 +1,5 @@
 -- Every copy shown is current: an inductive invariant of all runs, and that each step keeps it.
+pub mod View
 pub mod Invariant
 pub mod Stores
 pub mod Replaced

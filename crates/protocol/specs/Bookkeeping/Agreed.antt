@@ -34,7 +34,7 @@ use Rattle.protocol.specs.Bookkeeping.Booked.{Booked, fresh-booked}
 use Rattle.protocol.specs.Bookkeeping.Settled.{clock-ended}
 use Rattle.protocol.specs.Bookkeeping.StepsBooked.{performed-recorded}
 use Rattle.protocol.specs.Bookkeeping.Shown.{shown-read}
-use Rattle.protocol.specs.Safety.Invariant.{copyAt}
+use Rattle.protocol.specs.Safety.View.{copyAt}
 
 -- a client that may show its copy of an object has the server's value
 abbrev pub ReadsCurrent : Setup → World → Type 0

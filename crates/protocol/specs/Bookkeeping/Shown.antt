@@ -22,7 +22,7 @@ use Rattle.protocol.specs.Decide.{received, taken, performed, readDecide
 use Rattle.protocol.specs.World.{World, target, answerOf}
 use Rattle.protocol.specs.Ledger.{accepts}
 use Rattle.protocol.specs.Soundness.StepCases.{Accepted, accepted, copyOf, requestOf, accepted-answer, refused-answer, by-kind, client-exists, object-exists, clock-performed, read-performed, ask-performed, write-performed, deliver-performed, lose-performed, double-performed, server-performed, client-performed}
-use Rattle.protocol.specs.Safety.Invariant.{copyAt}
+use Rattle.protocol.specs.Safety.View.{copyAt}
 
 -- a number of completed writes is not shown
 not-one : (n : ℕ) → eqb (doneOrCompleted n) 1 ≡ false

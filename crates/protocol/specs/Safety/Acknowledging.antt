@@ -20,7 +20,8 @@ use Rattle.protocol.specs.Server.{ackTaken, acked}
 use Rattle.protocol.specs.World.{World}
 use Rattle.protocol.specs.Ranges.{Ranges}
 use Rattle.protocol.specs.Soundness.Shape.{Shape}
-use Rattle.protocol.specs.Safety.Invariant.{Inv, Sent, from, copyAt, heldOf, View, Held, Bringing, AcknowledgesIn}
+use Rattle.protocol.specs.Safety.View.{copyAt, heldOf, View, Held}
+use Rattle.protocol.specs.Safety.Invariant.{Inv, Sent, from, Bringing, AcknowledgesIn}
 use Rattle.protocol.specs.Safety.Stores.{After, object-set}
 use Rattle.protocol.specs.Safety.Tools.{zero-dead, left-below}
 use Rattle.protocol.specs.Safety.Replaced.{withTables}

@@ -11,7 +11,8 @@ use Rattle.protocol.specs.Client.{numbered, renewal}
 use Rattle.protocol.specs.World.{World}
 use Rattle.protocol.specs.Ranges.{Ranges}
 use Rattle.protocol.specs.Soundness.Shape.{WorldShape}
-use Rattle.protocol.specs.Safety.Invariant.{Inv, copyAt, requestAt}
+use Rattle.protocol.specs.Safety.View.{copyAt, requestAt}
+use Rattle.protocol.specs.Safety.Invariant.{Inv}
 use Rattle.protocol.specs.Safety.Sending.{send-single}
 use Rattle.protocol.specs.Safety.Requests.{requesting, has-record, request-taken, same-record}
 

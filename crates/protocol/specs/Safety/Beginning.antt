@@ -65,7 +65,7 @@ module _ (s : Setup) (o : ℕ) {epoch version : List ℕ} {standing standing′ 
   acknowledges-begun {j} {ver} c a = record { stands = ⊎-elim early (λ p. p .0) (c .recent (a .current)); current = a .current; next = a .next }
     where
       early : ver ≤ getD version j 0 → getD standing j false ≡ true
-      early h = let n = a .next in absurd (omega arith)
+      early h = absurd (omega (arith, a .next))
 
 module _ (s : Setup) (w : World) (o new : ℕ) (range : Ranges s) (shape : Shape (w .tables)) (ho : o < s .objects) (vacant : standingAt (w .tables) o ≡ false) (inv : Inv s w) where
   abbrev after : World

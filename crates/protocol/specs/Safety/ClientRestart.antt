@@ -13,7 +13,8 @@ use Rattle.protocol.specs.Client.{ended, swept, sweptAll, clientRestarte
 use Rattle.protocol.specs.World.{World}
 use Rattle.protocol.specs.Ranges.{Ranges}
 use Rattle.protocol.specs.Soundness.Shape.{WorldShape}
-use Rattle.protocol.specs.Safety.Invariant.{Inv, copyAt, requestAt, viewAt, clocksOf}
+use Rattle.protocol.specs.Safety.View.{copyAt, requestAt, viewAt}
+use Rattle.protocol.specs.Safety.Invariant.{Inv, clocksOf}
 use Rattle.protocol.specs.Safety.Stores.{volume-fits, same-version}
 use Rattle.protocol.specs.Safety.Covering.{Empty, covered-empty, remains-empty}
 use Rattle.protocol.specs.Safety.Taking.{Others, Own, taken}
@@ -33,9 +34,9 @@ module _ (s : Setup) (range : Ranges s) (w : World) (inv : Inv s w) (shape : Wor
       store-hit always (byVolume d) (λ (v : ℕ). 0) (λ i j e. omega arith) l (s .volumes) u 0 h refl (omega arith)
 
   zero-other : (l : List ℕ) (k u : ℕ) → (k ≡ d → ⊥) → u < s .volumes → getD (zeroed l) (byVolume k u) 0 ≡ getD l (byVolume k u) 0
-  zero-other l k u m h =
+  zero-other l k u ne h =
       let a = volume-fits range h in
-      store-other always (byVolume d) (λ (v : ℕ). 0) l (s .volumes) (byVolume k u) 0 (λ i j c e. let b = volume-fits range j in m (omega arith))
+      store-other always (byVolume d) (λ (v : ℕ). 0) l (s .volumes) (byVolume k u) 0 (λ i j c e. let b = volume-fits range j in ne (omega arith))
 
   gone : (i : ℕ) → i < s .objects → copyAt s copies d i ≡ noCopy
   unfolding swept
@@ -49,9 +50,9 @@ module _ (s : Setup) (range : Ranges s) (w : World) (inv : Inv s w) (shape : Wor
 
   others : Others s (w .tables) d (zeroed (w .tables .views .epoch)) (zeroed (w .tables .views .expiry)) (w .copies) copies
   others = record {
-    known = λ k u m h. zero-other (w .tables .views .epoch) k u m h;
-    expiry = λ k u m h. zero-other (w .tables .views .expiry) k u m h;
-    copies = λ k i m h. swept-other s (w .copies) d (shape .copies) hd Erase k i m h;
+    known = λ k u ne h. zero-other (w .tables .views .epoch) k u ne h;
+    expiry = λ k u ne h. zero-other (w .tables .views .expiry) k u ne h;
+    copies = λ k i ne h. swept-other s (w .copies) d (shape .copies) hd Erase k i ne h;
   }
 
   own : Own s (w .tables) d (zeroed (w .tables .views .epoch)) (zeroed (w .tables .views .expiry)) copies

@@ -19,7 +19,8 @@ use Rattle.protocol.specs.Writes.{posted, released, deserted, completed}
 use Rattle.protocol.specs.World.{World}
 use Rattle.protocol.specs.Ranges.{Ranges}
 use Rattle.protocol.specs.Soundness.Shape.{Shape, ObjectsShape, HoldersShape}
-use Rattle.protocol.specs.Safety.Invariant.{left, View, Held, Claimed, ViewOk, PayloadOk, Recent, InvalidateOk, Acknowledges, Remains, clocksOf, excusesOf, CoveredIn, RemainsIn, Inv}
+use Rattle.protocol.specs.Safety.View.{left, View, Held, Claimed, ViewOk, Remains}
+use Rattle.protocol.specs.Safety.Invariant.{PayloadOk, Recent, InvalidateOk, Acknowledges, clocksOf, excusesOf, CoveredIn, RemainsIn, Inv}
 use Rattle.protocol.specs.Safety.Tools.{client-server, longer-alive, lesser-alive, over-dead, zero-dead-client}
 use Rattle.protocol.specs.Safety.Replaced.{withTables, Replaced, ReplacedFor, here-at, here-for, set-replaced, store-replaced}
 use Rattle.protocol.specs.Safety.Marks.{deserted-marks, deserted-keeps}
@@ -66,7 +67,7 @@ module _ (s : Setup) (o : ℕ) {epoch version version′ : List ℕ} {standing s
       here : Recent version standing j ver → j ≡ o → Recent version′ standing′ j ver
       here r q =
           let a = next versions j q in
-          inl (⊎-elim (λ b. omega arith) (λ b. let d = b .1 in omega arith) r)
+          inl (⊎-elim (λ b. omega arith) (λ b. omega (arith, b .1)) r)
 
       other : Recent version standing j ver → (j ≡ o → ⊥) → Recent version′ standing′ j ver
       other r q = rw (versions .other j q, standings .other j q) r
@@ -74,8 +75,8 @@ module _ (s : Setup) (o : ℕ) {epoch version version′ : List ℕ} {standing s
   -- an ACK that would be taken would have been before
   acknowledges-posted : {j e ver : ℕ} → Acknowledges s epoch version′ standing′ j e ver → Acknowledges s epoch version standing j e ver
   acknowledges-posted {j} a =
-      let m = still-other standings j (a .stands) in
-      record { stands = sym (standings .other j m) ∙ a .stands; current = a .current; next = rw (versions .other j m) at (a .next) }
+      let ne = still-other standings j (a .stands) in
+      record { stands = sym (standings .other j ne) ∙ a .stands; current = a .current; next = rw (versions .other j ne) at (a .next) }
 
 -- ---- the write of o completes, and who is waited for is not counted on
 module _ (s : Setup) (w : World) (o : ℕ) (inv : Inv s w) (ho : o < s .objects) (stands : standingAt (w .tables) o ≡ true) (may : Completes s (w .tables) o)
@@ -201,7 +202,7 @@ module _ (s : Setup) (w : World) (o : ℕ) (range : Ranges s) (objects : Objects
   keeps d (Dropped v n e) z hd c = record {
     exists = c .exists;
     header = c .header;
-    writes = λ a j h q b. let m = still-other standing j b in rw (lease .other d j h m) (c .writes a j h q (sym (standing .other j m) ∙ b));
+    writes = λ a j h q b. let ne = still-other standing j b in rw (lease .other d j h ne) (c .writes a j h q (sym (standing .other j ne) ∙ b));
     remains = λ a b. remains-posted s w o inv ho stands may mark version lease d v _ hd (λ q. c .writes a o ho q stands) (c .remains a b);
   }
 
@@ -230,13 +231,13 @@ module _ (s : Setup) (w : World) (o : ℕ) (range : Ranges s) (objects : Objects
     };
     offers = inv .offers;
     writes = record {
-      guards = λ j hj st. let m = still-other standing j st in rw (end .other j m) (inv .writes .guards j hj (sym (standing .other j m) ∙ st));
+      guards = λ j hj st. let ne = still-other standing j st in rw (end .other j ne) (inv .writes .guards j hj (sym (standing .other j ne) ∙ st));
       waits = λ d j hd hj st wt.
-          let m = still-other standing j st in
-          rw (end .other j m, lease .other d j hj m) (inv .writes .waits d j hd hj (sym (standing .other j m) ∙ st) (sym (waiting .other d j hj m) ∙ wt));
+          let ne = still-other standing j st in
+          rw (end .other j ne, lease .other d j hj ne) (inv .writes .waits d j hd hj (sym (standing .other j ne) ∙ st) (sym (waiting .other d j hj ne) ∙ wt));
       others = λ d j hd hj st wt.
-          let m = still-other standing j st in
-          rw (lease .other d j hj m) (inv .writes .others d j hd hj (sym (standing .other j m) ∙ st) (sym (waiting .other d j hj m) ∙ wt));
+          let ne = still-other standing j st in
+          rw (lease .other d j hj ne) (inv .writes .others d j hd hj (sym (standing .other j ne) ∙ st) (sym (waiting .other d j hj ne) ∙ wt));
     };
     views = λ d v hd hv. covered-posted s w o inv ho stands may mark version lease d v _ hd (inv .epochs d v hd hv) (inv .views d v hd hv);
     messages = each inv keeps;

@@ -14,7 +14,8 @@ use Rattle.protocol.specs.declared.records.Request.{Request}
 use Rattle.protocol.specs.declared.setup.Setup.{Setup}
 use Rattle.protocol.specs.Setup.{volumeOf}
 use Rattle.protocol.specs.Tables.{byObject}
-use Rattle.protocol.specs.Safety.Invariant.{Stands, copyAt, left, heldOf, untilOf, View, viewOf, viewGranted, Held, Claimed, Covered, ViewOk, GrantOk, Remains}
+use Rattle.protocol.specs.Safety.View.{Stands, copyAt, left, heldOf, untilOf, View, viewOf, viewGranted, Held, Claimed, Covered, ViewOk, Remains}
+use Rattle.protocol.specs.Safety.Invariant.{GrantOk}
 use Rattle.protocol.specs.Safety.Stores.{same-version, same-expiry}
 use Rattle.protocol.specs.Safety.Tools.{left-grows}
 
@@ -38,8 +39,8 @@ module _ {s : Setup} {clock v : ℕ} {view view′ : View} (less : Less s clock 
     older = λ a. rw (less .expiry) (c .older (rw (less .known) at a));
     holds = λ o h a.
         let q = less .copies o h in
-        let g = c .holds o (held-less o h) (claimed o a) in
-        (q .0 ∙ g .0, λ b. rw (q .1) (g .1 (sym (less .known) ∙ b)));
+        let r = c .holds o (held-less o h) (claimed o a) in
+        (q .0 ∙ r .0, λ b. rw (q .1) (r .1 (sym (less .known) ∙ b)));
   }
     where
       claimed : (o : ℕ) → Claimed clock epoch excuse view′ o → Claimed clock epoch excuse view o
@@ -48,7 +49,7 @@ module _ {s : Setup} {clock v : ℕ} {view view′ : View} (less : Less s clock 
   pub remains-less : {d : ℕ} {version lease : List ℕ} → Remains s clock d v version lease view → Remains s clock d v version lease view′
   remains-less c = record {
     volume = less .expiry ∙ c .volume;
-    objects = λ o h. let q = less .copies o h in let g = c .objects o (held-less o h) in (q .0 ∙ g .0, rw (q .1) (g .1));
+    objects = λ o h. let q = less .copies o h in let r = c .objects o (held-less o h) in (q .0 ∙ r .0, rw (q .1) (r .1));
   }
 
 -- client d's copies in the volume, some perhaps erased
@@ -58,10 +59,10 @@ pub record Fewer (s : Setup) (d v : ℕ) (copies copies′ : List Copy) : Type 0
 module _ {s : Setup} {clock d v : ℕ} {copies copies′ : List Copy} (fewer : Fewer s d v copies copies′) where
   pub view-less : {known expiry known′ expiry′ : ℕ} → known′ ≡ known → expiry′ ≡ expiry
       → Less s clock v (viewOf s copies d known expiry) (viewOf s copies′ d known′ expiry′)
-  view-less k e = record {
-    known = k;
-    expiry = e;
-    copies = λ o h. ⊎-elim (λ p. absurd (h .copy p)) (λ p. (same-version p, same-expiry p)) (fewer .each o (h .exists) (h .inside));
+  view-less p q = record {
+    known = p;
+    expiry = q;
+    copies = λ o h. ⊎-elim (λ a. absurd (h .copy a)) (λ a. (same-version a, same-expiry a)) (fewer .each o (h .exists) (h .inside));
   }
 
   pub granted-less : (o x e ver y : ℕ) → Less s clock v (viewGranted s copies d o x e ver y) (viewGranted s copies′ d o x e ver y)
@@ -85,8 +86,8 @@ covered-by {s} {clock} {v} {excuse} {excuse′} {view} c a more longer = record 
   current = λ e. let b = c .current e in omega arith;
   older = c .older;
   holds = λ o h l.
-      let g = c .holds o h (⊎-elim inl (λ b. inr (b .0, trusted o h (b .1))) l) in
-      (g .0, λ e. let b = g .1 e in let k = longer o h in omega arith);
+      let r = c .holds o h (⊎-elim inl (λ b. inr (b .0, trusted o h (b .1))) l) in
+      (r .0, λ e. let b = r .1 e in let p = longer o h in omega arith);
 }
   where
     trusted : (o : ℕ) → Held s clock v view o → excuse′ o ≡ false → excuse o ≡ false
@@ -96,7 +97,7 @@ pub remains-by : {s : Setup} {clock d v : ℕ} {version lease lease′ : List �
     → ((o : ℕ) → Held s clock v view o → getD lease (byObject d o) 0 ≤ getD lease′ (byObject d o) 0) → Remains s clock d v version lease′ view
 remains-by c longer = record {
   volume = c .volume;
-  objects = λ o h. let g = c .objects o h in let b = left-grows (longer o h) in let a = g .1 in (g .0, omega arith);
+  objects = λ o h. let r = c .objects o h in let b = left-grows (longer o h) in let a = r .1 in (r .0, omega arith);
 }
 
 -- a view that needs no more than what is left of the leases
@@ -105,7 +106,7 @@ pub covered-left : {s : Setup} {clock d v epoch guard session : ℕ} {excuse : �
 covered-left c leaves = record {
   current = λ a. omega (arith, c .volume);
   older = λ a. omega (arith, c .volume);
-  holds = λ o h a. let g = c .objects o h in (g .0, λ e. rw (leaves o h) (g .1));
+  holds = λ o h a. let r = c .objects o h in (r .0, λ e. rw (leaves o h) (r .1));
 }
 
 -- a GRANT's clause where nothing changes but what covers the view

@@ -20,10 +20,9 @@ use Rattle.protocol.specs.Server.{ackTaken, ackStaged, dropTaken, dropSt
 use Rattle.protocol.specs.Client.{stands, storable, grantTaken, sweptAll}
 use Rattle.protocol.specs.Decide.{Received, taken, grantReceived, invalidateReceived, offerReceived, received}
 use Rattle.protocol.specs.World.{World}
-use Rattle.protocol.specs.Ranges.{Ranges}
 use Rattle.protocol.specs.Soundness.Shape.{WorldShape, taken-shape}
-use Rattle.protocol.specs.Soundness.ShapeKept.{ack-shape, drop-shape}
-use Rattle.protocol.specs.Safety.Invariant.{Inv, Sent, from, copyAt, requestAt}
+use Rattle.protocol.specs.Safety.View.{copyAt, requestAt}
+use Rattle.protocol.specs.Safety.Invariant.{Inv, Sent, from}
 use Rattle.protocol.specs.Safety.Tools.{stands-true, sent-removed}
 use Rattle.protocol.specs.Safety.Replaced.{withTables}
 use Rattle.protocol.specs.Safety.Settling.{Admits, ready-admits, ready-in-admits, none-admits, settled-keeps}
@@ -35,6 +34,8 @@ use Rattle.protocol.specs.Safety.Offering.{offer-taken}
 use Rattle.protocol.specs.Safety.Renewing.{renewed-keeps}
 use Rattle.protocol.specs.Safety.Acknowledging.{ack-taken, acked-keeps}
 use Rattle.protocol.specs.Safety.Dropping.{drop-taken, dropped-keeps}
+use Rattle.protocol.specs.Ranges.{Ranges}
+use Rattle.protocol.specs.Soundness.ShapeKept.{ack-shape, drop-shape}
 
 -- the world after client d's records and the tables became what a receipt says
 abbrev pub receiving : Setup → World → ℕ → Kind → Received → World

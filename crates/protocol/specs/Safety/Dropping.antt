@@ -20,7 +20,8 @@ use Rattle.protocol.specs.Server.{dropTaken, ofVolume, disowned, dropped
 use Rattle.protocol.specs.World.{World}
 use Rattle.protocol.specs.Ranges.{Ranges}
 use Rattle.protocol.specs.Soundness.Shape.{Shape}
-use Rattle.protocol.specs.Safety.Invariant.{Inv, left, excusesOf, View, viewIn, AnswersIn, KindOk, CoveredIn}
+use Rattle.protocol.specs.Safety.View.{left, View}
+use Rattle.protocol.specs.Safety.Invariant.{Inv, excusesOf, viewIn, AnswersIn, KindOk, CoveredIn}
 use Rattle.protocol.specs.Safety.Stores.{After, at-place, off-place, volume-set, object-fits}
 use Rattle.protocol.specs.Safety.Tools.{zero-dead, left-below, excused-grows}
 use Rattle.protocol.specs.Safety.Replaced.{withTables}
@@ -61,10 +62,10 @@ module _ (s : Setup) (range : Ranges s) (w : World) (inv : Inv s w) (shape : Sha
             store-hit (ofVolume s v) (byObject d) (λ (o : ℕ). x) (λ i j z. omega arith) l (s .objects) i y h (eq-eqb _ _ q) (omega arith)
 
         off : (k i : ℕ) → i < s .objects → (k ≡ d → volumeOf s i ≡ v → ⊥) → getD cleared (byObject k i) y ≡ getD l (byObject k i) y
-        off k i h m =
+        off k i h ne =
             let a = object-fits range h in
             store-other (ofVolume s v) (byObject d) (λ (o : ℕ). x) l (s .objects) (byObject k i) y
-            (λ j g c z. let b = object-fits range g in let p : k ≡ d = omega arith in let q : i ≡ j = omega arith in m p (ap (volumeOf s) q ∙ eqb-true _ _ c))
+            (λ j g c z. let b = object-fits range g in let p : k ≡ d = omega arith in let q : i ≡ j = omega arith in ne p (ap (volumeOf s) q ∙ eqb-true _ _ c))
 
   -- after a DROPPED the server's lease is what is left of it
   at-lease : (k i : ℕ) → i < s .objects → After d v k (volumeOf s i) (leaseAt t k i) (left (leaseAt (w .tables) k i)) (leaseAt (w .tables) k i)
@@ -89,17 +90,17 @@ module _ (s : Setup) (range : Ranges s) (w : World) (inv : Inv s w) (shape : Sha
 
   -- elsewhere no lease changes, and nobody is counted on more
   same-lease : (k i : ℕ) → i < s .objects → (k ≡ d → volumeOf s i ≡ v → ⊥) → leaseAt t k i ≡ leaseAt (w .tables) k i
-  same-lease k i h m = off-place (at-lease k i h) m
+  same-lease k i h ne = off-place (at-lease k i h) ne
 
   excused-still : (k u i : ℕ) → u < s .volumes → (k ≡ d → u ≡ v → ⊥) → excusesOf (w .tables) k u i ≡ true → excusesOf t k u i ≡ true
-  excused-still k u i h m = excused-grows _ _ k u i (λ a. off-place (at-un k u h) m ∙ a)
+  excused-still k u i h ne = excused-grows _ _ k u i (λ a. off-place (at-un k u h) ne ∙ a)
 
   -- another client, or another volume, is covered as it was
   elsewhere : (k u : ℕ) (view : View) → u < s .volumes → (k ≡ d → u ≡ v → ⊥) → CoveredIn s (w .tables) k u view → CoveredIn s t k u view
   unfolding dropped
-  elsewhere k u view h m c =
-      covered-by c (omega (arith, off-place (at-session k u h) m)) (λ i hi q. excused-still k u i h m)
-      (λ i a. omega (arith, same-lease k i (a .exists) (λ p q. m p (sym (a .inside) ∙ q))))
+  elsewhere k u view h ne c =
+      covered-by c (omega (arith, off-place (at-session k u h) ne)) (λ i hi q. excused-still k u i h ne)
+      (λ i a. omega (arith, same-lease k i (a .exists) (λ p q. ne p (sym (a .inside) ∙ q))))
 
   -- the client that dropped its leases: of this epoch it needs what is left, and of an older one the guard covers it
   here : CoveredIn s t d v (viewIn s w d v)
@@ -142,8 +143,8 @@ module _ (s : Setup) (range : Ranges s) (w : World) (inv : Inv s w) (shape : Sha
   keeps k (Dropped u n′ f) z hk c = record {
     exists = c .exists;
     header = c .header;
-    writes = λ a i h q b. let g = answered k u n′ f (c .exists) a in rw (same-lease k i h (λ p r. g .1 p (sym q ∙ r))) (c .writes (g .0) i h q b);
-    remains = λ a b. let g = answered k u n′ f (c .exists) a in remains-by (c .remains (g .0) b) (λ i h. omega (arith, same-lease k i (h .exists) (λ p r. g .1 p (sym (h .inside) ∙ r))));
+    writes = λ a i h q b. let l = answered k u n′ f (c .exists) a in rw (same-lease k i h (λ p r. l .1 p (sym q ∙ r))) (c .writes (l .0) i h q b);
+    remains = λ a b. let l = answered k u n′ f (c .exists) a in remains-by (c .remains (l .0) b) (λ i h. omega (arith, same-lease k i (h .exists) (λ p r. l .1 p (sym (h .inside) ∙ r))));
   }
 
   pub dropped-keeps : Inv s (withTables w t)
@@ -154,12 +155,12 @@ module _ (s : Setup) (range : Ranges s) (w : World) (inv : Inv s w) (shape : Sha
       volumes = inv .bounds .volumes;
       sessions = λ k u hk h. ⊎-elim (λ a. rw (a .2) (omega arith)) (λ a. rw (a .1) (inv .bounds .sessions k u hk h)) (at-session k u h);
       objects = inv .bounds .objects;
-      leases = λ k i hk h. let b = inv .bounds .leases k i hk h in let c = left-below (leaseAt (w .tables) k i) in ⊎-elim (λ a. omega (arith, a .2)) (λ a. omega (arith, a .1)) (at-lease k i h);
+      leases = λ k i hk h. let b = inv .bounds .leases k i hk h in let l = left-below (leaseAt (w .tables) k i) in ⊎-elim (λ a. omega (arith, a .2)) (λ a. omega (arith, a .1)) (at-lease k i h);
     };
     epochs = inv .epochs;
     numbers = inv .numbers;
     versions = inv .versions;
-    offers = λ k u hk h m. ⊎-elim (λ a. absurd (m (a .2))) (λ a. off-place (at-un k u h) (a .0) ∙ inv .offers k u hk h (λ z. m (a .1 ∙ z))) (at-offer k u h);
+    offers = λ k u hk h ne. ⊎-elim (λ a. absurd (ne (a .2))) (λ a. off-place (at-un k u h) (a .0) ∙ inv .offers k u hk h (λ z. ne (a .1 ∙ z))) (at-offer k u h);
     writes = record {
       guards = inv .writes .guards;
       waits = λ k i hk h a b. ⊎-elim (λ q. not-both b (q .2))

@@ -11,10 +11,11 @@ use Rattle.protocol.specs.declared.setup.Setup.{Setup}
 use Rattle.protocol.specs.Messages.{emptyQueue}
 use Rattle.protocol.specs.Tables.{noCopy, noRequest, freshRequest, freshTables}
 use Rattle.protocol.specs.World.{freshWorld}
-use Rattle.protocol.specs.Ranges.{Ranges}
-use Rattle.protocol.specs.Safety.Invariant.{Inv, Sent, copyAt, requestAt}
+use Rattle.protocol.specs.Safety.View.{copyAt, requestAt}
+use Rattle.protocol.specs.Safety.Invariant.{Inv, Sent}
 use Rattle.protocol.specs.Safety.Stores.{same-version, row-below, nothing-stands, object-fits, volume-fits, zero-holder, zero-session}
 use Rattle.protocol.specs.Safety.Covering.{covered-empty}
+use Rattle.protocol.specs.Ranges.{Ranges}
 
 module _ (s : Setup) (range : Ranges s) where
   all-same : (n i x : ℕ) → i < n → _≡_ {A = ℕ} (getD (replicate n x) i 0) x
@@ -50,9 +51,9 @@ module _ (s : Setup) (range : Ranges s) where
     versions = record {
       positive = λ o h. rw (all-same 32 o 1 (object-fits range h)) (omega arith);
       reached = λ d o hd ho. rw (no-version d o hd ho) (omega arith);
-      values = λ d o hd ho e. let z = sym (no-version d o hd ho) ∙ e ∙ all-same 32 o 1 (object-fits range ho) in absurd (omega arith);
+      values = λ d o hd ho e. let r = sym (no-version d o hd ho) ∙ e ∙ all-same 32 o 1 (object-fits range ho) in absurd (omega arith);
     };
-    offers = λ d v hd hv m. absurd (m (zero-session range d v hd hv));
+    offers = λ d v hd hv ne. absurd (ne (zero-session range d v hd hv));
     writes = record { guards = λ o h a. nothing-stands range o h a; waits = λ d o hd ho a b. nothing-stands range o ho a; others = λ d o hd ho a b. nothing-stands range o ho a };
     views = λ d v hd hv. covered-empty (record { volume = zero-session range d v hd hv; objects = λ o a. a .copy (no-version d o hd (a .exists)) });
     messages = λ m z. none-sent m z;

@@ -16,7 +16,8 @@ use Rattle.protocol.specs.Client.{ended, viewed, filled, payloadOr}
 use Rattle.protocol.specs.World.{World}
 use Rattle.protocol.specs.Ranges.{Ranges}
 use Rattle.protocol.specs.Soundness.Shape.{WorldShape}
-use Rattle.protocol.specs.Safety.Invariant.{Inv, Sent, Stands, from, copyAt, requestAt, heldOf, untilOf, viewOf, viewGranted, NamesHeld, PayloadOk, KindOk, clocksOf, AcknowledgesIn}
+use Rattle.protocol.specs.Safety.View.{Stands, copyAt, requestAt, heldOf, untilOf, viewOf, viewGranted}
+use Rattle.protocol.specs.Safety.Invariant.{Inv, Sent, from, NamesHeld, PayloadOk, KindOk, clocksOf, AcknowledgesIn}
 use Rattle.protocol.specs.Safety.Stores.{After, off-place, copy-set, same-version, same-expiry}
 use Rattle.protocol.specs.Safety.Covering.{Less, covered-less}
 use Rattle.protocol.specs.Safety.Taking.{Inside, taken-inside}
@@ -57,7 +58,7 @@ module _ (s : Setup) (range : Ranges s) (w : World) (inv : Inv s w) (shape : Wor
         (at-copy d i (h .exists));
   }
 
-  inside : Inside s range w inv shape d hd (volumeOf s o) e x (range .within o ho) copies (λ k i h m. off-place (at-copy k i h) (λ a b. m a (ap (volumeOf s) b)))
+  inside : Inside s range w inv shape d hd (volumeOf s o) e x (range .within o ho) copies (λ k i h ne. off-place (at-copy k i h) (λ a b. ne a (ap (volumeOf s) b)))
   inside = record {
     epoch = ok .header .reached;
     reached = λ i h q. ⊎-elim (λ a. rw (a .2, a .1) (ok .reached)) (λ a. rw (a .1) (inv .versions .reached d i hd h)) (at-copy d i h);
@@ -74,4 +75,4 @@ module _ (s : Setup) (range : Ranges s) (w : World) (inv : Inv s w) (shape : Wor
     copies = copies;
     requests = set (w .requests) d (ended (requestAt (w .requests) d));
   })
-  grant-taken = taken-inside s range w inv shape d hd (volumeOf s o) e x (range .within o ho) copies (λ k i h m. off-place (at-copy k i h) (λ a b. m a (ap (volumeOf s) b))) inside
+  grant-taken = taken-inside s range w inv shape d hd (volumeOf s o) e x (range .within o ho) copies (λ k i h ne. off-place (at-copy k i h) (λ a b. ne a (ap (volumeOf s) b))) inside

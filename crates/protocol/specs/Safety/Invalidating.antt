@@ -17,7 +17,8 @@ use Rattle.protocol.specs.Server.{sent}
 use Rattle.protocol.specs.Client.{forgotten}
 use Rattle.protocol.specs.World.{World}
 use Rattle.protocol.specs.Soundness.Shape.{WorldShape}
-use Rattle.protocol.specs.Safety.Invariant.{Inv, Stands, copyAt, requestAt, KindOk, Bringing}
+use Rattle.protocol.specs.Safety.View.{Stands, copyAt, requestAt}
+use Rattle.protocol.specs.Safety.Invariant.{Inv, KindOk, Bringing}
 use Rattle.protocol.specs.Safety.Stores.{After, at-place, copy-set, same-version}
 use Rattle.protocol.specs.Safety.Covering.{Fewer, view-less, granted-less, covered-less, remains-less}
 use Rattle.protocol.specs.Safety.Sending.{Keeps, each, bringing-case, not-bringing, send}

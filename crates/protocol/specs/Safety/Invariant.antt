@@ -1,15 +1,15 @@
 -- What holds after every step of every run: of the tables, of each message under way, and of each two. Each clause is stated over what it reads, so what
 -- a step leaves alone needs no proof.
--- Letters in this folder: s a setup, w a world, t tables, q a message list, m a message, g another or its kind; d and k clients, v and u volumes, o, i and j objects. Of a
--- message n is the number, e the epoch (n′ and f another's), x the volume expiry, ver the version, y the object expiry, p the payload; z says that it is sent
--- and c is its clause.
-use Prim.Native.Nat.{ℕ, _+_, _*_, _<_, _≤_, min}
+-- Letters in this folder: s is a setup, w a world, t tables, q a message list, m a message, g another or its kind; d and k are clients, v and u volumes, o, i
+-- and j objects. Of a message n is the number, e the epoch (n′ and f another's), x the volume expiry, ver the version, y the object expiry, p the payload; z
+-- says that it is sent, and c is its clause. In proofs a, b, e, h, l, p, q and r are facts, ne is one that says that two are not the same, and hd, hv and ho
+-- are that an item exists.
+use Prim.Native.Nat.{ℕ, _+_, _<_, _≤_, min}
 use mathlib.Core.Bool.{Bool, true, false}
 use mathlib.Core.List.{List}
 use mathlib.Core.Logic.{_⊎_}
 use mathlib.Core.Path.{_≡_}
 use lib.ListN.{getD}
-use Rattle.laws.specs.Updated.{updated}
 use Rattle.protocol.specs.declared.message.Message.{Message}
 use Rattle.protocol.specs.declared.message.Queue.{Queue}
 use Rattle.protocol.specs.declared.message.Payload.{Payload}
@@ -22,78 +22,10 @@ use Rattle.protocol.specs.declared.setup.Setup.{Setup}
 use Rattle.protocol.specs.declared.tables.Tables.{Tables}
 use Rattle.protocol.specs.Setup.{volumeOf}
 use Rattle.protocol.specs.Messages.{messageAt}
-use Rattle.protocol.specs.Tables.{byVolume, byObject, noCopy, noRequest}
-use Rattle.protocol.specs.Leases.{serverAlive, clientAlive, clientClock}
+use Rattle.protocol.specs.Tables.{byVolume, byObject}
+use Rattle.protocol.specs.Leases.{serverAlive, clientClock}
 use Rattle.protocol.specs.World.{World}
-
--- ---- the names that every clause uses
-
-abbrev pub copyAt : Setup → List Copy → ℕ → ℕ → Copy
-copyAt s copies d o = getD copies (d * s .objects + o) noCopy
-
-abbrev pub requestAt : List Request → ℕ → Request
-requestAt requests d = getD requests d noRequest
-
--- request n of client d is the standing one
-pub record Stands (requests : List Request) (d n : ℕ) : Type 0 where
-  pub there : requestAt requests d .standing ≡ true
-  pub same : requestAt requests d .number ≡ n
-
--- the server does not count on client d's copy of object o, of volume v, being current (law E1 in Tools)
-unfoldable pub excused : List Bool → ℕ → ℕ → ℕ → Bool
-excused un d v o = getD un (byVolume d v) false
-
--- what the server keeps of a client's lease on an object when it takes the client's DROPPED (its laws are in Tools and, of the taking, in Dropping)
-unfoldable pub left : ℕ → ℕ
-left lease = 0
-
--- What a client may know of a volume: the epoch and the expiry, and the version and expiry of its copy of each object
-pub record View : Type 0 where
-  pub known : ℕ
-  pub expiry : ℕ
-  pub held : ℕ → ℕ
-  pub until : ℕ → ℕ
-
-abbrev pub heldOf : Setup → List Copy → ℕ → ℕ → ℕ
-heldOf s copies d o = copyAt s copies d o .version
-
-abbrev pub untilOf : Setup → List Copy → ℕ → ℕ → ℕ
-untilOf s copies d o = copyAt s copies d o .expiry
-
-abbrev pub viewOf : Setup → List Copy → ℕ → ℕ → ℕ → View
-viewOf s copies d known expiry = record { known = known; expiry = expiry; held = heldOf s copies d; until = untilOf s copies d }
-
--- client d's of volume v
-abbrev pub viewAt : Setup → List ℕ → List ℕ → List Copy → ℕ → ℕ → View
-viewAt s known expiry copies d v = viewOf s copies d (getD known (byVolume d v) 0) (getD expiry (byVolume d v) 0)
-
--- .. once it has taken a GRANT
-abbrev pub viewGranted : Setup → List Copy → ℕ → ℕ → ℕ → ℕ → ℕ → ℕ → View
-viewGranted s copies d o x e ver y = record { known = e; expiry = x; held = updated (heldOf s copies d) o ver; until = updated (untilOf s copies d) o y }
-
--- a copy of object o of volume v under a lease that is alive by the client's clock
-pub record Held (s : Setup) (clock v : ℕ) (view : View) (o : ℕ) : Type 0 where
-  pub exists : o < s .objects
-  pub inside : volumeOf s o ≡ v
-  pub copy : view .held o ≡ 0 → ⊥
-  pub alive : clientAlive clock (view .until o) ≡ true
-
--- it would be shown, or the server counts on it
-abbrev pub Claimed : ℕ → ℕ → (ℕ → Bool) → View → ℕ → Type 0
-Claimed clock epoch excuse view o = (clientAlive clock (view .expiry) ≡ true) ⊎ ((view .known ≡ epoch) × (excuse o ≡ false))
-
--- Client d's view of volume v, by its clock. Where the epoch is the server's, the server knows of the volume lease; where it is older, the guard does. A
--- copy that is held and claimed is current, and where the epoch is the server's the server knows of its lease.
-pub record Covered (s : Setup) (clock d v epoch guard session : ℕ) (excuse : ℕ → Bool) (version lease : List ℕ) (view : View) : Type 0 where
-  pub current : view .known ≡ epoch → view .expiry ≤ session
-  pub older : view .known < epoch → view .expiry ≤ guard
-  pub holds : (o : ℕ) → Held s clock v view o → Claimed clock epoch excuse view o
-      → (view .held o ≡ getD version o 0) × (view .known ≡ epoch → view .until o ≤ getD lease (byObject d o) 0)
-
--- the same over the tables; `clocks` are the clients', `excuse` is of a client, a volume and an object
-abbrev pub ViewOk : Setup → (ℕ → ℕ) → List ℕ → List ℕ → List ℕ → (ℕ → ℕ → ℕ → Bool) → List ℕ → List ℕ → ℕ → ℕ → View → Type 0
-ViewOk s clocks epoch guard session excuse version lease d v view =
-    Covered s (clocks d) d v (getD epoch v 0) (getD guard v 0) (getD session (byVolume d v) 0) (excuse d v) version lease view
+use Rattle.protocol.specs.Safety.View.{Remains, Stands, View, ViewOk, copyAt, excused, left, requestAt, viewAt, viewGranted}
 
 -- ---- the tables
 
@@ -136,11 +68,6 @@ pub record Writes (s : Setup) (clock : ℕ) (guard session : List ℕ) (excuse :
       → min (getD lease (byObject d o) 0) (getD session (byVolume d (volumeOf s o)) 0) ≤ getD end o 0
   pub others : (d o : ℕ) → d < s .clients → o < s .objects → getD standing o false ≡ true → getD waiting (byObject d o) false ≡ false
       → Unwaited clock (getD lease (byObject d o) 0) (getD session (byVolume d (volumeOf s o)) 0) (excuse d (volumeOf s o) o)
-
--- what each client knows is covered
-abbrev pub Views : Setup → (ℕ → ℕ) → List ℕ → List ℕ → List ℕ → (ℕ → ℕ → ℕ → Bool) → List ℕ → List ℕ → List ℕ → List ℕ → List Copy → Type 0
-Views s clocks epoch guard session excuse version lease known expiry copies =
-    (d v : ℕ) → d < s .clients → v < s .volumes → ViewOk s clocks epoch guard session excuse version lease d v (viewAt s known expiry copies d v)
 
 -- ---- the messages, kind by kind
 
@@ -210,11 +137,6 @@ pub record Answers (epoch offer : List ℕ) (d v n e : ℕ) : Type 0 where
   pub current : e ≡ getD epoch v 0
   pub nonzero : n ≡ 0 → ⊥
   pub same : getD offer (byVolume d v) 0 ≡ n
-
--- a view that needs no more than what the server keeps: no volume lease, and copies that are current
-pub record Remains (s : Setup) (clock d v : ℕ) (version lease : List ℕ) (view : View) : Type 0 where
-  pub volume : view .expiry ≡ 0
-  pub objects : (o : ℕ) → Held s clock v view o → (view .held o ≡ getD version o 0) × (view .until o ≤ left (getD lease (byObject d o) 0))
 
 pub record DroppedOk (s : Setup) (clocks : ℕ → ℕ) (epoch seen offer version : List ℕ) (standing : List Bool) (lease known expiry : List ℕ) (copies : List Copy) (requests : List Request) (d v n e : ℕ) : Type 0 where
   pub exists : v < s .volumes
@@ -314,6 +236,7 @@ pub record Inv (s : Setup) (w : World) : Type 0 where
   pub versions : Versions s (w .tables .objects .value) (w .tables .objects .version) (w .copies)
   pub offers : Offers s (w .tables .sessions .unreachable) (w .tables .sessions .offer)
   pub writes : Writes s (w .tables .clock) (w .tables .volumes .guard) (w .tables .sessions .expiry) (excusesOf (w .tables)) (w .tables .objects .standing) (w .tables .objects .end) (w .tables .holders .lease) (w .tables .holders .waiting)
-  pub views : Views s (clocksOf (w .tables)) (w .tables .volumes .epoch) (w .tables .volumes .guard) (w .tables .sessions .expiry) (excusesOf (w .tables)) (w .tables .objects .version) (w .tables .holders .lease) (w .tables .views .epoch) (w .tables .views .expiry) (w .copies)
+  -- what each client knows is covered
+  pub views : (d v : ℕ) → d < s .clients → v < s .volumes → CoveredIn s (w .tables) d v (viewIn s w d v)
   pub messages : (m : Message) → Sent (w .tables .queue) m → MessageOk s w m
   pub pairs : (m g : Message) → Sent (w .tables .queue) m → Sent (w .tables .queue) g → PairIn s w m g

@@ -24,7 +24,8 @@ use Rattle.protocol.specs.Ranges.{Ranges, ranges}
 use Rattle.protocol.specs.Soundness.StepCases.{Accepted, accepted, by-kind, copyOf, requestOf, recordsOf, performedOf, decision-accepted, refused-keeps, setup-in-range, client-exists, object-exists, place-exists, queue-fits, read-performed, ask-performed, deliver-performed, lose-performed, double-performed, server-performed, client-performed}
 use Rattle.protocol.specs.Soundness.Question.{SoundWorld}
 use Rattle.protocol.specs.Bookkeeping.Agreed.{ReadsCurrent}
-use Rattle.protocol.specs.Safety.Invariant.{Inv, copyAt, clocksOf}
+use Rattle.protocol.specs.Safety.View.{copyAt}
+use Rattle.protocol.specs.Safety.Invariant.{Inv, clocksOf}
 use Rattle.protocol.specs.Safety.Tools.{sent-at}
 use Rattle.protocol.specs.Safety.Sending.{lost, doubling}
 use Rattle.protocol.specs.Safety.Sweeping.{swept-keep}

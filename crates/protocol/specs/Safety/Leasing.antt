@@ -20,7 +20,8 @@ use Rattle.protocol.specs.Server.{volumeRenewed, objectRenewed, payloadF
 use Rattle.protocol.specs.World.{World}
 use Rattle.protocol.specs.Ranges.{Ranges}
 use Rattle.protocol.specs.Soundness.Shape.{Shape}
-use Rattle.protocol.specs.Safety.Invariant.{Inv, Stands, copyAt, heldOf, untilOf, viewGranted, Held, PayloadOk, NamesHeld, excusesOf, clocksOf, KindOk, AckingIn, CoveredIn}
+use Rattle.protocol.specs.Safety.View.{View, Stands, copyAt, heldOf, untilOf, viewGranted, Held}
+use Rattle.protocol.specs.Safety.Invariant.{Inv, PayloadOk, NamesHeld, excusesOf, clocksOf, KindOk, AckingIn, CoveredIn}
 use Rattle.protocol.specs.Safety.Stores.{After, at-place, off-place, volume-set, object-set, object-fits, volume-fits}
 use Rattle.protocol.specs.Safety.Replaced.{withTables, Replaced, here-at, set-replaced}
 use Rattle.protocol.specs.Safety.Covering.{covered-by, remains-by, grant-covered}
@@ -74,12 +75,12 @@ module _ (s : Setup) (range : Ranges s) (w : World) (inv : Inv s w) (shape : Sha
 
   session-grows : (k u : ℕ) → k < s .clients → u < s .volumes → sessionExpiryAt (w .tables) k u ≤ sessionExpiryAt t k u
   session-grows k u hk h =
-      let b = inv .bounds .volumes u h in let c = inv .bounds .sessions k u hk h in
+      let b = inv .bounds .volumes u h in let l = inv .bounds .sessions k u hk h in
       ⊎-elim (λ a. omega (arith, a .2)) (λ a. omega (arith, a .1)) (at-session k u h)
 
   lease-grows : (k i : ℕ) → k < s .clients → i < s .objects → leaseAt (w .tables) k i ≤ leaseAt t k i
   lease-grows k i hk h =
-      let b = inv .bounds .objects i h in let c = inv .bounds .leases k i hk h in
+      let b = inv .bounds .objects i h in let l = inv .bounds .leases k i hk h in
       ⊎-elim (λ a. omega (arith, a .2)) (λ a. omega (arith, a .1)) (at-lease k i h)
 
   -- no lease on what is being written changes
@@ -109,12 +110,12 @@ module _ (s : Setup) (range : Ranges s) (w : World) (inv : Inv s w) (shape : Sha
       volumes = λ u h. volume-grows u h .1;
       sessions = λ k u hk h.
           let b = inv .bounds .sessions k u hk h in
-          let c = volume-grows u h in
+          let l = volume-grows u h in
           ⊎-elim (λ a. omega (arith, a .2, here-at at-volume u (a .1))) (λ a. omega (arith, a .1)) (at-session k u h);
       objects = λ i h. object-grows i h .1;
       leases = λ k i hk h.
           let b = inv .bounds .leases k i hk h in
-          let c = object-grows i h in
+          let l = object-grows i h in
           ⊎-elim (λ a. omega (arith, a .2, here-at at-object i (a .1))) (λ a. omega (arith, a .1)) (at-lease k i h);
     };
     epochs = inv .epochs;
@@ -125,10 +126,10 @@ module _ (s : Setup) (range : Ranges s) (w : World) (inv : Inv s w) (shape : Sha
       guards = inv .writes .guards;
       waits = λ k i hk h a b.
           let q = inv .writes .waits k i hk h a b in
-          ⊎-elim (λ g. not-both (rw (g .0) at b) (unwaited i h (g .1) a)) (λ g. omega (arith, g .1, written-same k i h a)) (at-session k (volumeOf s i) (range .within i h));
+          ⊎-elim (λ r. not-both (rw (r .0) at b) (unwaited i h (r .1) a)) (λ r. omega (arith, r .1, written-same k i h a)) (at-session k (volumeOf s i) (range .within i h));
       others = λ k i hk h a b.
-          ⊎-elim (λ g. inl (rw (written-same k i h a) (dead k i hk h (g .0) (g .1) a b)))
-          (λ g. rw (written-same k i h a, g .1) (inv .writes .others k i hk h a b))
+          ⊎-elim (λ r. inl (rw (written-same k i h a) (dead k i hk h (r .0) (r .1) a b)))
+          (λ r. rw (written-same k i h a, r .1) (inv .writes .others k i hk h a b))
           (at-session k (volumeOf s i) (range .within i h));
     };
     views = λ k u hk h. covered-by (inv .views k u hk h) (session-grows k u hk h) (λ j h q b. b) (λ j a. lease-grows k j hk (a .exists));
@@ -138,7 +139,7 @@ module _ (s : Setup) (range : Ranges s) (w : World) (inv : Inv s w) (shape : Sha
     where
       dead : (k i : ℕ) → k < s .clients → i < s .objects → k ≡ d → volumeOf s i ≡ v → standingAt (w .tables) i ≡ true → waitingAt (w .tables) k i ≡ false
           → serverAlive (w .tables .clock) (leaseAt (w .tables) k i) ≡ false
-      dead k i hk h p q a b = ⊎-elim (λ g. g) (λ g. not-both (rw (p, q) at (g .1)) (trusted i h q)) (inv .writes .others k i hk h a b)
+      dead k i hk h p q a b = ⊎-elim (λ r. r) (λ r. not-both (rw (p, q) at (r .1)) (trusted i h q)) (inv .writes .others k i hk h a b)
 
   -- ---- the GRANT for a RENEW
   module _ (n e ver : ℕ) (renew : KindOk s w d (Renew o n e ver)) (same : e ≡ epochAt (w .tables) v) (seen : n ≤ seenAt (w .tables) d) where
@@ -156,8 +157,11 @@ module _ (s : Setup) (range : Ranges s) (w : World) (inv : Inv s w) (shape : Sha
         go (yes q) = q
         go (no q) = not-both (inv .offers d v hd hv q) reachable
 
-    -- the client's epoch is the server's, so the server counted on its other copies
-    covers : Stands (w .requests) d n → CoveredIn s t d v (viewGranted s (w .copies) d o long (epochAt (w .tables) v) (versionAt (w .tables) o) longer)
+    -- what the client will know of the volume; its epoch is the server's, so the server counted on its other copies
+    abbrev view : View
+    view = viewGranted s (w .copies) d o long (epochAt (w .tables) v) (versionAt (w .tables) o) longer
+
+    covers : Stands (w .requests) d n → CoveredIn s t d v view
     unfolding objectRenewed volumeRenewed
     covers a = record {
       current = λ q. rw (at-place (at-session d v hv) refl refl) (omega arith);
@@ -166,23 +170,23 @@ module _ (s : Setup) (range : Ranges s) (w : World) (inv : Inv s w) (shape : Sha
     }
       where
         Owed : ℕ → Type 0
-        Owed i = (viewGranted s (w .copies) d o long (epochAt (w .tables) v) (versionAt (w .tables) o) longer .held i ≡ versionAt (w .tables) i)
-            × (epochAt (w .tables) v ≡ epochAt (w .tables) v → viewGranted s (w .copies) d o long (epochAt (w .tables) v) (versionAt (w .tables) o) longer .until i ≤ leaseAt t d i)
+        Owed i = (view .held i ≡ versionAt (w .tables) i)
+            × (epochAt (w .tables) v ≡ epochAt (w .tables) v → view .until i ≤ leaseAt t d i)
 
         this : (i : ℕ) → i ≡ o → Owed i
-        this i q = (rw q (updated-same (heldOf s (w .copies) d) o _), λ z. rw (q, updated-same (untilOf s (w .copies) d) o longer, at-place (at-lease d o ho) refl refl) (omega arith))
+        this i q = (rw q (updated-same (heldOf s (w .copies) d) o _), λ r. rw (q, updated-same (untilOf s (w .copies) d) o longer, at-place (at-lease d o ho) refl refl) (omega arith))
 
-        rest : (i : ℕ) → (i ≡ o → ⊥) → Held s (clocksOf (w .tables) d) v (viewGranted s (w .copies) d o long (epochAt (w .tables) v) (versionAt (w .tables) o) longer) i → Owed i
+        rest : (i : ℕ) → (i ≡ o → ⊥) → Held s (clocksOf (w .tables) d) v view i → Owed i
         rest i q h =
             let cur = sym (renew .knows a) ∙ same in
-            let c = inv .views d v hd hv .holds i (record {
+            let l = inv .views d v hd hv .holds i (record {
               exists = h .exists;
               inside = h .inside;
-              copy = λ z. h .copy (updated-other (heldOf s (w .copies) d) o i _ q ∙ z);
+              copy = λ r. h .copy (updated-other (heldOf s (w .copies) d) o i _ q ∙ r);
               alive = rw (updated-other (untilOf s (w .copies) d) o i longer q) at (h .alive);
             }) (inr (cur, trusted i (h .exists) (h .inside))) in (
-              updated-other (heldOf s (w .copies) d) o i _ q ∙ c .0,
-              λ z. let b = c .1 cur in rw (updated-other (untilOf s (w .copies) d) o i longer q, off-place (at-lease d i (h .exists)) (λ x y. q y)) b,
+              updated-other (heldOf s (w .copies) d) o i _ q ∙ l .0,
+              λ r. let b = l .1 cur in rw (updated-other (untilOf s (w .copies) d) o i longer q, off-place (at-lease d i (h .exists)) (λ p r. q r)) b,
             )
 
     pub granted-keeps : Inv s (withTables w (granted s (w .tables) d o n ver))

@@ -16,7 +16,8 @@ use Rattle.protocol.specs.Setup.{volumeOf}
 use Rattle.protocol.specs.Tables.{byVolume, unreachableAt, waitingAt, withSessions}
 use Rattle.protocol.specs.Writes.{markIfWaiting, deserted}
 use Rattle.protocol.specs.World.{World}
-use Rattle.protocol.specs.Safety.Invariant.{excused, excusesOf, View, CoveredIn, Inv}
+use Rattle.protocol.specs.Safety.View.{excused, View}
+use Rattle.protocol.specs.Safety.Invariant.{excusesOf, CoveredIn, Inv}
 use Rattle.protocol.specs.Safety.Tools.{marked-excused, excused-grows}
 use Rattle.protocol.specs.Safety.Replaced.{withTables}
 use Rattle.protocol.specs.Safety.Covering.{covered-by, grant-covered}
@@ -53,7 +54,7 @@ module _ (s : Setup) (w : World) (un : List Bool) (range : Ranges s)
     epochs = inv .epochs;
     numbers = inv .numbers;
     versions = inv .versions;
-    offers = λ d v hd hv m. marks d v hd hv (inv .offers d v hd hv m);
+    offers = λ d v hd hv ne. marks d v hd hv (inv .offers d v hd hv ne);
     writes = record {
       guards = inv .writes .guards;
       waits = inv .writes .waits;

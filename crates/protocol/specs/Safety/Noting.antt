@@ -13,7 +13,8 @@ use Rattle.protocol.specs.Setup.{volumeOf}
 use Rattle.protocol.specs.Tables.{byVolume, epochAt, seenAt, unreachableAt, offerAt, withSessions}
 use Rattle.protocol.specs.Server.{noted}
 use Rattle.protocol.specs.World.{World}
-use Rattle.protocol.specs.Safety.Invariant.{Inv, Stands, requestAt, Header, HeaderIn, Answers, AnswersIn}
+use Rattle.protocol.specs.Safety.View.{Stands, requestAt}
+use Rattle.protocol.specs.Safety.Invariant.{Inv, Header, HeaderIn, Answers, AnswersIn}
 use Rattle.protocol.specs.Safety.Stores.{After, volume-set}
 use Rattle.protocol.specs.Safety.Replaced.{withTables}
 use Rattle.protocol.specs.Safety.Sending.{Keeps, each}
@@ -28,7 +29,7 @@ module _ (s : Setup) (w : World) (inv : Inv s w) (d n : ℕ) (full : length (w .
   grows k = ⊎-elim (λ a. let e = ap (seenAt (w .tables)) (a .0) in omega (arith, a .1)) (λ a. omega (arith, a .1)) (set-at (w .tables .sessions .seen) d n k 0 (omega arith))
 
   header : (k v n′ e : ℕ) → HeaderIn (w .tables) (w .requests) k v n′ e → Header (w .tables .volumes .epoch) seen (w .requests) k v n′ e
-  header k v n′ e h = record { reached = h .reached; taken = h .taken; noticed = λ a. let b = h .noticed a in let c = grows k in omega arith }
+  header k v n′ e h = record { reached = h .reached; taken = h .taken; noticed = λ a. let b = h .noticed a in let l = grows k in omega arith }
 
   pub noted-keeps : Inv s (withTables w (noted (w .tables) d n))
   unfolding noted
@@ -70,7 +71,7 @@ new-number : (s : Setup) (w : World) → Inv s w → (d n : ℕ) → d < s .clie
     → (v n′ e : ℕ) → HeaderIn (w .tables) (w .requests) d v n′ e → e ≡ epochAt (w .tables) v → (n′ ≡ n → ⊥) × (Stands (w .requests) d n′ → ⊥)
 new-number s w inv d n hd new taken v n′ e h a =
     let b = h .noticed a in
-    (λ q. omega arith, λ q. let l = inv .numbers .last d hd (q .there) in let m = q .same in omega arith)
+    (λ q. omega arith, λ q. let l = inv .numbers .last d hd (q .there) in let r = q .same in omega arith)
 
 -- ---- an offer to a marked client
 module _ (s : Setup) (range : Ranges s) (w : World) (inv : Inv s w) (d v n : ℕ) (full : length (w .tables .sessions .offer) ≡ 128) (hd : d < s .clients) (hv : v < s .volumes)
@@ -126,7 +127,7 @@ module _ (s : Setup) (range : Ranges s) (w : World) (inv : Inv s w) (d v n : ℕ
     epochs = inv .epochs;
     numbers = inv .numbers;
     versions = inv .versions;
-    offers = λ k u hk hu m. ⊎-elim (λ a. rw (a .0, a .1) marked) (λ a. inv .offers k u hk hu (λ e. m (a .1 ∙ e))) (at-offer k u hu);
+    offers = λ k u hk hu ne. ⊎-elim (λ a. rw (a .0, a .1) marked) (λ a. inv .offers k u hk hu (λ e. ne (a .1 ∙ e))) (at-offer k u hu);
     writes = inv .writes;
     views = inv .views;
     messages = each inv keeps;

@@ -19,7 +19,8 @@ use Rattle.protocol.specs.Client.{ended, viewed, swept, sweptAll}
 use Rattle.protocol.specs.World.{World}
 use Rattle.protocol.specs.Ranges.{Ranges}
 use Rattle.protocol.specs.Soundness.Shape.{WorldShape}
-use Rattle.protocol.specs.Safety.Invariant.{Inv, copyAt, requestAt, viewOf, KindOk, clocksOf}
+use Rattle.protocol.specs.Safety.View.{copyAt, requestAt, viewOf}
+use Rattle.protocol.specs.Safety.Invariant.{Inv, KindOk, clocksOf}
 use Rattle.protocol.specs.Safety.Stores.{same-version, same-expiry}
 use Rattle.protocol.specs.Safety.Tools.{zero-dead-client, left-none}
 use Rattle.protocol.specs.Safety.Covering.{remains-less, Empty, covered-empty, remains-empty}
@@ -55,8 +56,8 @@ module _ (s : Setup) (range : Ranges s) (w : World) (inv : Inv s w) (shape : Wor
   own-copy i h = swept-own s (w .copies) d (shape .copies) hd (Expire v) i h
 
   elsewhere : (k i : ℕ) → i < s .objects → (k ≡ d → volumeOf s i ≡ v → ⊥) → copyAt s copies k i ≡ copyAt s (w .copies) k i
-  elsewhere k i h m =
-      ⊎-elim (λ p. rw p (own-copy i h ∙ expire-outside s v _ i (λ q. m p q))) (λ p. swept-other s (w .copies) d (shape .copies) hd (Expire v) k i p h) (same? k d)
+  elsewhere k i h ne =
+      ⊎-elim (λ p. rw p (own-copy i h ∙ expire-outside s v _ i (λ q. ne p q))) (λ p. swept-other s (w .copies) d (shape .copies) hd (Expire v) k i p h) (same? k d)
 
   kept-version : (i : ℕ) → i < s .objects → copyAt s copies d i .version ≡ copyAt s (w .copies) d i .version
   kept-version i h = same-version (own-copy i h) ∙ expire-version s v _ i

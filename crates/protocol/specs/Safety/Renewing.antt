@@ -76,10 +76,17 @@ module _ (s : Setup) (range : Ranges s) (w : World) (inv : Inv s w) (shape : Sha
       (record { client = hd; kind = record { exists = hv; header = record { reached = omega arith; taken = renew .taken; noticed = λ a. seen-now } } })
       (λ i a. a) (λ k i b. b)
 
-  -- "resend INVALIDATE for its lowest such object"
+  -- "its lowest such object": past the objects, nothing that is being written in the volume waits for the client
   abbrev low : ℕ
   low = lowestWaited s t d v
 
+  unwaited : ltb low (s .objects) ≡ false → (i : ℕ) → i < s .objects → volumeOf s i ≡ v → standingAt t i ≡ true → waitingAt t d i ≡ false
+  unfolding lowestWaited
+  unwaited none i h q a =
+      let r = first-missing (waitedIn s t d v) 0 (s .objects) (let l = ltb-false low (s .objects) none in omega arith) i (omega arith) (omega arith) in
+      ⊎-elim (λ b. not-both (eq-eqb _ _ q) b) (λ b. ⊎-elim (λ l. not-both a l) (λ l. l) (and-false _ _ b)) (and-false _ _ r)
+
+  -- "resend INVALIDATE"
   by-resend : low < s .objects → Inv s (withTables w (sent t (invalidation s t low d)))
   unfolding noted lowestWaited
   by-resend h =
@@ -91,12 +98,12 @@ module _ (s : Setup) (range : Ranges s) (w : World) (inv : Inv s w) (shape : Sha
 
   -- "Else .. send GRANT"
   by-grant : mustDrop t d v e ≡ false → ltb low (s .objects) ≡ false → standingAt t o ≡ false → Inv s (withTables w (granted s t d o n ver))
-  unfolding noted mustDrop lowestWaited
+  unfolding noted mustDrop
   by-grant keep none free =
-      let k = or-false (not (eqb e (epochAt t v))) (unreachableAt t d v) keep in
+      let a = or-false (not (eqb e (epochAt t v))) (unreachableAt t d v) keep in
       granted-keeps s range (withTables w t) noticed
       (record { volumes = shape .volumes; sessions = noted-shape; objects = shape .objects; holders = shape .holders; views = shape .views; queue = shape .queue })
-      d o hd ho (k .1) free (λ i h q. unmarked-trusted _ d v i (k .1)) unwaited n e ver renew (eqb-true _ _ (not-false _ (k .0))) seen-now
+      d o hd ho (a .1) free (λ i h q. unmarked-trusted _ d v i (a .1)) (unwaited none) n e ver renew (eqb-true _ _ (not-false _ (a .0))) seen-now
     where
       noted-shape : SessionsShape (t .sessions)
       noted-shape = record {
@@ -106,17 +113,12 @@ module _ (s : Setup) (range : Ranges s) (w : World) (inv : Inv s w) (shape : Sha
         offer = shape .sessions .offer;
       }
 
-      unwaited : (k : ℕ) → k < s .objects → volumeOf s k ≡ v → standingAt t k ≡ true → waitingAt t d k ≡ false
-      unwaited k h q a =
-          let m = first-missing (waitedIn s t d v) 0 (s .objects) (let z = ltb-false low (s .objects) none in omega arith) k (omega arith) (omega arith) in
-          ⊎-elim (λ x. not-both (eq-eqb _ _ q) x) (λ x. ⊎-elim (λ y. not-both a y) (λ y. y) (and-false _ _ x)) (and-false _ _ m)
-
   pub renewed-new : Inv s (withTables w (renewedBy s t d o n e ver))
   unfolding renewedBy
   renewed-new =
       cond-keeps (λ (x : Tables). Inv s (withTables w x)) (mustDrop t d v e) (λ a. by-offer)
       (λ a. cond-keeps (λ (x : Tables). Inv s (withTables w x)) (ltb low (s .objects)) (λ b. by-resend (ltb-true _ _ b))
-      (λ b. cond-keeps (λ (x : Tables). Inv s (withTables w x)) (beingWritten t o) (λ c. noticed) (λ c. by-grant a b c)))
+      (λ b. cond-keeps (λ (x : Tables). Inv s (withTables w x)) (beingWritten t o) (λ l. noticed) (λ l. by-grant a b l)))
 
 -- "number not above the highest seen: nothing"
 pub renewed-keeps : (s : Setup) → Ranges s → (w : World) → Inv s w → Shape (w .tables) → (d o n e ver : ℕ) → d < s .clients → KindOk s w d (Renew o n e ver)

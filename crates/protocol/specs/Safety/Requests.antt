@@ -17,7 +17,8 @@ use Rattle.protocol.specs.Tables.{noRequest}
 use Rattle.protocol.specs.Client.{numbered, ended, forgotten, asksFor}
 use Rattle.protocol.specs.World.{World}
 use Rattle.protocol.specs.Soundness.Shape.{WorldShape}
-use Rattle.protocol.specs.Safety.Invariant.{Inv, Stands, requestAt, Numbers, Header, HeaderIn, KindOk, Bringing}
+use Rattle.protocol.specs.Safety.View.{Stands, requestAt}
+use Rattle.protocol.specs.Safety.Invariant.{Inv, Numbers, Header, HeaderIn, KindOk, Bringing}
 use Rattle.protocol.specs.Safety.Sending.{Keeps, each, bringing-case}
 
 abbrev pub requesting : World → List Request → World
@@ -125,14 +126,7 @@ module _ (requests : List Request) (d : ℕ) (here : d < length requests) where
   pub numbered-moves : (o : ℕ) → Moves requests (with-record (numbered (requestAt requests d) o))
   numbered-moves o = replaced-moves (numbered (requestAt requests d) o) (omega arith) (λ n h a b. omega arith)
 
-  -- "forget a standing request for that object"
-  pub forgotten-moves : (o : ℕ) → Moves requests (with-record (forgotten (requestAt requests d) o))
-  unfolding forgotten
-  forgotten-moves o =
-      cond-keeps (λ (r : Request). Moves requests (with-record r)) (asksFor (requestAt requests d) o) (λ e. ended-moves)
-      (λ e. rw (set-getD requests d noRequest) (record { next = λ k. omega arith; stands = λ k n h a. a; object = λ k n h a. refl }))
-
-  -- .. and none for it stands
+  -- "forget a standing request for that object": none for it stands
   pub forgotten-gone : (o n : ℕ) → Stands (with-record (forgotten (requestAt requests d) o)) d n
       → requestAt (with-record (forgotten (requestAt requests d) o)) d .object ≡ o → ⊥
   unfolding forgotten

@@ -15,7 +15,8 @@ use Rattle.protocol.specs.declared.setup.Setup.{Setup}
 use Rattle.protocol.specs.Messages.{messageAt, pushed, removed, doubled}
 use Rattle.protocol.specs.Tables.{withQueue}
 use Rattle.protocol.specs.World.{World}
-use Rattle.protocol.specs.Safety.Invariant.{Inv, Sent, Stands, from, Acknowledges, KindOk, MessageOk, Acking, Bringing, PairOk, AcknowledgesIn, AckingIn, PairIn}
+use Rattle.protocol.specs.Safety.View.{Stands}
+use Rattle.protocol.specs.Safety.Invariant.{Inv, Sent, from, Acknowledges, KindOk, MessageOk, Acking, Bringing, PairOk, AcknowledgesIn, AckingIn, PairIn}
 use Rattle.protocol.specs.Safety.Tools.{sent-pushed, sent-removed, sent-at}
 
 abbrev pub listing : World → Queue → World

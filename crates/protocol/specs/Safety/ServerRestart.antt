@@ -7,7 +7,7 @@ use mathlib.Core.List.{List}
 use mathlib.Core.Logic.{inl, ⊎-elim}
 use mathlib.Core.Path.{_≡_, refl}
 use lib.ListN.{getD, replicate, getD-replicate}
-use Rattle.laws.specs.Store.{storeEach, always, store-hit}
+use Rattle.laws.specs.Store.{always, store-hit}
 use Rattle.protocol.specs.declared.message.Kind.the-variants.{Renew, Grant, Invalidate, Ack, Offer, Dropped}
 use Rattle.protocol.specs.declared.setup.Setup.{Setup}
 use Rattle.protocol.specs.Setup.{volumeOf}
@@ -16,7 +16,8 @@ use Rattle.protocol.specs.Server.{serverRestarted}
 use Rattle.protocol.specs.World.{World}
 use Rattle.protocol.specs.Ranges.{Ranges}
 use Rattle.protocol.specs.Soundness.Shape.{Shape}
-use Rattle.protocol.specs.Safety.Invariant.{Inv, View, Covered, Header, HeaderIn, InvalidateOk, CoveredIn}
+use Rattle.protocol.specs.Safety.View.{View, Covered}
+use Rattle.protocol.specs.Safety.Invariant.{Inv, Header, HeaderIn, InvalidateOk, CoveredIn}
 use Rattle.protocol.specs.Safety.Stores.{nothing-stands, zero-holder, zero-session}
 use Rattle.protocol.specs.Safety.Replaced.{withTables}
 use Rattle.protocol.specs.Safety.Sending.{Keeps, each, acked-before}
@@ -28,7 +29,7 @@ covered-restarted : {s : Setup} {clock d v epoch guard session volume epoch′ s
 covered-restarted {epoch} {volume} {view} c old next g k = record {
   current = λ a. absurd (omega arith);
   older = λ a. expires (ℕ-discrete (view .known) epoch);
-  holds = λ o h a. ⊎-elim (λ q. (c .holds o h (inl q) .0, λ b. absurd (omega arith))) (λ q. let z = q .0 in absurd (omega arith)) a;
+  holds = λ o h a. ⊎-elim (λ q. (c .holds o h (inl q) .0, λ b. absurd (omega arith))) (λ q. absurd (omega (arith, q .0))) a;
 }
   where
     expires : Dec (view .known ≡ epoch) → view .expiry ≤ volume
@@ -37,19 +38,20 @@ covered-restarted {epoch} {volume} {view} c old next g k = record {
 
 module _ (s : Setup) (range : Ranges s) (w : World) (inv : Inv s w) (shape : Shape (w .tables)) where
   abbrev epoch : List ℕ
-  epoch = storeEach always (λ (v : ℕ). v) (λ (v : ℕ). epochAt (w .tables) v + 1) (w .tables .volumes .epoch) (s .volumes)
+  epoch = serverRestarted s (w .tables) .volumes .epoch
 
   grown : (v : ℕ) → v < s .volumes → getD epoch v 0 ≡ epochAt (w .tables) v + 1
+  unfolding serverRestarted
   grown v h =
       let b = range .volumes .1 in
       store-hit always (λ (v : ℕ). v) (λ (v : ℕ). epochAt (w .tables) v + 1) (λ i j e. e) (w .tables .volumes .epoch) (s .volumes) v 0 h refl (omega (arith, shape .volumes .epoch))
 
   -- no message is of the new epoch
   before : (v e : ℕ) → v < s .volumes → e ≤ epochAt (w .tables) v → e ≡ getD epoch v 0 → ⊥
-  before v e hv h a = let g = grown v hv in omega arith
+  before v e hv h a = omega (arith, grown v hv)
 
   reached : (v e : ℕ) → v < s .volumes → e ≤ epochAt (w .tables) v → e ≤ getD epoch v 0
-  reached v e hv h = let g = grown v hv in omega arith
+  reached v e hv h = omega (arith, grown v hv)
 
   header : (d v n e : ℕ) → v < s .volumes → HeaderIn (w .tables) (w .requests) d v n e → Header epoch (replicate 16 0) (w .requests) d v n e
   header d v n e hv h = record { reached = reached v e hv (h .reached); taken = h .taken; noticed = λ a. absurd (before v e hv (h .reached) a) }
@@ -109,10 +111,10 @@ module _ (s : Setup) (range : Ranges s) (w : World) (inv : Inv s w) (shape : Sha
     epochs = λ d v hd hv. reached v _ hv (inv .epochs d v hd hv);
     numbers = record {
       last = inv .numbers .last;
-      past = λ d h. let b = inv .numbers .past d h in let c = range .clients .1 in rw (getD-replicate {A = ℕ} 16 d 0 0 (omega arith)) (omega arith);
+      past = λ d h. let b = inv .numbers .past d h in let l = range .clients .1 in rw (getD-replicate {A = ℕ} 16 d 0 0 (omega arith)) (omega arith);
     };
     versions = inv .versions;
-    offers = λ d v hd hv m. absurd (m (zero-session range d v hd hv));
+    offers = λ d v hd hv ne. absurd (ne (zero-session range d v hd hv));
     writes = record {
       guards = λ o h a. nothing-stands range o h a;
       waits = λ d o hd ho a b. nothing-stands range o ho a;

@@ -13,7 +13,7 @@ use Rattle.laws.specs.Store.{set-at}
 use Rattle.protocol.specs.declared.records.Copy.{Copy}
 use Rattle.protocol.specs.declared.setup.Setup.{Setup}
 use Rattle.protocol.specs.Tables.{byVolume, byObject, noCopy}
-use Rattle.protocol.specs.Safety.Invariant.{copyAt}
+use Rattle.protocol.specs.Safety.View.{copyAt}
 use Rattle.protocol.specs.Ranges.{Ranges}
 
 -- what is read at row k and column u after a store at row d and column v: the new element, or the old one elsewhere
@@ -30,7 +30,7 @@ off-place a h = ⊎-elim (λ b. absurd (h (b .0) (b .1))) (λ b. b .1) a
 -- rows of n: the places of two rows do not meet
 pub row-below : (n d k o : ℕ) → d < k → o < n → d * n + o < k * n
 row-below n d k o h b =
-    let m = mul-le-mul-right n h in
+    let l = mul-le-mul-right n h in
     let q = suc-mul d n in
     omega arith
 
@@ -40,10 +40,10 @@ row-same n d o k i h b q = go (decLt d k) (decLt k d)
     go : Dec (d < k) → Dec (k < d) → (d ≡ k) × (o ≡ i)
     go (yes a) c = let r = row-below n d k o a h in absurd (omega arith)
     go (no a) (yes c) = let r = row-below n k d i c b in absurd (omega arith)
-    go (no a) (no c) = let z : d ≡ k = omega arith in (z, same z)
+    go (no a) (no c) = let r : d ≡ k = omega arith in (r, same r)
       where
         same : d ≡ k → o ≡ i
-        same z = let q′ = rw z at q in omega arith
+        same r = let q′ = rw r at q in omega arith
 
 -- ---- existing items are in their tables
 module _ {s : Setup} (range : Ranges s) where
@@ -78,7 +78,7 @@ module _ {s : Setup} (range : Ranges s) where
         → After d v k u (getD (set l (byVolume d v) x) (byVolume k u) y) x (getD l (byVolume k u) y)
     volume-set {v} hv l x y n k u hu =
         let b = volume-fits hv in
-        let c = volume-fits hu in
+        let a = volume-fits hu in
         let r = session-fits hd hv in
         ⊎-elim (λ a. inl (omega (arith, a .0), omega (arith, a .0), a .1)) (λ a. inr (λ p q. a .0 (omega arith), a .1))
         (set-at l (byVolume d v) x (byVolume k u) y (omega arith))
@@ -87,7 +87,7 @@ module _ {s : Setup} (range : Ranges s) where
         → After d o k i (getD (set l (byObject d o) x) (byObject k i) y) x (getD l (byObject k i) y)
     object-set {o} ho l x y n k i hi =
         let b = object-fits ho in
-        let c = object-fits hi in
+        let a = object-fits hi in
         let r = holder-fits hd ho in
         ⊎-elim (λ a. inl (omega (arith, a .0), omega (arith, a .0), a .1)) (λ a. inr (λ p q. a .0 (omega arith), a .1))
         (set-at l (byObject d o) x (byObject k i) y (omega arith))
@@ -105,5 +105,5 @@ pub copy-set : (s : Setup) {d o : ℕ} → d < s .clients → o < s .objects →
     → After d o k i (copyAt s (set copies (d * s .objects + o) x) k i) x (copyAt s copies k i)
 copy-set s {d} {o} hd ho copies x n k i hi =
     let b = row-below (s .objects) d (s .clients) o hd ho in
-    ⊎-elim (λ a. let z = row-same (s .objects) k i d o hi ho (a .0) in inl (z .0, z .1, a .1)) (λ a. inr (λ p q. a .0 (rw (p, q)), a .1))
+    ⊎-elim (λ a. let r = row-same (s .objects) k i d o hi ho (a .0) in inl (r .0, r .1, a .1)) (λ a. inr (λ p q. a .0 (rw (p, q)), a .1))
     (set-at copies (d * s .objects + o) x (k * s .objects + i) noCopy (omega arith))

@@ -14,7 +14,7 @@ use Rattle.protocol.specs.declared.step.Sweep.{Sweep}
 use Rattle.protocol.specs.declared.step.Sweep.the-variants.{Keep, Expire, Erase}
 use Rattle.protocol.specs.Tables.{noCopy}
 use Rattle.protocol.specs.Client.{swept, sweeps, sweepAt, sweptAll}
-use Rattle.protocol.specs.Safety.Invariant.{copyAt}
+use Rattle.protocol.specs.Safety.View.{copyAt}
 use Rattle.protocol.specs.Safety.Stores.{row-below}
 
 module _ (s : Setup) (g : Sweep) (first : ℕ) where

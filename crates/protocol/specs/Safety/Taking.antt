@@ -16,7 +16,8 @@ use Rattle.protocol.specs.Tables.{byVolume, epochAt, valueAt, versionAt,
 use Rattle.protocol.specs.Client.{ended, viewed}
 use Rattle.protocol.specs.World.{World}
 use Rattle.protocol.specs.Soundness.Shape.{WorldShape}
-use Rattle.protocol.specs.Safety.Invariant.{Inv, Sent, Stands, from, copyAt, requestAt, viewOf, viewAt, viewIn, NamesHeld, clocksOf, CoveredIn, RemainsIn, AnswersIn, AcknowledgesIn}
+use Rattle.protocol.specs.Safety.View.{Stands, copyAt, requestAt, viewOf, viewAt}
+use Rattle.protocol.specs.Safety.Invariant.{Inv, Sent, from, viewIn, NamesHeld, clocksOf, CoveredIn, RemainsIn, AnswersIn, AcknowledgesIn}
 use Rattle.protocol.specs.Safety.Stores.{After, at-place, off-place, volume-set, same-version}
 use Rattle.protocol.specs.Safety.Covering.{Less, Fewer, view-less, granted-less, covered-less, remains-less}
 use Rattle.protocol.specs.Safety.Sending.{Keeps, each}
@@ -54,11 +55,11 @@ module _ (s : Setup) (range : Ranges s) (w : World) (inv : Inv s w) (d : ℕ) (i
   busy k n a e = idle n (rw e at a)
 
   same-copies : (k v : ℕ) → (k ≡ d → ⊥) → Fewer s k v (w .copies) copies
-  same-copies k v m = record { each = λ o i j. inr (others .copies k o m i) }
+  same-copies k v ne = record { each = λ o i j. inr (others .copies k o ne i) }
 
   same-view : (k v : ℕ) → (k ≡ d → ⊥) → v < s .volumes
       → Less s (clocksOf (w .tables) k) v (viewIn s w k v) (viewAt s known expiry copies k v)
-  same-view k v m h = view-less (same-copies k v m) (others .known k v m h) (others .expiry k v m h)
+  same-view k v ne h = view-less (same-copies k v ne) (others .known k v ne h) (others .expiry k v ne h)
 
   keeps : Keeps s w (seeing w known expiry copies)
   keeps k (Renew o n e ver) z hk c = record {
@@ -82,7 +83,7 @@ module _ (s : Setup) (range : Ranges s) (w : World) (inv : Inv s w) (d : ℕ) (i
   keeps k (Invalidate o e ver) z hk c = c
   keeps k (Ack o e ver) z hk c = record {
     invalidate = c .invalidate;
-    erased = λ a. ⊎-elim (λ h. let z′ = rw h at z in rw h (own .erased o e ver z′ a)) (λ m. same-version (others .copies k o m (c .invalidate .exists)) ∙ c .erased a) (same? k d);
+    erased = λ a. ⊎-elim (λ h. let z′ = rw h at z in rw h (own .erased o e ver z′ a)) (λ ne. same-version (others .copies k o ne (c .invalidate .exists)) ∙ c .erased a) (same? k d);
   }
   keeps k (Offer v n e) z hk c = c
   keeps k (Dropped v n e) z hk c = record {
@@ -90,23 +91,23 @@ module _ (s : Setup) (range : Ranges s) (w : World) (inv : Inv s w) (d : ℕ) (i
     header = c .header;
     writes = c .writes;
     remains = λ a b. ⊎-elim (λ h. let z′ = rw h at z in let a′ = rw h at a in let b′ = rw h at b in rw h (own .remains v n e (c .exists) z′ a′ b′))
-        (λ m. remains-less (same-view k v m (c .exists)) (c .remains a (sym (others .known k v m (c .exists)) ∙ b)))
+        (λ ne. remains-less (same-view k v ne (c .exists)) (c .remains a (sym (others .known k v ne (c .exists)) ∙ b)))
         (same? k d);
   }
 
   seen : Inv s (seeing w known expiry copies)
   seen = record {
     bounds = inv .bounds;
-    epochs = λ k v hk hv. ⊎-elim (λ e. rw e (own .epochs v hv)) (λ m. rw (others .known k v m hv) (inv .epochs k v hk hv)) (same? k d);
+    epochs = λ k v hk hv. ⊎-elim (λ e. rw e (own .epochs v hv)) (λ ne. rw (others .known k v ne hv) (inv .epochs k v hk hv)) (same? k d);
     numbers = inv .numbers;
     versions = record {
       positive = inv .versions .positive;
-      reached = λ k o hk ho. ⊎-elim (λ e. rw e (own .reached o ho)) (λ m. rw (others .copies k o m ho) (inv .versions .reached k o hk ho)) (same? k d);
-      values = λ k o hk ho. ⊎-elim (λ e. rw e (own .values o ho)) (λ m. rw (others .copies k o m ho) (inv .versions .values k o hk ho)) (same? k d);
+      reached = λ k o hk ho. ⊎-elim (λ e. rw e (own .reached o ho)) (λ ne. rw (others .copies k o ne ho) (inv .versions .reached k o hk ho)) (same? k d);
+      values = λ k o hk ho. ⊎-elim (λ e. rw e (own .values o ho)) (λ ne. rw (others .copies k o ne ho) (inv .versions .values k o hk ho)) (same? k d);
     };
     offers = inv .offers;
     writes = inv .writes;
-    views = λ k v hk hv. ⊎-elim (λ e. rw e (own .views v hv)) (λ m. covered-less (same-view k v m hv) (inv .views k v hk hv)) (same? k d);
+    views = λ k v hk hv. ⊎-elim (λ e. rw e (own .views v hv)) (λ ne. covered-less (same-view k v ne hv) (inv .views k v hk hv)) (same? k d);
     messages = each inv keeps;
     pairs = inv .pairs;
   }
@@ -148,9 +149,9 @@ module _ (s : Setup) (range : Ranges s) (w : World) (inv : Inv s w) (shape : Wor
 
     others : Others s (w .tables) d known expiry (w .copies) copies
     others = record {
-      known = λ k u m h. off-place (at-known k u h) (λ a b. m a);
-      expiry = λ k u m h. off-place (at-expiry k u h) (λ a b. m a);
-      copies = λ k i m h. elsewhere k i h (λ a b. m a);
+      known = λ k u ne h. off-place (at-known k u h) (λ a b. ne a);
+      expiry = λ k u ne h. off-place (at-expiry k u h) (λ a b. ne a);
+      copies = λ k i ne h. elsewhere k i h (λ a b. ne a);
     }
 
     here : (u : ℕ) → u < s .volumes → u ≡ v → Less s (clocksOf (w .tables) d) u (viewOf s copies d e x) (viewAt s known expiry copies d u)
@@ -158,22 +159,22 @@ module _ (s : Setup) (range : Ranges s) (w : World) (inv : Inv s w) (shape : Wor
 
     outside : (u : ℕ) → u < s .volumes → (u ≡ v → ⊥)
         → Less s (clocksOf (w .tables) d) u (viewIn s w d u) (viewAt s known expiry copies d u)
-    outside u h m = view-less still (off-place (at-known d u h) (λ a b. m b)) (off-place (at-expiry d u h) (λ a b. m b))
+    outside u h ne = view-less still (off-place (at-known d u h) (λ a b. ne b)) (off-place (at-expiry d u h) (λ a b. ne b))
       where
         still : Fewer s d u (w .copies) copies
-        still = record { each = λ i j q. inr (elsewhere d i j (λ a b. m (sym q ∙ b))) }
+        still = record { each = λ i j q. inr (elsewhere d i j (λ a b. ne (sym q ∙ b))) }
 
     own : Inside → Own s (w .tables) d known expiry copies
     own inside = record {
       epochs = λ u h. ⊎-elim (λ a. rw (a .2, a .1) (inside .epoch)) (λ a. rw (a .1) (inv .epochs d u hd h)) (at-known d u h);
-      reached = λ i h. ⊎-elim (inside .reached i h) (λ m. rw (elsewhere d i h (λ a b. m b)) (inv .versions .reached d i hd h)) (same? (volumeOf s i) v);
-      values = λ i h. ⊎-elim (inside .values i h) (λ m. rw (elsewhere d i h (λ a b. m b)) (inv .versions .values d i hd h)) (same? (volumeOf s i) v);
-      views = λ u h. ⊎-elim (λ q. covered-less (here u h q) (rw q (inside .view))) (λ m. covered-less (outside u h m) (inv .views d u hd h)) (same? u v);
+      reached = λ i h. ⊎-elim (inside .reached i h) (λ ne. rw (elsewhere d i h (λ a b. ne b)) (inv .versions .reached d i hd h)) (same? (volumeOf s i) v);
+      values = λ i h. ⊎-elim (inside .values i h) (λ ne. rw (elsewhere d i h (λ a b. ne b)) (inv .versions .values d i hd h)) (same? (volumeOf s i) v);
+      views = λ u h. ⊎-elim (λ q. covered-less (here u h q) (rw q (inside .view))) (λ ne. covered-less (outside u h ne) (inv .views d u hd h)) (same? u v);
       erased = λ i f ver z a. ⊎-elim (λ q. inside .erased i f ver z q a)
-          (λ m. same-version (elsewhere d i (inv .messages _ z .kind .invalidate .exists) (λ p q. m q)) ∙ inv .messages _ z .kind .erased a) (same? (volumeOf s i) v);
+          (λ ne. same-version (elsewhere d i (inv .messages _ z .kind .invalidate .exists) (λ p q. ne q)) ∙ inv .messages _ z .kind .erased a) (same? (volumeOf s i) v);
       remains = λ u n f h z a b. ⊎-elim
           (λ q. let z′ = rw q at z in let a′ = rw q at a in let b′ = rw q at (sym (at-place (at-known d u h) refl q) ∙ b) in remains-less (here u h q) (rw q (inside .remains n f z′ a′ b′)))
-          (λ m. remains-less (outside u h m) (inv .messages _ z .kind .remains a (sym (outside u h m .known) ∙ b)))
+          (λ ne. remains-less (outside u h ne) (inv .messages _ z .kind .remains a (sym (outside u h ne .known) ∙ b)))
           (same? u v);
     }
 

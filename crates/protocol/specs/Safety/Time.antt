@@ -9,7 +9,8 @@ use Rattle.protocol.specs.declared.setup.Setup.{Setup}
 use Rattle.protocol.specs.Tables.{withClock}
 use Rattle.protocol.specs.Leases.{clientClock}
 use Rattle.protocol.specs.World.{World}
-use Rattle.protocol.specs.Safety.Invariant.{View, Held, Covered, Remains, Inv}
+use Rattle.protocol.specs.Safety.View.{View, Held, Covered, Remains}
+use Rattle.protocol.specs.Safety.Invariant.{Inv}
 use Rattle.protocol.specs.Safety.Tools.{later-dead, earlier-alive}
 use Rattle.protocol.specs.Safety.Replaced.{withTables}
 use Rattle.protocol.specs.Safety.Covering.{grant-covered}

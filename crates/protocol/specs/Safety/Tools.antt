@@ -21,9 +21,19 @@ use Rattle.protocol.specs.Messages.{blank, messageAt, pushed, removed, h
 use Rattle.protocol.specs.Tables.{byVolume, guardAt}
 use Rattle.protocol.specs.Leases.{serverAlive, clientAlive, clientClock, guardPassed, endOver}
 use Rattle.protocol.specs.Client.{stands}
-use Rattle.protocol.specs.Safety.Invariant.{Sent, Stands, requestAt, excused, left}
+use Rattle.protocol.specs.Safety.View.{Stands, requestAt, excused, left}
+use Rattle.protocol.specs.Safety.Invariant.{Sent}
 
 -- ---- time: e is an expiry by the server's clock or by client d's
+
+-- T5: 0 is dead
+pub zero-dead : (clock : ℕ) → serverAlive clock 0 ≡ false
+unfolding serverAlive
+zero-dead clock = le-ltb clock 0 (omega arith)
+
+pub zero-dead-client : (clock : ℕ) {e : ℕ} → e ≡ 0 → clientAlive clock e ≡ true → ⊥
+unfolding clientAlive
+zero-dead-client clock {e} z p = let q = ltb-true clock e p in omega arith
 
 -- T1, the one law that relates the two clocks: what a client holds to be alive, the server does
 pub client-server : (clock d e : ℕ) → clientAlive (clientClock clock d) e ≡ true → serverAlive clock e ≡ true
@@ -60,15 +70,6 @@ over-dead clock end e p h = let q = ltb-true end clock p in le-ltb clock e (omeg
 pub passed-dead : (t : Tables) (v : ℕ) → guardPassed t v ≡ true → serverAlive (t .clock) (guardAt t v) ≡ false
 unfolding guardPassed
 passed-dead t v p = not-true _ p
-
--- T5: 0 is dead
-pub zero-dead : (clock : ℕ) → serverAlive clock 0 ≡ false
-unfolding serverAlive
-zero-dead clock = le-ltb clock 0 (omega arith)
-
-pub zero-dead-client : (clock : ℕ) {e : ℕ} → e ≡ 0 → clientAlive clock e ≡ true → ⊥
-unfolding clientAlive
-zero-dead-client clock {e} z p = let q = ltb-true clock e p in omega arith
 
 -- ---- E1: a mark excuses the client for every object of the volume, no mark for none, and other marks do not matter
 
