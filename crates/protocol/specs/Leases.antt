@@ -1,6 +1,8 @@
 -- The tests of time. Whoever proves something about leases uses these names and their laws alone.
-use Prim.Native.Nat.{ℕ}
-use mathlib.Core.Bool.{Bool, not}
+use Prim.Native.Nat.{ℕ, _<_, _≤_}
+use mathlib.Core.Bool.{Bool, true, false, not}
+use mathlib.Core.Path.{_≡_}
+use borrow.Author.Tests.{ltb-true, ltb-false}
 use lib.Dec.{ltb}
 use Rattle.protocol.specs.declared.tables.Tables.{Tables}
 use Rattle.protocol.specs.Tables.{guardAt}
@@ -24,3 +26,12 @@ guardPassed t v = not (serverAlive (t .clock) (guardAt t v))
 -- "whose latest end is below the clock"
 unfoldable pub endOver : ℕ → ℕ → Bool
 endOver clock end = ltb end clock
+
+-- its two laws: over is what is past its latest end, and nothing that is past it is not over
+pub over-past : (clock end : ℕ) → endOver clock end ≡ true → end < clock
+unfolding endOver
+over-past clock end e = ltb-true end clock e
+
+pub not-over : (clock end : ℕ) → endOver clock end ≡ false → clock ≤ end
+unfolding endOver
+not-over clock end e = ltb-false end clock e

@@ -7,10 +7,8 @@ use mathlib.Core.Bool.{Bool, true, false, cond, not, _&&_, _||_}
 use mathlib.Core.List.{List, [], _∷_, map}
 use mathlib.Core.Logic.{⊎-elim}
 use mathlib.Core.Path.{_≡_, refl, sym, ap, _∙_}
-use lib.Dec.{ltb}
 use lib.ListN.{length}
 use lib.Seq.{getD-set-other}
-use borrow.Author.Tests.{ltb-false}
 use Rattle.laws.specs.Choice.{same?, not-both, and-true, cond-keeps}
 use Rattle.laws.specs.Loop.{foldFrom}
 use Rattle.laws.specs.Each.{cleared}
@@ -19,7 +17,7 @@ use Rattle.protocol.specs.declared.setup.Setup.{Setup}
 use Rattle.protocol.specs.declared.tables.Tables.{Tables}
 use Rattle.protocol.specs.Setup.{volumeOf}
 use Rattle.protocol.specs.Tables.{standingAt, endAt}
-use Rattle.protocol.specs.Leases.{guardPassed, endOver}
+use Rattle.protocol.specs.Leases.{guardPassed, endOver, not-over}
 use Rattle.protocol.specs.Writes.{Counted, waited, ready, due, posted, completed, Staged, completeIf, settled, settling, clockStaged}
 use Rattle.protocol.specs.Ledger.{completion, settlingOf, isOpen, Ledger, book, bookAll}
 use Rattle.protocol.specs.Soundness.Shape.{Shape}
@@ -111,12 +109,12 @@ module _ (s : Setup) (T : ℕ) where
   }
 
   not-due : (c : Counted) (j : ℕ) → c .tables .clock ≡ T → due s (c .tables) j ≡ false → standingAt (c .tables) j ≡ true → T ≤ endAt (c .tables) j
-  unfolding due endOver
+  unfolding due
   not-due c j e f p = go (standingAt (c .tables) j) (not (waited s (c .tables) j) && guardPassed (c .tables) (volumeOf s j)) p f
     where
-      go : (stands b : Bool) → stands ≡ true → (stands && (b || ltb (endAt (c .tables) j) (c .tables .clock))) ≡ false → T ≤ endAt (c .tables) j
+      go : (stands b : Bool) → stands ≡ true → (stands && (b || endOver (c .tables .clock) (endAt (c .tables) j))) ≡ false → T ≤ endAt (c .tables) j
       go true true p f = not-both refl f
-      go true false p f = omega (arith, ltb-false (endAt (c .tables) j) (c .tables .clock) f, e)
+      go true false p f = omega (arith, not-over (c .tables .clock) (endAt (c .tables) j) f, e)
       go false b p f = not-both p refl
 
   kept-ended : (c : Counted) (j : ℕ) → due s (c .tables) j ≡ false → Ended T j c → Ended T (j + 1) c

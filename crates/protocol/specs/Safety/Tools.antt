@@ -19,7 +19,7 @@ use Rattle.protocol.specs.declared.records.Request.{Request}
 use Rattle.protocol.specs.declared.tables.Tables.{Tables}
 use Rattle.protocol.specs.Messages.{blank, messageAt, pushed, removed, hasRoom}
 use Rattle.protocol.specs.Tables.{byVolume, guardAt}
-use Rattle.protocol.specs.Leases.{serverAlive, clientAlive, clientClock, guardPassed, endOver}
+use Rattle.protocol.specs.Leases.{over-past, serverAlive, clientAlive, clientClock, guardPassed, endOver}
 use Rattle.protocol.specs.Client.{stands}
 use Rattle.protocol.specs.Safety.View.{Stands, requestAt, excused, left}
 use Rattle.protocol.specs.Safety.Invariant.{Sent}
@@ -64,8 +64,8 @@ earlier-alive clock later d e h p = let q = ltb-true later e p in lt-ltb clock e
 
 -- T4: what ends by a latest end that is over is dead; so is a guard that has passed
 pub over-dead : (clock end e : ℕ) → endOver clock end ≡ true → e ≤ end → serverAlive clock e ≡ false
-unfolding serverAlive endOver
-over-dead clock end e p h = let q = ltb-true end clock p in le-ltb clock e (omega arith)
+unfolding serverAlive
+over-dead clock end e p h = let q = over-past clock end p in le-ltb clock e (omega arith)
 
 pub passed-dead : (t : Tables) (v : ℕ) → guardPassed t v ≡ true → serverAlive (t .clock) (guardAt t v) ≡ false
 unfolding guardPassed
