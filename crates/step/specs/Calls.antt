@@ -10,7 +10,7 @@ use Rattle.protocol.specs.Setup.{inRange}
 use Rattle.protocol.specs.Tables.{valueAt}
 use Rattle.protocol.specs.World.{World, freshWorld, answerOf, stepped, ran, answers}
 use Rattle.protocol.specs.Agreement.{standingWrite, AgreesThroughout}
-use Rattle.protocol.specs.History.{history, lastCompleted, openIn, isCompletion, howOften, reportedIn, ShowsLast, EndsInTime, AddsUp, HistoryAgrees}
+use Rattle.protocol.specs.History.{history, lastCompleted, openIn, isCompletion, howOften, reportedIn, ShowsLast, EndsInTime, AddsUp}
 use Rattle.protocol.specs.Demand3.{demand-3, demand-3-in-words}
 
 -- From the first world to the last: a call of step x on `w` answered `a` and left `v`, which is what the contract of `step` says of them (`answers` and
