@@ -3,7 +3,6 @@ use Prim.Native.Nat.{ℕ, _≤_}
 use native.Mathlib.Omega.{arith}
 use mathlib.Core.Bool.{cond}
 use mathlib.Core.List.{List}
-use mathlib.Core.Path.{_≡_}
 use lib.ListN.{length, length-append}
 use Rattle.laws.specs.Choice.{cond-keeps}
 use Rattle.runfile.specs.File.{wellFormed}

@@ -80,10 +80,10 @@ module _ (s : Setup) (w : World) (x : Step) where
   says = ⊎-elim yes no (true-or-false (eqb (refusalAt s w x) 0))
     where
       yes : eqb (refusalAt s w x) 0 ≡ true → Says (answerOf s w x) (numberOf s w x) (valueOf s w x)
-      yes a = rw (accepted-answer s w x a, a) (performed-says s (w .tables) (copyOf s w x) (requestOf s w x) x (accepted s w x a .passes .knows))
+      yes e = rw (accepted-answer s w x e, e) (performed-says s (w .tables) (copyOf s w x) (requestOf s w x) x (accepted s w x e .passes .knows))
 
       no : eqb (refusalAt s w x) 0 ≡ false → Says (answerOf s w x) (numberOf s w x) (valueOf s w x)
-      no a = rw (refused-answer s w x a, a) (refl, refl)
+      no e = rw (refused-answer s w x e, e) (refl, refl)
 
   pub number-is : answerNumber (answerOf s w x) ≡ numberOf s w x
   number-is = says .0
