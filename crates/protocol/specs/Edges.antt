@@ -14,7 +14,8 @@ use Rattle.protocol.specs.declared.step.Step.{Step}
 use Rattle.protocol.specs.declared.tables.Tables.{Tables}
 use Rattle.protocol.specs.Setup.{inRange}
 use Rattle.protocol.specs.Messages.{message, pushed, removed}
-use Rattle.protocol.specs.Tables.{valueAt, standingAt, withClock, withVolumes, withObjects, withHolders, withQueue, freshTables}
+use Rattle.protocol.specs.Tables.{valueAt, standingAt, withClock, withVolumes, withObjects, withHolders, withQueue, freshVolumes, freshObjects, freshHolders, freshTables}
+use Rattle.protocol.specs.Updates.{withVolumeExpiry, withGuard, setWrite, setWaiting}
 use Rattle.protocol.specs.Leases.{serverAlive, clientAlive, clientClock, guardPassed, endOver}
 use Rattle.protocol.specs.Writes.{waits, latestEnd, opened, awaited, notified, waited, ready, due, deserted, posted, released, completed, settled, written}
 use Rattle.protocol.specs.Client.{swept, sweptAll}
@@ -50,17 +51,8 @@ with-tables t = record { tables = t; copies = freshWorld tiny .copies; requests 
 standing-until : ℕ → ℕ → Bool → Tables
 standing-until end guard waiting =
     withHolders
-    (withVolumes
-    (withObjects freshTables (record {
-      value = replicate 32 0;
-      version = replicate 32 1;
-      expiry = replicate 32 0;
-      standing = set (replicate 32 false) 0 true;
-      pending = set (replicate 32 0) 0 7;
-      end = set (replicate 32 0) 0 end;
-    }))
-    (record { epoch = replicate 8 1; expiry = replicate 8 guard; guard = replicate 8 guard }))
-    (record { lease = replicate 512 0; waiting = set (replicate 512 false) 0 waiting })
+    (withVolumes (withObjects freshTables (setWrite freshObjects 0 true 7 end)) (withGuard (withVolumeExpiry freshVolumes (replicate 8 guard)) (replicate 8 guard)))
+    (setWaiting freshHolders 0 0 waiting)
 
 -- the list full of OFFERs, the last with another number
 full-list : Queue

@@ -28,6 +28,7 @@ use Rattle.protocol.specs.Writes.{unstaged, latestEnd, begun, ready, set
 use Rattle.protocol.specs.Server.{noted, offered, volumeRenewed, objectRenewed, granted, lowestWaited, mustDrop, renewedBy, renewed, ackTaken, acked, ackStaged, dropTaken, dropped, ofVolume, dropStaged, serverRestarted, stale, beingWritten}
 use Rattle.protocol.specs.Client.{showable, stands, grantTaken}
 use Rattle.protocol.specs.Sound.{kindSound}
+use Rattle.protocol.specs.SoundLaws.{named}
 use Rattle.protocol.specs.Answers.{reported, completedAnswer}
 use Rattle.protocol.specs.Decide.{Received, uncounted, kept, answered, counting, received, grantReceived, invalidateReceived, offerReceived, taken, performed, readDecided, askDecided, deliverDecided, restartDecided}
 use Rattle.protocol.specs.Ledger.{Event, acceptance, serverRestart, clockStep, settlingOf, completions, receiptStaged, deliveryStaged, readEvents, happening, Ledger, book, bookAll}
@@ -172,7 +173,7 @@ module _ (s : Setup) (rs : Ranges s) (t : Tables) (k : Shape t) (b : Bounded s t
       → Settlement s l 0 (received s (taken t i) c r (messageAt (t .queue) i .client) (messageAt (t .queue) i .kind) .counted) (settlingOf s (deliveryStaged s t i))
   deliver-settles i p =
       let m = messageAt (t .queue) i in
-      let a = and-true (ltb (m .client) (s .clients)) (kindSound s (m .kind)) (named-at s rs t i b) in
+      let a = named s m (named-at s rs t i b) in
       received-settles s rs (taken t i) (taken-shape t i p k) c r (m .client) l (same-booked s t (taken t i) l (objects-same t _ refl) h) (m .kind) (a .1)
 
   deliver-recorded : (i : ℕ) → i < 64 → Recorded s l (deliverDecided s t c r i) (bookAll s l (completions s (deliveryStaged s t i)))

@@ -14,6 +14,7 @@ use Rattle.protocol.specs.declared.setup.Setup.{Setup}
 use Rattle.protocol.specs.declared.tables.Tables.{Tables}
 use Rattle.protocol.specs.Setup.{volumeOf}
 use Rattle.protocol.specs.Tables.{byVolume, unreachableAt, waitingAt, withSessions}
+use Rattle.protocol.specs.Updates.{withUnreachable}
 use Rattle.protocol.specs.Writes.{markIfWaiting, deserted}
 use Rattle.protocol.specs.World.{World}
 use Rattle.protocol.specs.Safety.View.{excused, View}
@@ -25,12 +26,7 @@ use Rattle.protocol.specs.Safety.Sending.{Keeps, each}
 use Rattle.protocol.specs.Ranges.{Ranges}
 
 abbrev pub marking : World → List Bool → World
-marking w un = withTables w (withSessions (w .tables) (record {
-  seen = w .tables .sessions .seen;
-  expiry = w .tables .sessions .expiry;
-  unreachable = un;
-  offer = w .tables .sessions .offer;
-}))
+marking w un = withTables w (withSessions (w .tables) (withUnreachable (w .tables .sessions) un))
 
 module _ (s : Setup) (w : World) (un : List Bool) (range : Ranges s)
     (marks : (d v : ℕ) → d < s .clients → v < s .volumes → unreachableAt (w .tables) d v ≡ true → getD un (byVolume d v) false ≡ true) (inv : Inv s w) where

@@ -12,6 +12,7 @@ use Rattle.protocol.specs.declared.setup.Setup.{Setup}
 use Rattle.protocol.specs.Setup.{volumeOf}
 use Rattle.protocol.specs.Tables.{byVolume, epochAt, seenAt, unreachableAt, offerAt, withSessions}
 use Rattle.protocol.specs.Server.{noted}
+use Rattle.protocol.specs.Updates.{withOffer}
 use Rattle.protocol.specs.World.{World}
 use Rattle.protocol.specs.Safety.View.{Stands, requestAt}
 use Rattle.protocol.specs.Safety.Invariant.{Inv, Header, HeaderIn, Answers, AnswersIn}
@@ -92,12 +93,7 @@ module _ (s : Setup) (range : Ranges s) (w : World) (inv : Inv s w) (d v n : ℕ
       (λ q. record { current = a .current; nonzero = a .nonzero; same = sym (q .1) ∙ a .same }) (at-offer k u hu)
 
   abbrev offering : World
-  offering = withTables w (withSessions (w .tables) (record {
-    seen = w .tables .sessions .seen;
-    expiry = w .tables .sessions .expiry;
-    unreachable = w .tables .sessions .unreachable;
-    offer = offer;
-  }))
+  offering = withTables w (withSessions (w .tables) (withOffer (w .tables .sessions) offer))
 
   keeps : Keeps s w offering
   keeps k (Renew o n′ e ver) z hk c = c

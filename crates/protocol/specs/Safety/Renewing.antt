@@ -6,7 +6,7 @@ use mathlib.Core.List.{List}
 use mathlib.Core.Logic.{inr, ⊎-elim}
 use mathlib.Core.Path.{_≡_, refl, _∙_}
 use lib.Dec.{ltb, eqb}
-use lib.ListN.{getD, length-set}
+use lib.ListN.{getD}
 use lib.Seq.{getD-set-same}
 use borrow.Author.Tests.{ltb-true, ltb-false, leb-false, eqb-true, not-false, eq-eqb}
 use Rattle.laws.specs.Choice.{not-both, cond-keeps, and-true, and-false, or-false}
@@ -20,7 +20,8 @@ use Rattle.protocol.specs.Writes.{marked, invalidation}
 use Rattle.protocol.specs.Server.{sent, noted, offered, offering, waitedIn, lowestWaited, mustDrop, granted, renewedBy, renewed, stale, beingWritten}
 use Rattle.protocol.specs.World.{World}
 use Rattle.protocol.specs.Ranges.{Ranges}
-use Rattle.protocol.specs.Soundness.Shape.{Shape, SessionsShape}
+use Rattle.protocol.specs.Soundness.ShapeKept.{noted-shape}
+use Rattle.protocol.specs.Soundness.Shape.{Shape}
 use Rattle.protocol.specs.Safety.Invariant.{Inv, KindOk}
 use Rattle.protocol.specs.Safety.Stores.{After, at-place, volume-set, client-fits}
 use Rattle.protocol.specs.Safety.Tools.{unmarked-trusted}
@@ -102,16 +103,8 @@ module _ (s : Setup) (range : Ranges s) (w : World) (inv : Inv s w) (shape : Sha
   by-grant keep none free =
       let a = or-false (not (eqb e (epochAt t v))) (unreachableAt t d v) keep in
       granted-keeps s range (withTables w t) noticed
-      (record { volumes = shape .volumes; sessions = noted-shape; objects = shape .objects; holders = shape .holders; views = shape .views; queue = shape .queue })
+      (noted-shape (w .tables) d n shape)
       d o hd ho (a .1) free (λ i h q. unmarked-trusted _ d v i (a .1)) (unwaited none) n e ver renew (eqb-true _ _ (not-false _ (a .0))) seen-now
-    where
-      noted-shape : SessionsShape (t .sessions)
-      noted-shape = record {
-        seen = length-set (w .tables .sessions .seen) d n ∙ shape .sessions .seen;
-        expiry = shape .sessions .expiry;
-        unreachable = shape .sessions .unreachable;
-        offer = shape .sessions .offer;
-      }
 
   pub renewed-new : Inv s (withTables w (renewedBy s t d o n e ver))
   unfolding renewedBy

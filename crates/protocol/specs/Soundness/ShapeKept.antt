@@ -71,7 +71,7 @@ settled-shape s g h =
     (record { count = 0; tables = g .tables }) (g .from) (g .many) h
 
 -- ---- messages received by the server
-noted-shape : (t : Tables) (d n : ℕ) → Shape t → Shape (noted t d n)
+pub noted-shape : (t : Tables) (d n : ℕ) → Shape t → Shape (noted t d n)
 unfolding noted
 noted-shape t d n h = sessions-shape (seen-shape _ (simp length-set) (h .sessions)) h
 
