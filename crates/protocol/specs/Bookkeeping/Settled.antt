@@ -31,11 +31,11 @@ OnlyStanding test = (t : Tables) (o : ℕ) → test t o ≡ true → standingAt 
 
 pub ready-stands : (s : Setup) → OnlyStanding (ready s)
 unfolding ready
-ready-stands s t o e = and-true (standingAt t o) (not (waited s t o) && guardPassed t (volumeOf s o)) e .0
+ready-stands s t o e = and-true (standingAt t o) _ e .0
 
 pub due-stands : (s : Setup) → OnlyStanding (due s)
 unfolding due
-due-stands s t o e = and-true (standingAt t o) (not (waited s t o) && guardPassed t (volumeOf s o) || endOver (t .clock) (endAt t o)) e .0
+due-stands s t o e = and-true (standingAt t o) _ e .0
 
 -- each write is open when it completes, one after the other
 unfoldable pub OpenEach : Setup → Ledger → List ℕ → Type 0
