@@ -24,7 +24,7 @@ module _ (p : ℕ → Bool) where
       pick r (inl e) = rw e (lt-ltb j (j + suc n) (omega arith))
       pick r (inr e) = rw (e, same) r
 
-  -- the same laws at N - j left
+  -- what is found among the N - j numbers left
   module _ (N j k : ℕ) (l : j ≤ N) (f : k ≡ firstFrom p j (N - j)) where
     whole : j + (N - j) ≡ N
     whole = omega arith

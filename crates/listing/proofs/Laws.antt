@@ -13,7 +13,8 @@ use Rattle.protocol.specs.declared.step.Answer.{Answer}
 use Rattle.protocol.specs.declared.step.Answer.the-variants.{Completed, Delivered}
 use Rattle.protocol.specs.Answers.{doneOrCompleted, answerNumber, answerValue}
 use Rattle.listing.specs.Decimal.{digit, digits, further, width, decimal, length-digits, length-decimal, further-most}
-use Rattle.listing.specs.Written.{Written, written-then, sets-then, sets-past}
+use Rattle.layout.specs.Number.{sets-then}
+use Rattle.listing.specs.Written.{Written, written-then, sets-past}
 use Rattle.listing.specs.Listing.{field, line, lineOf, header, refusedListing, length-header}
 
 module _ (n : ℕ) where

@@ -4,7 +4,7 @@ use native.Mathlib.Omega.{arith}
 use mathlib.Core.List.{List, [], _∷_, _++_}
 use mathlib.Core.Path.{_≡_, refl, sym}
 use lib.ListN.{length, set, length-append}
-use lib.Seq.{sets, set-comm, length-sets}
+use lib.Seq.{sets, set-comm}
 use Rattle.layout.specs.Number.{Stored, stored-then}
 
 -- m is l with the bytes b at place p, and r is the place after them
@@ -18,15 +18,7 @@ written-then l m r p q e a b f g = record {
   bytes = stored-then l m r p q a b (f .bytes) (g .bytes) (sym (f .next));
 }
 
--- stores one after the other
-pub sets-then : (l : List ℕ) (p : ℕ) (a b : List ℕ) → sets (sets l p a) (p + length a) b ≡ sets l p (a ++ b)
-sets-then l p a b =
-    stored-then l (sets l p a) (sets (sets l p a) (p + length a) b) p (p + length a) a b
-    (record { stored = refl; long = length-sets l p a })
-    (record { stored = refl; long = length-sets (sets l p a) (p + length a) b })
-    refl .stored
-
--- a store past them can come first
+-- a store past bytes written can come first
 pub sets-past : (l : List ℕ) (p q d : ℕ) (b : List ℕ) → p + length b ≤ q → sets (set l q d) p b ≡ set (sets l p b) q d
 sets-past l p q d [] h = refl
 sets-past l p q d (x ∷ b) h =

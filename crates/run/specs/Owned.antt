@@ -3,14 +3,16 @@ use Prim.Native.Nat.{ℕ, zero, suc, _+_, _-_, _*_, _<_, _≤_}
 use native.Mathlib.Nat.{mul-le-mul, mul-le-mul-right, suc-mul}
 use native.Mathlib.Omega.{arith}
 use mathlib.Core.Bool.{true, false, cond}
-use mathlib.Core.List.{List, [], _∷_}
+use mathlib.Core.List.{List}
 use mathlib.Core.Path.{_≡_, refl, sym, ap, _∙_}
 use lib.Dec.{ltb}
 use lib.ListN.{length, getD, set, take, length-set, List·getD-eq-default}
 use lib.Seq.{set-getD, take-set-le, take-set-lt, set-out, getD-take, length-take-le}
 use borrow.Author.Tests.{ltb-true, ltb-false}
 use Rattle.laws.specs.Choice.{cond-keeps}
+use Rattle.laws.specs.Each.{cleared}
 use Rattle.laws.specs.Loop.{foldFrom, fold-keeps}
+use Rattle.laws.specs.Store.{pass-past}
 use Rattle.protocol.specs.declared.records.Copy.{Copy}
 use Rattle.protocol.specs.declared.records.Request.{Request}
 use Rattle.protocol.specs.declared.setup.Setup.{Setup}
@@ -23,7 +25,7 @@ use Rattle.protocol.specs.declared.step.Target.{Target}
 use Rattle.protocol.specs.declared.tables.Tables.{Tables}
 use Rattle.protocol.specs.Setup.{inRange}
 use Rattle.protocol.specs.Tables.{noCopy, noRequest}
-use Rattle.protocol.specs.Client.{sweeps, sweepAt, sweptAll}
+use Rattle.protocol.specs.Client.{swept, sweeps, sweepAt, sweptAll}
 use Rattle.protocol.specs.Gate.{isDeliver, refusalOfStep, refusal}
 use Rattle.protocol.specs.Decide.{kept, answered, decidedBy, decided}
 use Rattle.protocol.specs.World.{World, target, decision, copiesAfter, requestsAfter, stepped, answerOf}
@@ -74,11 +76,6 @@ abbrev pub requestsLeft : Setup → List Request → Target → Decision → Lis
 requestsLeft s rs a d = set (requestsStored s rs a d) 16 noRequest
 
 -- ---- items of the setup in an array with a spare place
-emptied {ℓ} : {A : Type ℓ} (l : List A) (i : ℕ) (d : A) → getD (set l i d) i d ≡ d
-emptied [] i d = refl
-emptied (a ∷ l) zero d = refl
-emptied (a ∷ l) (suc i) d = emptied l i d
-
 module _ {ℓ} {A : Type ℓ} (n spare : ℕ) (l : List A) (k : n ≤ spare) (h : spare < length l) where
   taken : length (take n l) ≡ n
   taken = length-take-le n l (omega arith)
@@ -110,12 +107,6 @@ module _ (s : Setup) (g : Sweep) (first : ℕ) where
       sweep-inside n (j + 1) m (sweepAt s g first l j) (omega arith)
       ∙ rw (take-set-lt n l j _ k, ← getD-take n l j noCopy k)
 
-  -- past the end
-  sweep-past : (j m : ℕ) (l : List Copy) → length l ≤ j → foldFrom (sweepAt s g first) l j m ≡ l
-  unfolding foldFrom
-  sweep-past j zero l h = refl
-  sweep-past j (suc m) l h = rw (set-out l j) (sweep-past (j + 1) m l (omega arith))
-
   pub sweep-length : (j m : ℕ) (l : List Copy) → length (foldFrom (sweepAt s g first) l j m) ≡ length l
   sweep-length j m l = fold-keeps (λ (k : List Copy). length k ≡ length l) (sweepAt s g first) (λ k i e. simp length-set e) l j m refl
 
@@ -135,7 +126,7 @@ module _ (s : Setup) (g : Sweep) (client : ℕ) (l : List Copy) (h : copyCount s
       cond-keeps (λ (m : ℕ). take (copyCount s) (foldFrom (sweepAt s g start) l start m) ≡ foldFrom (sweepAt s g start) (take (copyCount s) l) start (sweeps g (s .objects)))
       (ltb client (s .clients))
       (λ e. sweep-inside s g start (copyCount s) start (sweeps g (s .objects)) l (inside (ltb-true _ _ e)))
-      (λ e. sym (sweep-past s g start start (sweeps g (s .objects)) (take (copyCount s) l) (past (ltb-false _ _ e))))
+      (λ e. sym (pass-past (λ m k. swept s g (getD m k noCopy) (k - start)) (take (copyCount s) l) start (sweeps g (s .objects)) (past (ltb-false _ _ e))))
     where
       inside : client < s .clients → start + sweeps g (s .objects) ≤ copyCount s
       inside e =
@@ -234,6 +225,6 @@ module _ (s : Setup) (t : Tables) (cs : List Copy) (rs : List Request) (i : inRa
       sound = rw world-after (stepped-sound s before x (o .sound));
       copies = simp (length-set, sweep-length) (o .copies);
       requests = simp length-set (o .requests);
-      no-copy = emptied (copiesSwept s cs (target s t x) d) 512 noCopy;
-      no-request = emptied (requestsStored s rs (target s t x) d) 16 noRequest;
+      no-copy = cleared (copiesSwept s cs (target s t x) d) 512;
+      no-request = cleared (requestsStored s rs (target s t x) d) 16;
     }

@@ -27,7 +27,8 @@ use Rattle.protocol.specs.Soundness.Question.{fresh-sound}
 use Rattle.runfile.specs.File.{placeOf, stepIn, stepAt}
 use Rattle.runfile.specs.Steps.{stepsFrom}
 use Rattle.listing.specs.Listing.{line, lineOf, linesFrom, line-short, answer-small}
-use Rattle.listing.specs.Written.{Written, sets-then}
+use Rattle.layout.specs.Number.{sets-then}
+use Rattle.listing.specs.Written.{Written}
 use Rattle.run.specs.declared.steps.Left.{Left}
 use Rattle.run.specs.Owned.{copyCount, worldOf, Owned, decidedOn, copiesLeft, requestsLeft, copySeen, requestSeen, kept-after, world-after, answer-after, owned-after}
 
