@@ -4,7 +4,6 @@ use mathlib.Core.Bool.{Bool, true, false, cond, not, _&&_}
 use mathlib.Core.Path.{_≡_, refl}
 use lib.Dec.{eqb}
 use Rattle.protocol.specs.declared.records.Copy.{Copy}
-use Rattle.protocol.specs.declared.records.Request.{Request}
 use Rattle.protocol.specs.declared.setup.Setup.{Setup}
 use Rattle.protocol.specs.declared.step.Answer.{Answer}
 use Rattle.protocol.specs.declared.step.Answer.the-variants.{Shown, AskFirst}
@@ -18,13 +17,12 @@ use Rattle.protocol.specs.Decide.{kept, answered, readDecided}
 unfoldable pub shownAt : ℕ → ℕ → Copy → Bool
 shownAt clock expiry c = not (eqb (c .version) 0) && (clientAlive clock expiry && clientAlive clock (c .expiry))
 
-either : (b : Bool) (t : Tables) (c : Copy) (r : Request) → answered (kept c r) t (cond b (Shown (c .value)) AskFirst)
-    ≡ cond b (answered (kept c r) t (Shown (c .value))) (answered (kept c r) t AskFirst)
-either true t c r = refl
-either false t c r = refl
+either : (b : Bool) (t : Tables) (c : Copy) → answered kept t (cond b (Shown (c .value)) AskFirst) ≡ cond b (answered kept t (Shown (c .value))) (answered kept t AskFirst)
+either true t c = refl
+either false t c = refl
 
 -- what `steps::read` answers is all that a read decides
-pub read-answered : (s : Setup) (t : Tables) (c : Copy) (r : Request) (d o : ℕ) (a : Answer)
-    → a ≡ cond (shownAt (t .clock) (viewExpiryAt t d (volumeOf s o)) c) (Shown (c .value)) AskFirst → answered (kept c r) t a ≡ readDecided s t c r d o
+pub read-answered : (s : Setup) (t : Tables) (c : Copy) (d o : ℕ) (a : Answer)
+    → a ≡ cond (shownAt (t .clock) (viewExpiryAt t d (volumeOf s o)) c) (Shown (c .value)) AskFirst → answered kept t a ≡ readDecided s t c d o
 unfolding readDecided showable shownAt clientClock
-read-answered s t c r d o a e = rw e (either (showable s t c d o) t c r)
+read-answered s t c d o a e = rw e (either (showable s t c d o) t c)

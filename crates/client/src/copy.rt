@@ -2,13 +2,14 @@ ghost use mathlib.Core.Path.{_≡_};
 ghost use Rattle.protocol.specs.Leases.{clientAlive};
 ghost use Rattle.protocol.specs.Setup.{volumeOf};
 ghost use Rattle.protocol.specs.Tables.{noCopy};
-ghost use Rattle.protocol.specs.Client.{storable, grantTaken, payloadOr, filled, swept};
+ghost use Rattle.protocol.specs.Client.{storable, grantTaken, payloadOr, filled, changed, swept};
 ghost use Rattle.client.specs.Shown.{shownAt};
 use crate::request;
 use protocol::message::Payload;
 use protocol::records::Copy;
 use protocol::records::Request;
 use protocol::setup::Setup;
+use protocol::step::CopyChange;
 use protocol::step::Sweep;
 
 // "A lease is alive when its expiry is greater than the clock.": by the client's clock.
@@ -74,6 +75,17 @@ pub fn none() -> Copy
         version: 0,
         value: 0,
         expiry: 0,
+    }
+}
+
+// What a change makes of a copy.
+pub fn change(c: Copy, u: CopyChange) -> Copy
+    ensures { λ r. ⌜ r ≡ changed c u ⌝ }
+{
+    match u {
+        CopyChange::Keep => c,
+        CopyChange::Fill(f) => f,
+        CopyChange::Erase => none(),
     }
 }
 

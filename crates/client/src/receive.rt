@@ -16,7 +16,9 @@ use protocol::records::Copy;
 use protocol::records::Request;
 use protocol::setup::Setup;
 use protocol::step::Change;
+use protocol::step::CopyChange;
 use protocol::step::Sweep;
+use protocol::step::Turn;
 
 // What becomes of the client's records, and what it sends. What it knows of its volumes changes in the lent lists.
 pub struct Heard {
@@ -25,13 +27,13 @@ pub struct Heard {
 }
 
 // A message that is not taken.
-fn ignored(c: Copy, r: Request) -> Heard
-    ensures { λ g. ⌜ g ≡ record { change = kept c r; reply = Reply.Nothing } ⌝ }
+fn ignored() -> Heard
+    ensures { λ g. ⌜ g ≡ record { change = kept; reply = Reply.Nothing } ⌝ }
 {
     Heard {
         change: Change {
-            copy: c,
-            request: r,
+            copy: CopyChange::Keep,
+            request: Turn::Keep,
             sweep: Sweep::Keep,
         },
         reply: Reply::Nothing,
@@ -63,14 +65,14 @@ pub fn grant(
         view::put(&mut *expiries, client as usize, v, lease);
         return Heard {
             change: Change {
-                copy: copy::fill(c, version, expiry, payload),
-                request: request::end(r),
+                copy: CopyChange::Fill(copy::fill(c, version, expiry, payload)),
+                request: Turn::End,
                 sweep: Sweep::Keep,
             },
             reply: Reply::Nothing,
         };
     }
-    ignored(c, r)
+    ignored()
 }
 
 // INVALIDATE: "erase the copy, forget a standing request for that object, send ACK with the same epoch and new version".
@@ -87,7 +89,7 @@ pub fn invalidate(r: Request, client: u8, object: u8, epoch: u32, version: u32) 
     };
     Heard {
         change: Change {
-            copy: copy::none(),
+            copy: CopyChange::Erase,
             request: request::forget(r, object),
             sweep: Sweep::Keep,
         },
@@ -97,7 +99,6 @@ pub fn invalidate(r: Request, client: u8, object: u8, epoch: u32, version: u32) 
 
 // OFFER: "Take its epoch, set that volume's expiry and all its object expiries to 0, end the request, send DROPPED with that number and epoch."
 pub fn offer(
-    c: Copy,
     r: Request,
     client: u8,
     volume: u8,
@@ -107,7 +108,7 @@ pub fn offer(
     expiries: &mut [u32; 128],
 ) -> Heard
     requires { ⌜ (client < 16) × (volume < 8) ⌝ }
-    ensures { λ g. ⌜ ((t : Tables) → byClient (g .change) (replied (withViews t (record { epoch = now (epochs .exit); expiry = now (expiries .exit) })) (g .reply)) ≡ offerReceived (withViews t (record { epoch = now (epochs .entry); expiry = now (expiries .entry) })) c r client volume number epoch) ⌝ }
+    ensures { λ g. ⌜ ((t : Tables) → byClient (g .change) (replied (withViews t (record { epoch = now (epochs .exit); expiry = now (expiries .exit) })) (g .reply)) ≡ offerReceived (withViews t (record { epoch = now (epochs .entry); expiry = now (expiries .entry) })) r client volume number epoch) ⌝ }
 {
     if request::stands(r, number) {
         let m = Message {
@@ -122,12 +123,12 @@ pub fn offer(
         view::put(&mut *expiries, client as usize, volume as usize, 0);
         return Heard {
             change: Change {
-                copy: c,
-                request: request::end(r),
+                copy: CopyChange::Keep,
+                request: Turn::End,
                 sweep: Sweep::Expire(volume),
             },
             reply: Reply::Send(m),
         };
     }
-    ignored(c, r)
+    ignored()
 }

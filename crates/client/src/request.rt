@@ -1,7 +1,8 @@
 ghost use mathlib.Core.Path.{_≡_};
 ghost use Prim.Native.Nat.{_<_};
-ghost use Rattle.protocol.specs.Client.{numbered, ended, stands, forgotten};
+ghost use Rattle.protocol.specs.Client.{numbered, ended, turned, CanTurn, stands, forgotten};
 use protocol::records::Request;
+use protocol::step::Turn;
 
 // Step 3: "take the next number, replace the standing request".
 pub fn number(r: Request, object: u8) -> Request
@@ -28,6 +29,18 @@ pub fn end(r: Request) -> Request
     }
 }
 
+// What a turn makes of a request.
+pub fn turn(r: Request, u: Turn) -> Request
+    requires { ⌜ CanTurn r u ⌝ }
+    ensures { λ q. ⌜ q ≡ turned r u ⌝ }
+{
+    match u {
+        Turn::Keep => r,
+        Turn::Take(object) => number(r, object),
+        Turn::End => end(r),
+    }
+}
+
 // "needs the standing number".
 pub fn stands(r: Request, number: u32) -> bool
     ensures { λ b. ⌜ b ≡ stands r number ⌝ }
@@ -36,11 +49,11 @@ pub fn stands(r: Request, number: u32) -> bool
 }
 
 // INVALIDATE: "forget a standing request for that object".
-pub fn forget(r: Request, object: u8) -> Request
-    ensures { λ q. ⌜ q ≡ forgotten r object ⌝ }
+pub fn forget(r: Request, object: u8) -> Turn
+    ensures { λ u. ⌜ u ≡ forgotten r object ⌝ }
 {
     if r.standing & (r.object == object) {
-        return end(r);
+        return Turn::End;
     }
-    r
+    Turn::Keep
 }

@@ -13,8 +13,10 @@ use Rattle.protocol.specs.declared.message.Payload.{Payload}
 use Rattle.protocol.specs.declared.message.Queue.{Queue}
 use Rattle.protocol.specs.declared.setup.Setup.{Setup}
 use Rattle.protocol.specs.declared.step.Step.{Step}
-use Rattle.protocol.specs.declared.step.Sweep.the-variants.{Erase}
+use Rattle.protocol.specs.declared.step.CopyChange.the-variants as copy
+use Rattle.protocol.specs.declared.step.Sweep.the-variants as sweep
 use Rattle.protocol.specs.declared.step.Target.{Target}
+use Rattle.protocol.specs.declared.step.Turn.the-variants as request
 use Rattle.protocol.specs.declared.tables.Views.{Views}
 use Rattle.protocol.specs.declared.tables.Tables.{Tables}
 use Rattle.protocol.specs.declared.records.Copy.{Copy}
@@ -22,7 +24,7 @@ use Rattle.protocol.specs.declared.records.Request.{Request}
 use Rattle.protocol.specs.declared.step.Answer.the-variants.{Done, Completed, Delivered}
 use Rattle.protocol.specs.declared.step.Decision.{Decision}
 use Rattle.protocol.specs.Setup.{volumeOf, inRange}
-use Rattle.protocol.specs.Client.{renewal, numbered, ended, clientRestarted}
+use Rattle.protocol.specs.Client.{renewal, clientRestarted}
 use Rattle.protocol.specs.Messages.{messageAt, objectOf, pushed, doubled}
 use Rattle.protocol.specs.Tables.{withViews, withQueue}
 use Rattle.protocol.specs.Writes.{Counted, settled, writeStaged, clockStaged}
@@ -91,7 +93,7 @@ pub ruleset named = (client-16, object-32, volume-8, volume-of-8, volumes-8, ren
 
 -- a message received, by its kind
 module _ (s : Setup) (t : Tables) (c : Copy) (r : Request) (d : ℕ) (k : Kind) where
-  pub receive-renew : (o n e w : ℕ) (u : Tables) → k ≡ Renew o n e w → u ≡ renewed s t d o n e w → byServer c r (uncounted u) ≡ received s t c r d k
+  pub receive-renew : (o n e w : ℕ) (u : Tables) → k ≡ Renew o n e w → u ≡ renewed s t d o n e w → byServer (uncounted u) ≡ received s t c r d k
   unfolding received
   receive-renew o n e w u q h = rw (q, h)
 
@@ -103,15 +105,15 @@ module _ (s : Setup) (t : Tables) (c : Copy) (r : Request) (d : ℕ) (k : Kind) 
   unfolding received
   receive-invalidate o e w g q h = rw q h
 
-  pub receive-ack : (o e w : ℕ) (m : Counted) → k ≡ Ack o e w → m ≡ settled s (ackStaged s t d o e w) → byServer c r m ≡ received s t c r d k
+  pub receive-ack : (o e w : ℕ) (m : Counted) → k ≡ Ack o e w → m ≡ settled s (ackStaged s t d o e w) → byServer m ≡ received s t c r d k
   unfolding received
   receive-ack o e w m q h = rw (q, h)
 
-  pub receive-offer : (v n e : ℕ) (g : Received) → k ≡ Offer v n e → g ≡ offerReceived t c r d v n e → g ≡ received s t c r d k
+  pub receive-offer : (v n e : ℕ) (g : Received) → k ≡ Offer v n e → g ≡ offerReceived t r d v n e → g ≡ received s t c r d k
   unfolding received
   receive-offer v n e g q h = rw q h
 
-  pub receive-dropped : (v n e : ℕ) (m : Counted) → k ≡ Dropped v n e → m ≡ settled s (dropStaged s t d v n e) → byServer c r m ≡ received s t c r d k
+  pub receive-dropped : (v n e : ℕ) (m : Counted) → k ≡ Dropped v n e → m ≡ settled s (dropStaged s t d v n e) → byServer m ≡ received s t c r d k
   unfolding received
   receive-dropped v n e m q h = rw (q, h)
 
@@ -130,28 +132,28 @@ some-completed n h = rw (ne-eqb _ _ h)
 
 -- an accepted step, by its kind
 module _ (s : Setup) (t : Tables) (c : Copy) (r : Request) (x : Step) (d : Decision) where
-  pub by-clock : (n : Counted) → x .kind ≡ 1 → n ≡ settled s (clockStaged s t (x .clock)) → d ≡ counting c r n → d ≡ performed s t c r x
+  pub by-clock : (n : Counted) → x .kind ≡ 1 → n ≡ settled s (clockStaged s t (x .clock)) → d ≡ counting n → d ≡ performed s t c r x
   by-clock n k h e = rw (clock-performed s t c r x k, ← h) e
 
-  pub by-read : x .kind ≡ 2 → d ≡ readDecided s t c r (x .client) (x .object) → d ≡ performed s t c r x
+  pub by-read : x .kind ≡ 2 → d ≡ readDecided s t c (x .client) (x .object) → d ≡ performed s t c r x
   by-read k e = rw (read-performed s t c r x k) e
 
   pub by-ask : x .kind ≡ 3 → d ≡ askDecided s t c r (x .client) (x .object) → d ≡ performed s t c r x
   by-ask k e = rw (ask-performed s t c r x k) e
 
-  pub by-write : (n : Counted) → x .kind ≡ 4 → n ≡ settled s (writeStaged s t (x .object) (x .value)) → d ≡ counting c r n → d ≡ performed s t c r x
+  pub by-write : (n : Counted) → x .kind ≡ 4 → n ≡ settled s (writeStaged s t (x .object) (x .value)) → d ≡ counting n → d ≡ performed s t c r x
   by-write n k h e = rw (write-performed s t c r x k, ← h) e
 
   pub by-deliver : x .kind ≡ 5 → d ≡ deliverDecided s t c r (x .place) → d ≡ performed s t c r x
   by-deliver k e = rw (deliver-performed s t c r x k) e
 
-  pub by-lose : (u : Tables) → x .kind ≡ 6 → u ≡ taken t (x .place) → d ≡ answered (kept c r) u Done → d ≡ performed s t c r x
+  pub by-lose : (u : Tables) → x .kind ≡ 6 → u ≡ taken t (x .place) → d ≡ answered kept u Done → d ≡ performed s t c r x
   by-lose u k h e = rw (lose-performed s t c r x k, ← h) e
 
-  pub by-double : (u : Tables) → x .kind ≡ 7 → u ≡ withQueue t (doubled (t .queue) (x .place)) → d ≡ answered (kept c r) u Done → d ≡ performed s t c r x
+  pub by-double : (u : Tables) → x .kind ≡ 7 → u ≡ withQueue t (doubled (t .queue) (x .place)) → d ≡ answered kept u Done → d ≡ performed s t c r x
   by-double u k h e = rw (double-performed s t c r x k, ← h) e
 
-  pub by-restart-server : (u : Tables) → x .kind ≡ 8 → u ≡ serverRestarted s t → d ≡ answered (kept c r) u Done → d ≡ performed s t c r x
+  pub by-restart-server : (u : Tables) → x .kind ≡ 8 → u ≡ serverRestarted s t → d ≡ answered kept u Done → d ≡ performed s t c r x
   by-restart-server u k h e = rw (server-performed s t c r x k, ← h) e
 
 -- which kinds are the server's
@@ -162,15 +164,15 @@ pub elsewhere : (x : Step) → (isClock x || isWrite x || isRestartServer x) ≡
 elsewhere x e = (λ h. not-both refl (rw h at e), (λ h. not-both refl (rw h at e), λ h. not-both refl (rw h at e)))
 
 -- an ask, and a client's restart
-pub asks : (s : Setup) (t : Tables) (c : Copy) (r q : Request) (d o : ℕ) (m : Message) (l : Queue) → m ≡ renewal s t c r d o → l ≡ pushed (t .queue) m → q ≡ numbered r o
-    → answered (kept c q) (withQueue t l) Done ≡ askDecided s t c r d o
+pub asks : (s : Setup) (t : Tables) (c : Copy) (r : Request) (d o : ℕ) (m : Message) (l : Queue) → m ≡ renewal s t c r d o → l ≡ pushed (t .queue) m
+    → answered (record { copy = copy.Keep; request = request.Take o; sweep = sweep.Keep }) (withQueue t l) Done ≡ askDecided s t c r d o
 unfolding askDecided
-asks s t c r q d o m l e f g = rw (f, e, g)
+asks s t c r d o m l e f = rw (f, e)
 
-pub restarts : (s : Setup) (t : Tables) (c : Copy) (r q : Request) (d : ℕ) (v : Views) → v ≡ clientRestarted s (t .views) d → q ≡ ended r
-    → answered (record { copy = c; request = q; sweep = Erase }) (withViews t v) Done ≡ restartDecided s t c r d
+pub restarts : (s : Setup) (t : Tables) (d : ℕ) (v : Views) → v ≡ clientRestarted s (t .views) d
+    → answered (record { copy = copy.Keep; request = request.End; sweep = sweep.Erase }) (withViews t v) Done ≡ restartDecided s t d
 unfolding restartDecided
-restarts s t c r q d v e f = rw (e, f)
+restarts s t d v e = rw e
 
 -- what is left of the kinds: 9
 module _ (s : Setup) (t : Tables) (r : Request) (x : Step) (e : refusalOfStep s t r x ≡ 0) (n1 : x .kind ≡ 1 → ⊥) (n2 : x .kind ≡ 2 → ⊥) (n3 : x .kind ≡ 3 → ⊥)
@@ -186,7 +188,7 @@ module _ (s : Setup) (t : Tables) (r : Request) (x : Step) (e : refusalOfStep s 
   pub last-client : x .client < s .clients
   last-client = client-exists (passed s t r x e) (rw last)
 
-  pub by-last : (c : Copy) (d : Decision) → d ≡ restartDecided s t c r (x .client) → d ≡ performed s t c r x
+  pub by-last : (c : Copy) (d : Decision) → d ≡ restartDecided s t (x .client) → d ≡ performed s t c r x
   by-last c d h = rw (client-performed s t c r x last) h
 
 module _ (s : Setup) (t : Tables) (records : Bool) (c : Copy) (r : Request) (x : Step) (k : ℕ) (p : k ≡ refusal s t records r x) where
@@ -203,7 +205,7 @@ module _ (s : Setup) (t : Tables) (records : Bool) (c : Copy) (r : Request) (x :
   unfolding decided
   decided-accepted d h e = rw (← p, h) e
 
-  pub decided-refused : (k ≡ 0 → ⊥) → refusedWith t c r k ≡ decided s t records c r x
+  pub decided-refused : (k ≡ 0 → ⊥) → refusedWith t k ≡ decided s t records c r x
   unfolding decided
   decided-refused h = rw (← p, ne-eqb _ _ h)
 

@@ -16,8 +16,10 @@ use protocol::records::Request;
 use protocol::setup::Setup;
 use protocol::step::Answer;
 use protocol::step::Change;
+use protocol::step::CopyChange;
 use protocol::step::Step;
 use protocol::step::Sweep;
+use protocol::step::Turn;
 use protocol::tables::Objects;
 use protocol::tables::Volumes;
 
@@ -40,8 +42,8 @@ pub fn perform(
     ensures { λ p. ⌜ ((v : Sessions) (l : List ℕ) (k : List Bool) → answered (p .change) (tablesOf (p .clock) (p .volumes) v (p .objects) l k (record { epoch = now (epochs .exit); expiry = now (expiries .exit) }) (p .queue)) (p .answer) ≡ performed s (tablesOf clock w v b l k (record { epoch = now (epochs .entry); expiry = now (expiries .entry) }) q) c r x) ⌝ }
 {
     let kept = Change {
-        copy: c,
-        request: r,
+        copy: CopyChange::Keep,
+        request: Turn::Keep,
         sweep: Sweep::Keep,
     };
     if x.kind == 2 {
@@ -59,8 +61,8 @@ pub fn perform(
         let m = client::steps::ask(s, &*epochs, c, r, x.client, x.object);
         let sent = queue::push(q, m);
         let asked = Change {
-            copy: c,
-            request: client::request::number(r, x.object),
+            copy: CopyChange::Keep,
+            request: Turn::Take(x.object),
             sweep: Sweep::Keep,
         };
         return Performed {
@@ -96,8 +98,8 @@ pub fn perform(
     }
     client::steps::restart(&mut *epochs, &mut *expiries, s, x.client);
     let erased = Change {
-        copy: c,
-        request: client::request::end(r),
+        copy: CopyChange::Keep,
+        request: Turn::End,
         sweep: Sweep::Erase,
     };
     Performed {

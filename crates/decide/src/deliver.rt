@@ -19,7 +19,9 @@ use protocol::records::Request;
 use protocol::setup::Setup;
 use protocol::step::Answer;
 use protocol::step::Change;
+use protocol::step::CopyChange;
 use protocol::step::Sweep;
+use protocol::step::Turn;
 use protocol::tables::Objects;
 use protocol::tables::Volumes;
 use renewals::receive::receive_renew;
@@ -36,13 +38,13 @@ pub struct Handled {
 }
 
 // The server received: the client's records stay.
-fn by_server(c: Copy, r: Request, w: Volumes, b: Objects, n: u32, y: Reply) -> Handled
-    ensures { λ g. ⌜ g ≡ record { change = kept c r; volumes = w; objects = b; count = n; reply = y } ⌝ }
+fn by_server(w: Volumes, b: Objects, n: u32, y: Reply) -> Handled
+    ensures { λ g. ⌜ g ≡ record { change = kept; volumes = w; objects = b; count = n; reply = y } ⌝ }
 {
     Handled {
         change: Change {
-            copy: c,
-            request: r,
+            copy: CopyChange::Keep,
+            request: Turn::Keep,
             sweep: Sweep::Keep,
         },
         volumes: w,
@@ -121,7 +123,7 @@ pub fn receive(
             let volumes = g.volumes;
             let objects = g.objects;
             let reply = g.reply;
-            by_server(c, r, volumes, objects, 0, reply)
+            by_server(volumes, objects, 0, reply)
         }
         Kind::Grant {
             object,
@@ -176,7 +178,7 @@ pub fn receive(
                 version,
             );
             let objects = g.objects;
-            by_server(c, r, w, objects, g.count, Reply::Nothing)
+            by_server(w, objects, g.count, Reply::Nothing)
         }
         Kind::Offer {
             volume,
@@ -184,7 +186,6 @@ pub fn receive(
             epoch,
         } => {
             let h = client::receive::offer(
-                c,
                 r,
                 client,
                 volume,
@@ -216,7 +217,7 @@ pub fn receive(
                 epoch,
             );
             let objects = g.objects;
-            by_server(c, r, w, objects, g.count, Reply::Nothing)
+            by_server(w, objects, g.count, Reply::Nothing)
         }
     }
 }

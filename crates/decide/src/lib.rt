@@ -6,10 +6,12 @@ use protocol::records::Request;
 use protocol::setup::Setup;
 use protocol::step::Answer;
 use protocol::step::Change;
+use protocol::step::CopyChange;
 use protocol::step::Decision;
 use protocol::step::Outcome;
 use protocol::step::Step;
 use protocol::step::Sweep;
+use protocol::step::Turn;
 use protocol::tables::Tables;
 
 pub mod client_steps;
@@ -29,8 +31,8 @@ pub fn decide(s: Setup, t: Tables, sound: bool, c: Copy, r: Request, x: Step) ->
     }
     Decision {
         change: Change {
-            copy: c,
-            request: r,
+            copy: CopyChange::Keep,
+            request: Turn::Keep,
             sweep: Sweep::Keep,
         },
         outcome: Outcome {

@@ -16,8 +16,10 @@ use protocol::records::Request;
 use protocol::setup::Setup;
 use protocol::step::Answer;
 use protocol::step::Change;
+use protocol::step::CopyChange;
 use protocol::step::Step;
 use protocol::step::Sweep;
+use protocol::step::Turn;
 use protocol::tables::Objects;
 use protocol::tables::Volumes;
 use writes::settle::Trigger;
@@ -63,8 +65,8 @@ pub fn perform(
     ensures { λ p. ⌜ ((v : Views) → answered (p .change) (tablesOf (p .clock) (p .volumes) (sessionsOf (now (seen .exit)) (now (expiry .exit)) (now (marks .exit)) (now (offer .exit))) (p .objects) (now (lease .exit)) (now (waiting .exit)) v (p .queue)) (p .answer) ≡ performed s (tablesOf clock w (sessionsOf (now (seen .entry)) (now (expiry .entry)) (now (marks .entry)) (now (offer .entry))) b (now (lease .entry)) (now (waiting .entry)) v q) c r x) ⌝ }
 {
     let kept = Change {
-        copy: c,
-        request: r,
+        copy: CopyChange::Keep,
+        request: Turn::Keep,
         sweep: Sweep::Keep,
     };
     if x.kind == 1 {

@@ -1,7 +1,7 @@
 -- 01, "Steps" and "Messages received" of a client, and its restart.
 -- c is a copy, r the request and u the views of the client d; in a message n is the number, e the epoch, w the version, x the volume expiry, y the
 -- object expiry and p the payload.
-use Prim.Native.Nat.{ℕ, _+_, _-_}
+use Prim.Native.Nat.{ℕ, _+_, _-_, _<_}
 use mathlib.Core.Bool.{Bool, true, false, cond, not, _&&_}
 use mathlib.Core.List.{List}
 use lib.Dec.{eqb}
@@ -15,8 +15,12 @@ use Rattle.protocol.specs.declared.message.Kind.the-variants.{Renew}
 use Rattle.protocol.specs.declared.records.Copy.{Copy}
 use Rattle.protocol.specs.declared.records.Request.{Request}
 use Rattle.protocol.specs.declared.setup.Setup.{Setup}
+use Rattle.protocol.specs.declared.step.CopyChange.{CopyChange}
+use Rattle.protocol.specs.declared.step.CopyChange.the-variants as copy
 use Rattle.protocol.specs.declared.step.Sweep.{Sweep}
 use Rattle.protocol.specs.declared.step.Sweep.the-variants.{Keep, Expire, Erase}
+use Rattle.protocol.specs.declared.step.Turn.{Turn}
+use Rattle.protocol.specs.declared.step.Turn.the-variants as request
 use Rattle.protocol.specs.declared.tables.Views.{Views}
 use Rattle.protocol.specs.declared.tables.Tables.{Tables}
 use Rattle.protocol.specs.Setup.{volumeOf}
@@ -42,6 +46,24 @@ renewal s t c r d o = message d (Renew o (r .next) (viewEpochAt t d (volumeOf s 
 -- "end the request"
 abbrev pub ended : Request → Request
 ended r = record { next = r .next; standing = false; number = 0; object = 0 }
+
+-- what a turn makes of a request
+abbrev pub turned : Request → Turn → Request
+turned r request.Keep = r
+turned r (request.Take o) = numbered r o
+turned r request.End = ended r
+
+-- a number is taken only where one is left
+abbrev pub CanTurn : Request → Turn → Type 0
+CanTurn r request.Keep = Unit
+CanTurn r (request.Take o) = r .next < 4294967295
+CanTurn r request.End = Unit
+
+-- what a change makes of a copy
+abbrev pub changed : Copy → CopyChange → Copy
+changed c copy.Keep = c
+changed c (copy.Fill f) = f
+changed c copy.Erase = noCopy
 
 -- "needs the standing number"
 unfoldable pub stands : Request → ℕ → Bool
@@ -74,8 +96,8 @@ filled c w y p = record { version = w; value = payloadOr (c .value) p; expiry = 
 abbrev pub asksFor : Request → ℕ → Bool
 asksFor r o = r .standing && eqb (r .object) o
 
-unfoldable pub forgotten : Request → ℕ → Request
-forgotten r o = cond (asksFor r o) (ended r) r
+unfoldable pub forgotten : Request → ℕ → Turn
+forgotten r o = cond (asksFor r o) request.End request.Keep
 
 -- ---- OFFER, and Step 9: what becomes of each copy of the client, for object o. An OFFER leaves versions and values: "all its object expiries to 0"
 unfoldable pub swept : Setup → Sweep → Copy → ℕ → Copy

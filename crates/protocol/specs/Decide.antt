@@ -12,21 +12,24 @@ use Rattle.protocol.specs.declared.setup.Setup.{Setup}
 use Rattle.protocol.specs.declared.step.Answer.{Answer}
 use Rattle.protocol.specs.declared.step.Answer.the-variants as answer
 use Rattle.protocol.specs.declared.step.Change.{Change}
+use Rattle.protocol.specs.declared.step.CopyChange.the-variants as copy
 use Rattle.protocol.specs.declared.step.Decision.{Decision}
 use Rattle.protocol.specs.declared.step.Step.{Step}
-use Rattle.protocol.specs.declared.step.Sweep.the-variants.{Keep, Expire, Erase}
+use Rattle.protocol.specs.declared.step.Sweep.the-variants as sweep
+use Rattle.protocol.specs.declared.step.Turn.the-variants as request
 use Rattle.protocol.specs.declared.tables.Tables.{Tables}
 use Rattle.protocol.specs.Setup.{volumeOf}
 use Rattle.protocol.specs.Messages.{message, messageAt, removed, doubled}
-use Rattle.protocol.specs.Tables.{withViews, withQueue, noCopy}
+use Rattle.protocol.specs.Tables.{withViews, withQueue}
 use Rattle.protocol.specs.Writes.{Counted, settled, writeStaged, clockStaged}
 use Rattle.protocol.specs.Server.{sent, renewed, ackStaged, dropStaged, serverRestarted}
-use Rattle.protocol.specs.Client.{showable, numbered, renewal, ended, stands, viewed, grantTaken, filled, forgotten, clientRestarted}
+use Rattle.protocol.specs.Client.{showable, renewal, stands, viewed, grantTaken, filled, forgotten, clientRestarted}
 use Rattle.protocol.specs.Answers.{completedAnswer}
 use Rattle.protocol.specs.Gate.{isClock, isRead, isAsk, isWrite, isDeliver, isLose, isDouble, isRestartServer, refusal}
 
-abbrev pub kept : Copy → Request → Change
-kept c r = record { copy = c; request = r; sweep = Keep }
+-- the client's records stay
+abbrev pub kept : Change
+kept = record { copy = copy.Keep; request = request.Keep; sweep = sweep.Keep }
 
 abbrev pub uncounted : Tables → Counted
 uncounted t = record { count = 0; tables = t }
@@ -37,8 +40,8 @@ pub record Received : Type 0 where
   pub counted : Counted
 
 -- the server receives: the client's records stay
-abbrev pub byServer : Copy → Request → Counted → Received
-byServer c r n = record { change = kept c r; counted = n }
+abbrev pub byServer : Counted → Received
+byServer n = record { change = kept; counted = n }
 
 -- the client receives: no write completes
 abbrev pub byClient : Change → Tables → Received
@@ -48,27 +51,27 @@ byClient g t = record { change = g; counted = uncounted t }
 unfoldable pub grantReceived : Setup → Tables → Copy → Request → ℕ → ℕ → ℕ → ℕ → ℕ → ℕ → ℕ → Payload → Received
 grantReceived s t c r d o n x e w y p =
     cond (grantTaken c r n w p)
-    (byClient (record { copy = filled c w y p; request = ended r; sweep = Keep }) (withViews t (viewed (t .views) d (volumeOf s o) e x)))
-    (byClient (kept c r) t)
+    (byClient (record { copy = copy.Fill (filled c w y p); request = request.End; sweep = sweep.Keep }) (withViews t (viewed (t .views) d (volumeOf s o) e x)))
+    (byClient kept t)
 
 -- INVALIDATE: "erase the copy, forget a standing request for that object, send ACK with the same epoch and new version"
 unfoldable pub invalidateReceived : Tables → Request → ℕ → ℕ → ℕ → ℕ → Received
-invalidateReceived t r d o e w = byClient (record { copy = noCopy; request = forgotten r o; sweep = Keep }) (sent t (message d (Ack o e w)))
+invalidateReceived t r d o e w = byClient (record { copy = copy.Erase; request = forgotten r o; sweep = sweep.Keep }) (sent t (message d (Ack o e w)))
 
 -- OFFER: "Take its epoch, set that volume's expiry and all its object expiries to 0, end the request, send DROPPED with that number and epoch."
-unfoldable pub offerReceived : Tables → Copy → Request → ℕ → ℕ → ℕ → ℕ → Received
-offerReceived t c r d v n e =
+unfoldable pub offerReceived : Tables → Request → ℕ → ℕ → ℕ → ℕ → Received
+offerReceived t r d v n e =
     cond (stands r n)
-    (byClient (record { copy = c; request = ended r; sweep = Expire v }) (sent (withViews t (viewed (t .views) d v e 0)) (message d (Dropped v n e))))
-    (byClient (kept c r) t)
+    (byClient (record { copy = copy.Keep; request = request.End; sweep = sweep.Expire v }) (sent (withViews t (viewed (t .views) d v e 0)) (message d (Dropped v n e))))
+    (byClient kept t)
 
 unfoldable pub received : Setup → Tables → Copy → Request → ℕ → Kind → Received
-received s t c r d (Renew o n e w) = byServer c r (uncounted (renewed s t d o n e w))
+received s t c r d (Renew o n e w) = byServer (uncounted (renewed s t d o n e w))
 received s t c r d (Grant o n x e w y p) = grantReceived s t c r d o n x e w y p
 received s t c r d (Invalidate o e w) = invalidateReceived t r d o e w
-received s t c r d (Ack o e w) = byServer c r (settled s (ackStaged s t d o e w))
-received s t c r d (Offer v n e) = offerReceived t c r d v n e
-received s t c r d (Dropped v n e) = byServer c r (settled s (dropStaged s t d v n e))
+received s t c r d (Ack o e w) = byServer (settled s (ackStaged s t d o e w))
+received s t c r d (Offer v n e) = offerReceived t r d v n e
+received s t c r d (Dropped v n e) = byServer (settled s (dropStaged s t d v n e))
 
 -- ---- the nine steps
 
@@ -76,17 +79,17 @@ abbrev pub answered : Change → Tables → Answer → Decision
 answered g t a = record { change = g; outcome = record { answer = a; tables = t } }
 
 -- Steps 1 and 4
-abbrev pub counting : Copy → Request → Counted → Decision
-counting c r n = answered (kept c r) (n .tables) (completedAnswer (n .count))
+abbrev pub counting : Counted → Decision
+counting n = answered kept (n .tables) (completedAnswer (n .count))
 
 -- Step 2: "shown with its value; else "ask first"" and no table changes
-unfoldable pub readDecided : Setup → Tables → Copy → Request → ℕ → ℕ → Decision
-readDecided s t c r d o =
-    cond (showable s t c d o) (answered (kept c r) t (answer.Shown (c .value))) (answered (kept c r) t answer.AskFirst)
+unfoldable pub readDecided : Setup → Tables → Copy → ℕ → ℕ → Decision
+readDecided s t c d o = cond (showable s t c d o) (answered kept t (answer.Shown (c .value))) (answered kept t answer.AskFirst)
 
--- Step 3
+-- Step 3: "take the next number, replace the standing request", and a RENEW is sent
 unfoldable pub askDecided : Setup → Tables → Copy → Request → ℕ → ℕ → Decision
-askDecided s t c r d o = answered (kept c (numbered r o)) (sent t (renewal s t c r d o)) answer.Done
+askDecided s t c r d o =
+    answered (record { copy = copy.Keep; request = request.Take o; sweep = sweep.Keep }) (sent t (renewal s t c r d o)) answer.Done
 
 -- Step 5: "remove the message, then receive it"
 abbrev pub delivered : Message → Received → Decision
@@ -99,30 +102,30 @@ unfoldable pub deliverDecided : Setup → Tables → Copy → Request → ℕ �
 deliverDecided s t c r i =
     delivered (messageAt (t .queue) i) (received s (taken t i) c r (messageAt (t .queue) i .client) (messageAt (t .queue) i .kind))
 
--- Step 9
-unfoldable pub restartDecided : Setup → Tables → Copy → Request → ℕ → Decision
-restartDecided s t c r d =
-    answered (record { copy = c; request = ended r; sweep = Erase }) (withViews t (clientRestarted s (t .views) d)) answer.Done
+-- Step 9: "only its next request number remains"
+unfoldable pub restartDecided : Setup → Tables → ℕ → Decision
+restartDecided s t d =
+    answered (record { copy = copy.Keep; request = request.End; sweep = sweep.Erase }) (withViews t (clientRestarted s (t .views) d)) answer.Done
 
 -- an accepted step, by its kind
 unfoldable pub performed : Setup → Tables → Copy → Request → Step → Decision
 performed s t c r x =
-    cond (isClock x) (counting c r (settled s (clockStaged s t (x .clock))))
-    (cond (isRead x) (readDecided s t c r (x .client) (x .object))
+    cond (isClock x) (counting (settled s (clockStaged s t (x .clock))))
+    (cond (isRead x) (readDecided s t c (x .client) (x .object))
     (cond (isAsk x) (askDecided s t c r (x .client) (x .object))
-    (cond (isWrite x) (counting c r (settled s (writeStaged s t (x .object) (x .value))))
+    (cond (isWrite x) (counting (settled s (writeStaged s t (x .object) (x .value))))
     (cond (isDeliver x) (deliverDecided s t c r (x .place))
-    (cond (isLose x) (answered (kept c r) (taken t (x .place)) answer.Done)
-    (cond (isDouble x) (answered (kept c r) (withQueue t (doubled (t .queue) (x .place))) answer.Done)
-    (cond (isRestartServer x) (answered (kept c r) (serverRestarted s t) answer.Done)
-    (restartDecided s t c r (x .client)))))))))
+    (cond (isLose x) (answered kept (taken t (x .place)) answer.Done)
+    (cond (isDouble x) (answered kept (withQueue t (doubled (t .queue) (x .place))) answer.Done)
+    (cond (isRestartServer x) (answered kept (serverRestarted s t) answer.Done)
+    (restartDecided s t (x .client)))))))))
 
 -- "the first "no" gives its number, nothing else, and every lent table and buffer is unchanged"
-abbrev pub refusedWith : Tables → Copy → Request → ℕ → Decision
-refusedWith t c r k = answered (kept c r) t (answer.Refused k)
+abbrev pub refusedWith : Tables → ℕ → Decision
+refusedWith t k = answered kept t (answer.Refused k)
 
 abbrev pub decidedBy : ℕ → Setup → Tables → Copy → Request → Step → Decision
-decidedBy k s t c r x = cond (eqb k 0) (performed s t c r x) (refusedWith t c r k)
+decidedBy k s t c r x = cond (eqb k 0) (performed s t c r x) (refusedWith t k)
 
 -- one step, on any input whatever; `records` says whether all lent records are sound
 unfoldable pub decided : Setup → Tables → Bool → Copy → Request → Step → Decision

@@ -1,4 +1,4 @@
--- Question 1 never refuses in a run from fresh tables: lengths and bounds that every step keeps.
+-- Question 1 never refuses in a run from fresh tables: lengths and bounds that every step keeps. Where a step takes a request number, question 6 has asked for it.
 pub mod StepCases
 pub mod Shape
 pub mod ShapeKept
@@ -8,3 +8,4 @@ pub mod Received
 pub mod BoundsKept
 pub mod Answered
 pub mod Question
+pub mod Numbering

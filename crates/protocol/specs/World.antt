@@ -13,7 +13,7 @@ use Rattle.protocol.specs.declared.step.Target.{Target}
 use Rattle.protocol.specs.declared.tables.Tables.{Tables}
 use Rattle.protocol.specs.Messages.{messageAt, objectOf}
 use Rattle.protocol.specs.Tables.{noCopy, noRequest, freshRequest, freshTables}
-use Rattle.protocol.specs.Client.{sweptAll}
+use Rattle.protocol.specs.Client.{turned, changed, sweptAll}
 use Rattle.protocol.specs.Sound.{recordsSound}
 use Rattle.protocol.specs.Gate.{isDeliver}
 use Rattle.protocol.specs.Decide.{decided}
@@ -47,10 +47,10 @@ decision s w x =
 
 -- what the lent records become
 abbrev pub copiesAfter : Setup → List Copy → Target → Decision → List Copy
-copiesAfter s l a d = sweptAll s (d .change .sweep) (a .first) (set l (a .copy) (d .change .copy))
+copiesAfter s l a d = sweptAll s (d .change .sweep) (a .first) (set l (a .copy) (changed (getD l (a .copy) noCopy) (d .change .copy)))
 
 abbrev pub requestsAfter : List Request → Target → Decision → List Request
-requestsAfter l a d = set l (a .client) (d .change .request)
+requestsAfter l a d = set l (a .client) (turned (getD l (a .client) noRequest) (d .change .request))
 
 -- one step
 unfoldable pub stepped : Setup → World → Step → World

@@ -1,6 +1,5 @@
 use crate::message::Message;
 use crate::records::Copy;
-use crate::records::Request;
 use crate::tables::Tables;
 
 // A step, by the number of its kind (01, "Steps"): 1 clock, 2 read, 3 ask, 4 write, 5 deliver, 6 lose, 7 double, 8 restart server, 9 restart client.
@@ -27,6 +26,20 @@ pub enum Answer {
     Refused(u8),
 }
 
+// What becomes of the client's request: nothing, it takes the next number for an object, or it ends.
+pub enum Turn {
+    Keep,
+    Take(u8),
+    End,
+}
+
+// What becomes of one copy: nothing, it is filled with the copy that a GRANT stores, or it is erased.
+pub enum CopyChange {
+    Keep,
+    Fill(Copy),
+    Erase,
+}
+
 // What becomes of all copies of one client: nothing, the expiries of one volume's objects become 0 (an OFFER was taken), or all are erased (a restart).
 pub enum Sweep {
     Keep,
@@ -41,10 +54,10 @@ pub struct Target {
     pub first: usize,
 }
 
-// What the client's records become: the one copy and the request are stored, then the sweep goes over the client's copies.
+// What becomes of the client's records: of the one copy, of the request, and then of all the client's copies.
 pub struct Change {
-    pub copy: Copy,
-    pub request: Request,
+    pub copy: CopyChange,
+    pub request: Turn,
     pub sweep: Sweep,
 }
 

@@ -4,22 +4,19 @@ use native.Mathlib.Omega.{arith}
 use mathlib.Core.Bool.{Bool, true, false, _&&_}
 use mathlib.Core.List.{List}
 use mathlib.Core.Logic.{⊎-elim}
-use mathlib.Core.Path.{_≡_, refl, sym, ap, _∙_}
+use mathlib.Core.Path.{_≡_, sym, ap}
 use lib.ListN.{length, getD, length-set}
-use lib.Dec.{T, ltb, eqb}
-use borrow.Author.Tests.{ltb-true, ltb-false, eqb-true, lt-ltb, le-ltb, eq-eqb, ne-eqb}
-use Rattle.laws.specs.Choice.{and-true as both-of, true-or-false}
+use lib.Dec.{ltb}
+use borrow.Author.Tests.{ltb-true, ltb-false, lt-ltb, le-ltb}
+use Rattle.laws.specs.Choice.{true-or-false}
 use Rattle.laws.specs.Loop.{foldFrom}
 use Rattle.laws.specs.Store.{pass-past}
 use Rattle.protocol.specs.declared.records.Copy.{Copy}
-use Rattle.protocol.specs.declared.records.Request.{Request}
 use Rattle.protocol.specs.declared.setup.Setup.{Setup}
 use Rattle.protocol.specs.declared.step.Sweep.{Sweep}
 use Rattle.protocol.specs.Tables.{noCopy}
 use Rattle.protocol.specs.Client.{swept, sweepAt, sweptAll, sweeps}
-use Rattle.records.specs.Places.{stopOf, isNone}
-use Rattle.records.specs.declared.turn.Turn.the-variants.{Keep, Take, End}
-use Rattle.records.specs.Turns.{isOver, turnOf}
+use Rattle.records.specs.Places.{stopOf}
 
 -- an answer so far, and one more test
 pub and-again : (ok p q : Bool) {r : Bool} → (ok && (p && q)) ≡ r → ((ok && p) && q) ≡ r
@@ -74,34 +71,3 @@ module _ (s : Setup) (g : Sweep) (first : ℕ) where
 
       cut : first < length l → length l - first ≤ n → Same (stopOf first n (length l) - first)
       cut h k = rw (← stop-end first n (length l) h k) (pass-cut l first (length l - first) n k (omega arith))
-
--- by which turn a request became another one
-module _ (before after : Request) where
-  pub turn-end : (b : Bool) → after .next ≡ before .next → b ≡ isOver after → b ≡ true → End ≡ turnOf before after
-  unfolding turnOf
-  turn-end b e a f = rw (eq-eqb _ _ e, sym a ∙ f)
-
-  pub turn-keep : (b : Bool) → after .next ≡ before .next → b ≡ isOver after → b ≡ false → Keep ≡ turnOf before after
-  unfolding turnOf
-  turn-keep b e a f = rw (eq-eqb _ _ e, sym a ∙ f)
-
-  pub turn-take : (after .next ≡ before .next → ⊥) → Take (after .object) ≡ turnOf before after
-  unfolding turnOf
-  turn-take n = rw (ne-eqb _ _ n)
-
--- a copy of which nothing is left is none
-pub none-is : (c : Copy) → T (isNone c) → c ≡ noCopy
-none-is c h =
-    let a = both-of (eqb (c .version) 0) (eqb (c .value) 0 && eqb (c .expiry) 0) (is-true (isNone c) h) in
-    let b = both-of (eqb (c .value) 0) (eqb (c .expiry) 0) (a .1) in
-    same (c .version) (c .value) (c .expiry) (eqb-true _ _ (a .0)) (eqb-true _ _ (b .0)) (eqb-true _ _ (b .1))
-  where
-    at : ℕ → ℕ → ℕ → Copy
-    at v x e = record { version = v; value = x; expiry = e }
-
-    same : (v x e : ℕ) → v ≡ 0 → x ≡ 0 → e ≡ 0 → at v x e ≡ at 0 0 0
-    same v x e f g h = rw (f, g, h)
-
-    is-true : (b : Bool) → T b → b ≡ true
-    is-true true t = refl
-    is-true false t = absurd t

@@ -1,3 +1,2 @@
 pub mod Places
-pub mod Turns
 pub mod Lent

@@ -1,17 +1,12 @@
--- Places in a lent list, and what stands there.
+-- Places in a lent list.
 use Prim.Native.Nat.{ℕ, zero, suc, _+_, _-_, _*_, _^_, _≤_, _<_}
 use native.Mathlib.Omega.{arith}
-use mathlib.Core.Bool.{Bool, cond, _&&_}
-use lib.Dec.{ltb, eqb}
-use Rattle.protocol.specs.declared.records.Copy.{Copy}
+use mathlib.Core.Bool.{cond}
+use lib.Dec.{ltb}
 
 -- where n places from `first` on end in a list of `len`: at its end at the latest
 unfoldable pub stopOf : ℕ → ℕ → ℕ → ℕ
 stopOf first n len = cond (ltb first len) (cond (ltb n (len - first)) (first + n) len) first
-
--- nothing of a copy is left
-abbrev pub isNone : Copy → Bool
-isNone c = eqb (c .version) 0 && (eqb (c .value) 0 && eqb (c .expiry) 0)
 
 -- how many records there are fits: two counts of 32 bits, multiplied
 pub mul-fits : (a b : ℕ) → a < 4294967296 → b < 4294967296 → a * b < 2 ^ 64

@@ -4,12 +4,13 @@ ghost use mathlib.Core.Bool.{_&&_};
 ghost use lib.Dec.{eqb};
 ghost use lib.ListN.{getD, set};
 ghost use Rattle.protocol.specs.Tables.{noCopy};
-ghost use Rattle.records.specs.Places.{isNone};
+ghost use Rattle.protocol.specs.Client.{changed};
 ghost use Rattle.protocol.specs.Sound.{timeFits, copiesSound};
 use client::copy::none;
 use gate::records::copy_sound;
 use protocol::records::Copy;
 use protocol::setup::Setup;
+use protocol::step::CopyChange;
 
 // One copy; where there is no such place, no copy.
 pub fn look(copies: &[Copy], i: usize) -> Copy
@@ -42,20 +43,18 @@ pub fn erase(copies: &mut [Copy], i: usize)
     store(&mut *copies, i, c);
 }
 
-fn is_none(c: Copy) -> bool
-    ensures { λ r. ⌜ r ≡ isNone c ⌝ }
+// What becomes of one copy, in the list of all; nothing where there is no such place.
+pub fn change(copies: &mut [Copy], i: usize, u: CopyChange)
+    ensures { λ _. ⌜ now (copies .exit) ≡ set (now (copies .entry)) i (changed (getD (now (copies .entry)) i noCopy) u) ⌝ }
 {
-    (c.version == 0) & ((c.value == 0) & (c.expiry == 0))
-}
-
-// What a decision makes of one copy: it is erased, or stored.
-pub fn settle(copies: &mut [Copy], i: usize, c: Copy)
-    ensures { λ _. ⌜ now (copies .exit) ≡ set (now (copies .entry)) i c ⌝ }
-{
-    if is_none(c) {
-        erase(&mut *copies, i);
-    } else {
-        store(&mut *copies, i, c);
+    match u {
+        CopyChange::Keep => {}
+        CopyChange::Fill(c) => {
+            store(&mut *copies, i, c);
+        }
+        CopyChange::Erase => {
+            erase(&mut *copies, i);
+        }
     }
 }
 

@@ -1,17 +1,11 @@
 ghost use mathlib.Core.Path.{_≡_};
 ghost use lib.ListN.{getD, set};
 ghost use Rattle.protocol.specs.Tables.{noRequest};
-ghost use Rattle.records.specs.Turns.{turned, CanTurn, isOver, turnOf};
+ghost use Rattle.protocol.specs.Client.{turned, CanTurn};
 use crate::requests::end_request;
 use crate::requests::take_number;
 use protocol::records::Request;
-
-// What a step does to a client's request.
-pub enum Turn {
-    Keep,
-    Take(u8),
-    End,
-}
+use protocol::step::Turn;
 
 // One request, lent on.
 pub fn apply(r: &mut Request, u: Turn)
@@ -29,7 +23,7 @@ pub fn apply(r: &mut Request, u: Turn)
     }
 }
 
-// What became of one client's request, in the list of all; nothing where there is no such client.
+// What becomes of one client's request, in the list of all; nothing where there is no such client.
 pub fn update(requests: &mut [Request], i: usize, u: Turn)
     requires { ⌜ CanTurn (getD (now requests) i noRequest) u ⌝ }
     ensures { λ _. ⌜ now (requests .exit) ≡ set (now (requests .entry)) i (turned (getD (now (requests .entry)) i noRequest) u) ⌝ }
@@ -37,24 +31,4 @@ pub fn update(requests: &mut [Request], i: usize, u: Turn)
     if i < requests.len() {
         apply(&mut requests[i], u);
     }
-}
-
-// Nothing of a request is left.
-fn is_over(r: Request) -> bool
-    ensures { λ b. ⌜ b ≡ isOver r ⌝ }
-{
-    !r.standing & ((r.number == 0) & (r.object == 0))
-}
-
-// By which turn a request became another one.
-pub fn turn_of(before: Request, after: Request) -> Turn
-    ensures { λ u. ⌜ u ≡ turnOf before after ⌝ }
-{
-    if after.next == before.next {
-        if is_over(after) {
-            return Turn::End;
-        }
-        return Turn::Keep;
-    }
-    Turn::Take(after.object)
 }

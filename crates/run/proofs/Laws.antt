@@ -35,11 +35,12 @@ use Rattle.runfile.specs.Steps.{stepsOf, Parts, whole, formed-parts}
 use Rattle.runfile.specs.Reading.{formed, contents-read, setup-read}
 use Rattle.listing.specs.Listing.{header, length-header, lineOf}
 use Rattle.listing.specs.Written.{Written, written-then}
-use Rattle.protocol.specs.Client.{swept, sweeps, sweepAt}
+use Rattle.protocol.specs.Client.{turned, CanTurn, changed, swept, sweeps, sweepAt}
 use Rattle.protocol.specs.Gate.{refusalOfStep}
 use Rattle.protocol.specs.Decide.{kept, answered, performed}
 use Rattle.protocol.specs.Ranges.{ranges}
-use Rattle.protocol.specs.Soundness.StepCases.{recordsOf}
+use Rattle.protocol.specs.Soundness.StepCases.{passed, recordsOf}
+use Rattle.protocol.specs.Soundness.Numbering.{performed-turns}
 use Rattle.run.specs.Owned.{copyCount, worldOf, Owned, placeIn, reach, decidedOn, sweep-fits}
 use Rattle.run.specs.declared.steps.Left.{Left}
 use Rattle.run.specs.Ran.{RanSteps, Roomy, Running, run-on, run-again}
@@ -119,19 +120,20 @@ module _ (s : Setup) (file : List ℕ) (first count : ℕ) (out₀ : List ℕ) (
       → (x : Step) → x ≡ stepAt file first k → (a : Target) → a ≡ target s t x
       → (p : ℕ) → p ≡ placeIn (a .copy) (copyCount s) 512 → (q : ℕ) → q ≡ placeIn (a .client) (s .clients) 16
       → (d : Decision) → d ≡ decidedOn s t (getD cs p noCopy) (getD rs q noRequest) x
+      → (f : Copy) → f ≡ changed (getD cs p noCopy) (d .change .copy) → (v : Request) → v ≡ turned (getD rs q noRequest) (d .change .request)
       → (n : ℕ) → n ≡ reach s (a .client) (d .change .sweep)
-      → (ds : List Copy) → ds ≡ foldFrom (sweepAt s (d .change .sweep) (a .first)) (set cs p (d .change .copy)) (a .first) n
+      → (ds : List Copy) → ds ≡ foldFrom (sweepAt s (d .change .sweep) (a .first)) (set cs p f) (a .first) n
       → (none : Copy) → none ≡ noCopy
       → (out′ : List ℕ) (at′ : ℕ) → Written out out′ at (lineOf (k + 1) (d .outcome .answer)) at′
-      → Running s file first count out₀ start out′ (d .outcome .tables) (set ds 512 none) (set (set rs q (d .change .request)) 16 noRequest) at′ (k + 1)
-  turn out t cs rs at k h g x ex a ea p ep q eq d ed n en ds es none e0 out′ at′ w =
-      rw (e0, es, en, ep, eq, ea)
+      → Running s file first count out₀ start out′ (d .outcome .tables) (set ds 512 none) (set (set rs q v) 16 noRequest) at′ (k + 1)
+  turn out t cs rs at k h g x ex a ea p ep q eq d ed f ef v ev n en ds es none e0 out′ at′ w =
+      rw (e0, es, en, ef, ev, ep, eq, ea)
       (run-again s file first count out₀ start i fits few out t cs rs at k h g x ex d (rw (ep, eq, ea) at ed) out′ at′ w)
 
   pub turn-kept : (out : List ℕ) (t : Tables) (cs : List Copy) (rs : List Request) (at k : ℕ) → k < count → Running s file first count out₀ start out t cs rs at k
       → (x : Step) → x ≡ stepAt file first k → (a : Target) → a ≡ target s t x
       → (p : ℕ) → p ≡ placeIn (a .copy) (copyCount s) 512 → (q : ℕ) → q ≡ placeIn (a .client) (s .clients) 16
-      → (b : Answer) → decidedOn s t (getD cs p noCopy) (getD rs q noRequest) x ≡ answered (kept (getD cs p noCopy) (getD rs q noRequest)) t b
+      → (b : Answer) → decidedOn s t (getD cs p noCopy) (getD rs q noRequest) x ≡ answered kept t b
       → (out′ : List ℕ) (at′ : ℕ) → Written out out′ at (lineOf (k + 1) b) at′
       → Running s file first count out₀ start out′ t cs rs at′ (k + 1)
   turn-kept out t cs rs at k h g x ex a ea p ep q eq b ed out′ at′ w =
@@ -143,12 +145,15 @@ module _ (s : Setup) (t : Tables) (r : Request) (x : Step) (no : ℕ) (e : no �
   none-refused = sym e ∙ h
 
 module _ (s : Setup) (t : Tables) (c : Copy) (r : Request) (x : Step) (no : ℕ) (e : no ≡ refusalOfStep s t r x) where
-  pub refused-keeps : (no ≡ 0 → ⊥) → decidedOn s t c r x ≡ answered (kept c r) t (Refused no)
+  pub refused-keeps : (no ≡ 0 → ⊥) → decidedOn s t c r x ≡ answered kept t (Refused no)
   refused-keeps h = rw (← e, ne-eqb no 0 h)
 
   module _ (h : no ≡ 0) where
     pub performs : (d : Decision) → d ≡ performed s t c r x → d ≡ decidedOn s t c r x
     performs d f = rw (← e, h) f
+
+    pub can-turn : (d : Decision) → d ≡ performed s t c r x → CanTurn r (d .change .request)
+    can-turn d f = rw f (performed-turns r s t c x (passed s t r x (sym e ∙ h)))
 
 -- ---- a file read
 module _ (l : List ℕ) (r : Contents) (e : r ≡ contentsOf l) where

@@ -25,7 +25,7 @@ use Rattle.protocol.specs.declared.step.Target.{Target}
 use Rattle.protocol.specs.declared.tables.Tables.{Tables}
 use Rattle.protocol.specs.Setup.{inRange}
 use Rattle.protocol.specs.Tables.{noCopy, noRequest}
-use Rattle.protocol.specs.Client.{swept, sweeps, sweepAt, sweptAll}
+use Rattle.protocol.specs.Client.{turned, changed, swept, sweeps, sweepAt, sweptAll}
 use Rattle.protocol.specs.Gate.{isDeliver, refusalOfStep, refusal}
 use Rattle.protocol.specs.Decide.{kept, answered, decidedBy, decided}
 use Rattle.protocol.specs.World.{World, target, decision, copiesAfter, requestsAfter, stepped, answerOf}
@@ -60,20 +60,23 @@ reach s client g = cond (ltb client (s .clients)) (sweeps g (s .objects)) 0
 abbrev pub decidedOn : Setup → Tables → Copy → Request → Step → Decision
 decidedOn s t c r x = decidedBy (refusalOfStep s t r x) s t c r x
 
--- what a decision makes of the arrays: the one copy is stored, then the sweep goes over the client's copies; the spare place is emptied
+-- what a decision makes of the arrays: the one copy changes, then the sweep goes over the client's copies; the spare place is emptied
+abbrev pub copiesStored : List Copy → ℕ → Decision → List Copy
+copiesStored cs p d = set cs p (changed (getD cs p noCopy) (d .change .copy))
+
 abbrev pub copiesSwept : Setup → List Copy → Target → Decision → List Copy
 copiesSwept s cs a d =
-    foldFrom (sweepAt s (d .change .sweep) (a .first)) (set cs (placeIn (a .copy) (copyCount s) 512) (d .change .copy)) (a .first)
+    foldFrom (sweepAt s (d .change .sweep) (a .first)) (copiesStored cs (placeIn (a .copy) (copyCount s) 512) d) (a .first)
     (reach s (a .client) (d .change .sweep))
 
 abbrev pub copiesLeft : Setup → List Copy → Target → Decision → List Copy
 copiesLeft s cs a d = set (copiesSwept s cs a d) 512 noCopy
 
-abbrev pub requestsStored : Setup → List Request → Target → Decision → List Request
-requestsStored s rs a d = set rs (placeIn (a .client) (s .clients) 16) (d .change .request)
+abbrev pub requestsStored : List Request → ℕ → Decision → List Request
+requestsStored rs q d = set rs q (turned (getD rs q noRequest) (d .change .request))
 
 abbrev pub requestsLeft : Setup → List Request → Target → Decision → List Request
-requestsLeft s rs a d = set (requestsStored s rs a d) 16 noRequest
+requestsLeft s rs a d = set (requestsStored rs (placeIn (a .client) (s .clients) 16) d) 16 noRequest
 
 -- ---- items of the setup in an array with a spare place
 module _ {ℓ} {A : Type ℓ} (n spare : ℕ) (l : List A) (k : n ≤ spare) (h : spare < length l) where
@@ -194,22 +197,24 @@ module _ (s : Setup) (t : Tables) (cs : List Copy) (rs : List Request) (i : inRa
 
   copies-left : (d : Decision) → take (copyCount s) (copiesLeft s cs (target s t x) d) ≡ copiesAfter s (before .copies) (target s t x) d
   copies-left d =
-      let l : List Copy = set cs (placeIn (target s t x .copy) (copyCount s) 512) (d .change .copy) in
+      let l : List Copy = copiesStored cs (placeIn (target s t x .copy) (copyCount s) 512) d in
       let k : copyCount s ≤ length l = simp length-set (omega (arith, few-copies, o .copies)) in
       take-set-le (copyCount s) (foldFrom (sweepAt s (d .change .sweep) (target s t x .first)) l (target s t x .first) (reach s (target s t x .client) (d .change .sweep))) 512 noCopy few-copies
       ∙ swept-left d l k
-      ∙ ap (sweptAll s (d .change .sweep) (target s t x .first)) (item-set (copyCount s) 512 cs few-copies (omega (arith, o .copies)) _ _)
+      ∙ ap (sweptAll s (d .change .sweep) (target s t x .first))
+      (item-set (copyCount s) 512 cs few-copies (omega (arith, o .copies)) _ _ ∙ ap (λ (c : Copy). set (before .copies) (target s t x .copy) (changed c (d .change .copy))) seen-copy)
 
   requests-left : (d : Decision) → take (s .clients) (requestsLeft s rs (target s t x) d) ≡ requestsAfter (before .requests) (target s t x) d
   requests-left d =
       take-set-le (s .clients) _ 16 noRequest few-clients ∙ item-set (s .clients) 16 rs few-clients (omega (arith, o .requests)) _ _
+      ∙ ap (λ (r : Request). set (before .requests) (target s t x .client) (turned r (d .change .request))) seen-request
 
   -- a decision that keeps the records and the tables leaves all as it was
-  pub kept-after : (a : Answer) → decidedOn s t copySeen requestSeen x ≡ answered (kept copySeen requestSeen) t a → (stepped s before x ≡ before) × (answerOf s before x ≡ a)
+  pub kept-after : (a : Answer) → decidedOn s t copySeen requestSeen x ≡ answered kept t a → (stepped s before x ≡ before) × (answerOf s before x ≡ a)
   unfolding stepped sweptAll foldFrom
   kept-after a e =
-      let d : decision s before x ≡ answered (kept copySeen requestSeen) t a = sym decides ∙ e in
-      (rw (d, seen-copy, seen-request, set-getD (before .copies), set-getD (before .requests)), ap (λ (f : Decision). f .outcome .answer) d)
+      let d : decision s before x ≡ answered kept t a = sym decides ∙ e in
+      (rw (d, set-getD (before .copies), set-getD (before .requests)), ap (λ (f : Decision). f .outcome .answer) d)
 
   -- what the code has after a step stands for what the definition says
   module _ (d : Decision) (e : d ≡ decidedOn s t copySeen requestSeen x) where
@@ -226,5 +231,5 @@ module _ (s : Setup) (t : Tables) (cs : List Copy) (rs : List Request) (i : inRa
       copies = simp (length-set, sweep-length) (o .copies);
       requests = simp length-set (o .requests);
       no-copy = cleared (copiesSwept s cs (target s t x) d) 512;
-      no-request = cleared (requestsStored s rs (target s t x) d) 16;
+      no-request = cleared (requestsStored rs (placeIn (target s t x .client) (s .clients) 16) d) 16;
     }

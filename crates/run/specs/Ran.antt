@@ -160,7 +160,7 @@ module _ (s : Setup) (file : List ℕ) (first count : ℕ) where
 
         -- a step that changes nothing but the output
         pub run-on : (a : Answer)
-            → decidedOn s t (copySeen s t cs rs i (g .owned) x) (requestSeen s t cs rs i (g .owned) x) x ≡ answered (kept (copySeen s t cs rs i (g .owned) x) (requestSeen s t cs rs i (g .owned) x)) t a
+            → decidedOn s t (copySeen s t cs rs i (g .owned) x) (requestSeen s t cs rs i (g .owned) x) x ≡ answered kept t a
             → (out′ : List ℕ) (at′ : ℕ) → Written out out′ at (lineOf (k + 1) a) at′ → Running out′ t cs rs at′ (k + 1)
         unfolding linesFrom answers ran
         run-on a f out′ at′ w =

@@ -101,9 +101,11 @@ pub fn run_steps(
         objects = p.objects;
         queue = p.queue;
         let g = p.change;
-        let copy = g.copy;
+        let copy_change = g.copy;
+        let copy = client::copy::change(c, copy_change);
+        let turn = g.request;
+        let request = client::request::turn(r, turn);
         copies[i] = copy;
-        let request = g.request;
         requests[j] = request;
         let w = g.sweep;
         let n = places::reach(s, a.client, w);

@@ -55,7 +55,7 @@ completed-says zero = (refl, refl)
 completed-says (suc n) = (rw (eqb·suc-zero n, eqb·suc-zero n), rw (eqb·suc-zero n))
 
 module _ (s : Setup) (t : Tables) (c : Copy) (r : Request) where
-  read-says : (d o : ℕ) (b : Bool) → showable s t c d o ≡ b → Says (readDecided s t c r d o .outcome .answer) (cond b 1 2) (cond b (c .value) 0)
+  read-says : (d o : ℕ) (b : Bool) → showable s t c d o ≡ b → Says (readDecided s t c d o .outcome .answer) (cond b 1 2) (cond b (c .value) 0)
   unfolding readDecided
   read-says d o true e = (rw e, rw e)
   read-says d o false e = (rw e, rw e)

@@ -1,4 +1,4 @@
-// The public step over lent records: look up the records that a step can touch, decide on values, store what became of them.
+// The public step over lent records: look up the records that a step can touch, decide on values, do to them what the decision says.
 ghost use mathlib.Core.Bool.{_&&_};
 ghost use mathlib.Core.Path.{_≡_};
 ghost use Rattle.protocol.specs.Answers.{answerNumber, answerValue};
@@ -18,7 +18,6 @@ use protocol::tables::Tables;
 use records::copies;
 use records::requests;
 use records::sweep::sweep;
-use records::turn::turn_of;
 use records::turn::update;
 
 pub mod owned;
@@ -64,9 +63,8 @@ pub fn step(
     let r = requests::look(&*requests, at.client);
     let d = decide(setup, tables, sound, c, r, x);
     let g = change_of(d);
-    copies::settle(&mut *copies, at.copy, g.copy);
+    copies::change(&mut *copies, at.copy, g.copy);
     sweep(&mut *copies, setup, g.sweep, at.first);
-    let u = turn_of(r, g.request);
-    update(&mut *requests, at.client, u);
+    update(&mut *requests, at.client, g.request);
     outcome_of(d)
 }

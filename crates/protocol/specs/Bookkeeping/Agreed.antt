@@ -11,7 +11,6 @@ use mathlib.Core.Path.{_≡_, refl, sym, ap, _∙_}
 use borrow.Author.Tests.{eqb-true}
 use Rattle.laws.specs.Choice.{cond-keeps, true-or-false, not-both}
 use Rattle.protocol.specs.declared.records.Copy.{Copy}
-use Rattle.protocol.specs.declared.records.Request.{Request}
 use Rattle.protocol.specs.declared.setup.Setup.{Setup}
 use Rattle.protocol.specs.declared.step.Decision.{Decision}
 use Rattle.protocol.specs.declared.step.Step.{Step}
@@ -51,9 +50,9 @@ pub open-stands : (standing : Bool) (pending end y u : ℕ) → cond standing (w
 open-stands true pending end y u e = (refl, cc)
 open-stands false pending end y u e = absurd (let f : _≡_ {A = ℕ} 0 1 = cc in omega arith)
 
-read-tables : (s : Setup) (t : Tables) (c : Copy) (r : Request) (d o : ℕ) → readDecided s t c r d o .outcome .tables ≡ t
+read-tables : (s : Setup) (t : Tables) (c : Copy) (d o : ℕ) → readDecided s t c d o .outcome .tables ≡ t
 unfolding readDecided
-read-tables s t c r d o = cond-keeps (λ (g : Decision). g .outcome .tables ≡ t) (showable s t c d o) (λ e. refl) (λ e. refl)
+read-tables s t c d o = cond-keeps (λ (g : Decision). g .outcome .tables ≡ t) (showable s t c d o) (λ e. refl) (λ e. refl)
 
 module _ (s : Setup) (w : World) (x : Step) (l : Ledger) where
   accepted-step : SoundWorld s w → Booked s (w .tables) l → accepts s w x ≡ true → BookedStep s w x l (bookAll s l (events s w x))
@@ -87,7 +86,7 @@ module _ (s : Setup) (w : World) (x : Step) (l : Ledger) where
   read-leaves f e =
       tables-after s w x e
       ∙ ap (λ (g : Decision). g .outcome .tables) (read-performed s (w .tables) (copyOf s w x) (requestOf s w x) x f)
-      ∙ read-tables s (w .tables) (copyOf s w x) (requestOf s w x) (x .client) (x .object)
+      ∙ read-tables s (w .tables) (copyOf s w x) (x .client) (x .object)
 
   step-shows : SoundWorld s w → Booked s (w .tables) l → ReadsCurrent s w
       → isShown (answerOf s w x) ≡ true → answerValue (answerOf s w x) ≡ bookAll s l (events s w x) .postedValue (x .object)

@@ -40,7 +40,7 @@ module _ (s : Setup) (t : Tables) (c : Copy) (r : Request) where
   unfolding deliverDecided
   deliver-unshown i = not-one (received s (taken t i) c r (messageAt (t .queue) i .client) (messageAt (t .queue) i .kind) .counted .count)
 
-  restart-unshown : (d : ℕ) → isShown (restartDecided s t c r d .outcome .answer) ≡ false
+  restart-unshown : (d : ℕ) → isShown (restartDecided s t d .outcome .answer) ≡ false
   unfolding restartDecided
   restart-unshown d = refl
 
@@ -58,8 +58,8 @@ module _ (s : Setup) (t : Tables) (c : Copy) (r : Request) where
       (λ e. rw (server-performed s t c r x e))
       (λ e. rw (client-performed s t c r x e) (restart-unshown (x .client)))
 
-  read-shows : (d o : ℕ) → isShown (readDecided s t c r d o .outcome .answer) ≡ true
-      → (showable s t c d o ≡ true) × (answerValue (readDecided s t c r d o .outcome .answer) ≡ c .value)
+  read-shows : (d o : ℕ) → isShown (readDecided s t c d o .outcome .answer) ≡ true
+      → (showable s t c d o ≡ true) × (answerValue (readDecided s t c d o .outcome .answer) ≡ c .value)
   unfolding readDecided
   read-shows d o =
       cond-keeps (λ (g : Decision). isShown (g .outcome .answer) ≡ true → (showable s t c d o ≡ true) × (answerValue (g .outcome .answer) ≡ c .value))

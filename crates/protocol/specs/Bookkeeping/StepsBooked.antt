@@ -128,7 +128,7 @@ module _ (s : Setup) (rs : Ranges s) (t : Tables) (k : Shape t) (c : Copy) (r : 
   unfolding invalidateReceived
   invalidate-settles o e w = uncounted-settles s t _ l (objects-same t _ refl) h
 
-  offer-settles : (v n e : ℕ) → Settlement s l 0 (offerReceived t c r d v n e .counted) []
+  offer-settles : (v n e : ℕ) → Settlement s l 0 (offerReceived t r d v n e .counted) []
   unfolding offerReceived
   offer-settles v n e =
       cond-keeps (λ (g : Received). Settlement s l 0 (g .counted) []) (stands r n)
@@ -149,7 +149,7 @@ acceptance-completes s l o y end = refl
 
 -- ---- an accepted step
 module _ (s : Setup) (rs : Ranges s) (t : Tables) (k : Shape t) (b : Bounded s t) (c : Copy) (r : Request) (l : Ledger) (h : Booked s t l) where
-  clock-recorded : (T : ℕ) → Recorded s l (counting c r (settled s (clockStaged s t T))) (bookAll s l (completions s (clockStaged s t T) ++ (clockStep T ∷ [])))
+  clock-recorded : (T : ℕ) → Recorded s l (counting (settled s (clockStaged s t T))) (bookAll s l (completions s (clockStaged s t T) ++ (clockStep T ∷ [])))
   unfolding bookAll book
   clock-recorded T =
       let g = clockStaged s t T in
@@ -158,7 +158,7 @@ module _ (s : Setup) (rs : Ranges s) (t : Tables) (k : Shape t) (b : Bounded s t
       (record { booked = q .booked; reports = completions-counted s l (settlingOf s g) ∙ omega (arith, q .counts, reported-completed (settled s g .count)) })
 
   write-recorded : (o y : ℕ) → o < s .objects → standingAt t o ≡ false
-      → Recorded s l (counting c r (settled s (writeStaged s t o y))) (bookAll s l (acceptance o y (latestEnd s t o) ∷ completions s (writeStaged s t o y)))
+      → Recorded s l (counting (settled s (writeStaged s t o y))) (bookAll s l (acceptance o y (latestEnd s t o) ∷ completions s (writeStaged s t o y)))
   unfolding bookAll
   write-recorded o y p v =
       let g = writeStaged s t o y in
@@ -197,7 +197,7 @@ module _ (s : Setup) (rs : Ranges s) (t : Tables) (k : Shape t) (b : Bounded s t
   unfolding bookAll book
   read-booked d o = cond-keeps (λ (es : List Event). bookAll s l es ≡ l) (showable s t c d o) (λ e. refl) (λ e. refl)
 
-  read-recorded : (d o : ℕ) → Recorded s l (readDecided s t c r d o) l
+  read-recorded : (d o : ℕ) → Recorded s l (readDecided s t c d o) l
   unfolding readDecided
   read-recorded d o =
       cond-keeps (λ (g : Decision). Recorded s l g l) (showable s t c d o) (λ e. quiet _ (objects-same t _ refl) refl) (λ e. quiet _ (objects-same t _ refl) refl)
@@ -206,11 +206,11 @@ module _ (s : Setup) (rs : Ranges s) (t : Tables) (k : Shape t) (b : Bounded s t
   unfolding askDecided
   ask-recorded d o = quiet _ (objects-same t _ refl) refl
 
-  restart-recorded : (d : ℕ) → Recorded s l (restartDecided s t c r d) l
+  restart-recorded : (d : ℕ) → Recorded s l (restartDecided s t d) l
   unfolding restartDecided
   restart-recorded d = quiet _ (objects-same t _ refl) refl
 
-  server-recorded : Recorded s l (answered (kept c r) (serverRestarted s t) Done) (book s l serverRestart)
+  server-recorded : Recorded s l (answered kept (serverRestarted s t) Done) (book s l serverRestart)
   unfolding book
   server-recorded = record { booked = restarted-booked s t l h; reports = omega arith }
 

@@ -49,7 +49,7 @@ module _ (s : Setup) (t : Tables) (c : Copy) (r : Request) (past : List Event) w
       (λ e. rw (server-happening s t c x e))
       (λ e. rw (client-happening s t c x e))
 
-  read-told : (x : Step) → shownIn (told (readEvents s t c (x .client) (x .object)) past) ≡ shownIn past ++ shownBy x (readDecided s t c r (x .client) (x .object) .outcome .answer)
+  read-told : (x : Step) → shownIn (told (readEvents s t c (x .client) (x .object)) past) ≡ shownIn past ++ shownBy x (readDecided s t c (x .client) (x .object) .outcome .answer)
   unfolding readDecided told shownIn
   read-told x =
       cond-keeps (λ (g : Decision). shownIn (told (readEvents s t c (x .client) (x .object)) past) ≡ shownIn past ++ shownBy x (g .outcome .answer))

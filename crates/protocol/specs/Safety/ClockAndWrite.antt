@@ -24,7 +24,7 @@ use Rattle.protocol.specs.Safety.Beginning.{written-keeps}
 
 module _ (s : Setup) (w : World) (x : Step) (a : accepts s w x ≡ true) where
   -- a step that only completes writes leaves the clients' records
-  counting-steps : (c : Counted) → performedOf s w x ≡ counting (copyOf s w x) (requestOf s w x) c → stepped s w x ≡ withTables w (c .tables)
+  counting-steps : (c : Counted) → performedOf s w x ≡ counting c → stepped s w x ≡ withTables w (c .tables)
   unfolding stepped sweptAll foldFrom
   counting-steps c e = rw (decision-accepted s w x a, e, set-getD (w .copies), set-getD (w .requests))
 

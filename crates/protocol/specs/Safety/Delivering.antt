@@ -17,7 +17,7 @@ use Rattle.protocol.specs.Messages.{objectOf, removed}
 use Rattle.protocol.specs.Tables.{noCopy, noRequest}
 use Rattle.protocol.specs.Writes.{Staged}
 use Rattle.protocol.specs.Server.{ackTaken, ackStaged, dropTaken, dropStaged}
-use Rattle.protocol.specs.Client.{stands, storable, grantTaken, sweptAll}
+use Rattle.protocol.specs.Client.{turned, changed, stands, storable, grantTaken, sweptAll}
 use Rattle.protocol.specs.Decide.{Received, taken, grantReceived, invalidateReceived, offerReceived, received}
 use Rattle.protocol.specs.World.{World}
 use Rattle.protocol.specs.Soundness.Shape.{WorldShape, taken-shape}
@@ -41,8 +41,8 @@ use Rattle.protocol.specs.Soundness.ShapeKept.{ack-shape, drop-shape}
 abbrev pub receiving : Setup → World → ℕ → Kind → Received → World
 receiving s w d k g = record {
   tables = g .counted .tables;
-  copies = sweptAll s (g .change .sweep) (d * s .objects) (set (w .copies) (d * s .objects + objectOf k) (g .change .copy));
-  requests = set (w .requests) d (g .change .request);
+  copies = sweptAll s (g .change .sweep) (d * s .objects) (set (w .copies) (d * s .objects + objectOf k) (changed (copyAt s (w .copies) d (objectOf k)) (g .change .copy)));
+  requests = set (w .requests) d (turned (requestAt (w .requests) d) (g .change .request));
 }
 
 module _ (s : Setup) (range : Ranges s) (w : World) (inv : Inv s w) (shape : WorldShape s w) (few : w .tables .queue .len ≤ 64) (i : ℕ) (hi : i < w .tables .queue .len) where

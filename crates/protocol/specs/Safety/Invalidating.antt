@@ -14,7 +14,7 @@ use Rattle.protocol.specs.Setup.{volumeOf}
 use Rattle.protocol.specs.Messages.{message}
 use Rattle.protocol.specs.Tables.{noCopy}
 use Rattle.protocol.specs.Server.{sent}
-use Rattle.protocol.specs.Client.{forgotten}
+use Rattle.protocol.specs.Client.{turned, forgotten}
 use Rattle.protocol.specs.World.{World}
 use Rattle.protocol.specs.Soundness.Shape.{WorldShape}
 use Rattle.protocol.specs.Safety.View.{Stands, copyAt, requestAt}
@@ -103,7 +103,7 @@ module _ (s : Setup) (w : World) (inv : Inv s w) (shape : WorldShape s w) (d o e
   here = has-record shape hd
 
   abbrev requests : List Request
-  requests = set (w .requests) d (forgotten (requestAt (w .requests) d) o)
+  requests = set (w .requests) d (turned (requestAt (w .requests) d) (forgotten (requestAt (w .requests) d) o))
 
   abbrev after : World
   after = record { tables = w .tables; copies = set (w .copies) (d * s .objects + o) noCopy; requests = requests }

@@ -13,8 +13,9 @@ use Rattle.protocol.specs.declared.message.Kind.{Kind}
 use Rattle.protocol.specs.declared.message.Kind.the-variants.{Renew, Grant, Invalidate, Ack, Offer, Dropped}
 use Rattle.protocol.specs.declared.records.Request.{Request}
 use Rattle.protocol.specs.declared.setup.Setup.{Setup}
+use Rattle.protocol.specs.declared.step.Turn.{Turn}
 use Rattle.protocol.specs.Tables.{noRequest}
-use Rattle.protocol.specs.Client.{numbered, ended, forgotten, asksFor}
+use Rattle.protocol.specs.Client.{numbered, ended, turned, forgotten, asksFor}
 use Rattle.protocol.specs.World.{World}
 use Rattle.protocol.specs.Soundness.Shape.{WorldShape}
 use Rattle.protocol.specs.Safety.View.{Stands, requestAt}
@@ -127,16 +128,17 @@ module _ (requests : List Request) (d : ℕ) (here : d < length requests) where
   numbered-moves o = replaced-moves (numbered (requestAt requests d) o) (omega arith) (λ n h a b. omega arith)
 
   -- "forget a standing request for that object": none for it stands
-  pub forgotten-gone : (o n : ℕ) → Stands (with-record (forgotten (requestAt requests d) o)) d n
-      → requestAt (with-record (forgotten (requestAt requests d) o)) d .object ≡ o → ⊥
+  pub forgotten-gone : (o n : ℕ) → Stands (with-record (turned (requestAt requests d) (forgotten (requestAt requests d) o))) d n
+      → requestAt (with-record (turned (requestAt requests d) (forgotten (requestAt requests d) o))) d .object ≡ o → ⊥
   unfolding forgotten
   forgotten-gone o n a b =
-      let p = rw (same-record (forgotten (requestAt requests d) o)) at (a .there) in
-      let q = rw (same-record (forgotten (requestAt requests d) o)) at b in
+      let p = rw (same-record (turned (requestAt requests d) (forgotten (requestAt requests d) o))) at (a .there) in
+      let q = rw (same-record (turned (requestAt requests d) (forgotten (requestAt requests d) o))) at b in
       none o p q
     where
-      none : (o : ℕ) → forgotten (requestAt requests d) o .standing ≡ true → forgotten (requestAt requests d) o .object ≡ o → ⊥
-      none o = cond-keeps (λ (r : Request). r .standing ≡ true → r .object ≡ o → ⊥) (asksFor (requestAt requests d) o)
+      none : (o : ℕ) → turned (requestAt requests d) (forgotten (requestAt requests d) o) .standing ≡ true
+          → turned (requestAt requests d) (forgotten (requestAt requests d) o) .object ≡ o → ⊥
+      none o = cond-keeps (λ (u : Turn). turned (requestAt requests d) u .standing ≡ true → turned (requestAt requests d) u .object ≡ o → ⊥) (asksFor (requestAt requests d) o)
           (λ e p q. not-both p refl) (λ e p q. not-both (both-true p (eq-eqb _ _ q)) e)
 
   -- what is said of the numbers, with the new record
@@ -168,8 +170,8 @@ module _ (s : Setup) (w : World) (inv : Inv s w) (d : ℕ) (here : d < length (w
       moved s w inv _ (numbered-moves (w .requests) d here o)
       (replaced-numbers (w .requests) d here s _ (inv .numbers) (numbered now o) (λ e. refl) (omega arith))
 
-  pub request-forgotten : d < s .clients → (o : ℕ) → Inv s (requesting w (set (w .requests) d (forgotten now o)))
+  pub request-forgotten : d < s .clients → (o : ℕ) → Inv s (requesting w (set (w .requests) d (turned now (forgotten now o))))
   unfolding forgotten
   request-forgotten h o =
-      cond-keeps (λ (r : Request). Inv s (requesting w (set (w .requests) d r))) (asksFor now o) (λ e. request-ends)
+      cond-keeps (λ (u : Turn). Inv s (requesting w (set (w .requests) d (turned now u)))) (asksFor now o) (λ e. request-ends)
       (λ e. rw (set-getD (w .requests) d noRequest) inv)

@@ -29,7 +29,7 @@ completed-not-refused : (n : ℕ) → isRefused (completedAnswer n) ≡ false
 completed-not-refused n = cond-keeps (λ (a : Answer). isRefused a ≡ false) (eqb n 0) (λ e. refl) (λ e. not-four n)
 
 module _ (s : Setup) (t : Tables) (c : Copy) (r : Request) where
-  read-not-refused : (d o : ℕ) → isRefused (readDecided s t c r d o .outcome .answer) ≡ false
+  read-not-refused : (d o : ℕ) → isRefused (readDecided s t c d o .outcome .answer) ≡ false
   unfolding readDecided
   read-not-refused d o = cond-keeps (λ (g : Decision). isRefused (g .outcome .answer) ≡ false) (showable s t c d o) (λ e. refl) (λ e. refl)
 
@@ -41,7 +41,7 @@ module _ (s : Setup) (t : Tables) (c : Copy) (r : Request) where
   unfolding deliverDecided
   deliver-not-refused i = not-four (received s (taken t i) c r (messageAt (t .queue) i .client) (messageAt (t .queue) i .kind) .counted .count)
 
-  restart-not-refused : (d : ℕ) → isRefused (restartDecided s t c r d .outcome .answer) ≡ false
+  restart-not-refused : (d : ℕ) → isRefused (restartDecided s t d .outcome .answer) ≡ false
   unfolding restartDecided
   restart-not-refused d = refl
 

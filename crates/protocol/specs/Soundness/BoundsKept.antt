@@ -37,7 +37,7 @@ abbrev Decided : Setup → Copy → Request → Decision → Type 0
 Decided s c r g = Leaves s c r (g .outcome .tables) (g .change)
 
 module _ (s : Setup) (rs : Ranges s) (t : Tables) (c : Copy) (r : Request) (h : Bounded s t) where
-  read-bounded : (d o : ℕ) → Decided s c r (readDecided s t c r d o)
+  read-bounded : (d o : ℕ) → Decided s c r (readDecided s t c d o)
   unfolding readDecided
   read-bounded d o = cond-keeps (Decided s c r) (showable s t c d o) (λ _. unchanged h) (λ _. unchanged h)
 
@@ -56,7 +56,7 @@ module _ (s : Setup) (rs : Ranges s) (t : Tables) (c : Copy) (r : Request) (h : 
       let a = named s m (named-at s rs t i h) in
       received-bounded s rs _ c r (m .client) (a .0) (taken-bounded s rs t i h) (m .kind) (a .1)
 
-  restart-bounded : (d : ℕ) → Decided s c r (restartDecided s t c r d)
+  restart-bounded : (d : ℕ) → Decided s c r (restartDecided s t d)
   unfolding restartDecided
   restart-bounded d = record {
     tables = views-bounded (client-bounded s (t .views) d (h .views)) h;

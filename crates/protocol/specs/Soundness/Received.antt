@@ -16,6 +16,7 @@ use Rattle.protocol.specs.declared.records.Copy.{Copy}
 use Rattle.protocol.specs.declared.records.Request.{Request}
 use Rattle.protocol.specs.declared.setup.Setup.{Setup}
 use Rattle.protocol.specs.declared.step.Change.{Change}
+use Rattle.protocol.specs.declared.step.Turn.{Turn}
 use Rattle.protocol.specs.declared.tables.Views.{Views}
 use Rattle.protocol.specs.declared.tables.Tables.{Tables}
 use Rattle.protocol.specs.Setup.{volumeOf}
@@ -23,7 +24,7 @@ use Rattle.protocol.specs.Ranges.{Ranges}
 use Rattle.protocol.specs.Tables.{byVolume, byObject}
 use Rattle.protocol.specs.Writes.{Staged}
 use Rattle.protocol.specs.Server.{noted, offered, volumeRenewed, objectRenewed, granting, granted, lowestWaited, mustDrop, renewedBy, renewed, ackTaken, acked, ackStaged, dropTaken, disowned, dropped, dropStaged, serverRestarted, stale, beingWritten}
-use Rattle.protocol.specs.Client.{viewed, ended, stands, grantTaken, forgotten, clientRestarted, asksFor}
+use Rattle.protocol.specs.Client.{viewed, ended, turned, changed, stands, grantTaken, forgotten, clientRestarted, asksFor}
 use Rattle.protocol.specs.Sound.{timeFits, kindSound}
 use Rattle.protocol.specs.Decide.{Received, kept, grantReceived, invalidateReceived, offerReceived, received}
 use Rattle.protocol.specs.Soundness.Bounds.{Timed, Started, Named, ViewsBounded, Bounded, CopyBounded, RequestBounded, epoch-bounded, volume-expiry-bounded, guard-bounded, seen-bounded, session-expiry-bounded, unreachable-bounded, offer-bounded, value-bounded, version-bounded, object-expiry-bounded, lease-bounded, waiting-bounded, view-epoch-bounded, view-expiry-bounded, volumes-bounded, sessions-bounded, objects-bounded, holders-bounded, views-bounded, sent-bounded, fresh-sessions, fresh-objects, fresh-holders}
@@ -121,21 +122,21 @@ viewed-bounded u d v e x k h = view-expiry-bounded _ (each-set Timed (u .expiry)
 pub ended-bounded : {s : Setup} (r : Request) → RequestBounded s r → RequestBounded s (ended r)
 ended-bounded r h = record { next = h .next; object = λ e. not-both e refl }
 
-forgotten-bounded : {s : Setup} (r : Request) (o : ℕ) → RequestBounded s r → RequestBounded s (forgotten r o)
+forgotten-bounded : {s : Setup} (r : Request) (o : ℕ) → RequestBounded s r → RequestBounded s (turned r (forgotten r o))
 unfolding forgotten
-forgotten-bounded {s} r o h = cond-keeps (RequestBounded s) (asksFor r o) (λ _. ended-bounded r h) (λ _. h)
+forgotten-bounded {s} r o h = cond-keeps (λ (u : Turn). RequestBounded s (turned r u)) (asksFor r o) (λ _. ended-bounded r h) (λ _. h)
 
 -- what a receipt or a step leaves: tables t within the bounds, and a change g that keeps the bounds of the copy c and the request r
 pub record Leaves (s : Setup) (c : Copy) (r : Request) (t : Tables) (g : Change) : Type 0 where
   pub tables : Bounded s t
-  pub copy : CopyBounded c → CopyBounded (g .copy)
-  pub request : RequestBounded s r → RequestBounded s (g .request)
+  pub copy : CopyBounded c → CopyBounded (changed c (g .copy))
+  pub request : RequestBounded s r → RequestBounded s (turned r (g .request))
 
 abbrev pub Receipt : Setup → Copy → Request → Received → Type 0
 Receipt s c r g = Leaves s c r (g .counted .tables) (g .change)
 
 -- copy and request stay
-pub unchanged : {s : Setup} {c : Copy} {r : Request} {t : Tables} → Bounded s t → Leaves s c r t (kept c r)
+pub unchanged : {s : Setup} {c : Copy} {r : Request} {t : Tables} → Bounded s t → Leaves s c r t kept
 unchanged h = record { tables = h; copy = λ b. b; request = λ b. b }
 
 module _ (s : Setup) (rs : Ranges s) (t : Tables) (c : Copy) (r : Request) (d : ℕ) (p : d < s .clients) (h : Bounded s t) where
@@ -158,7 +159,7 @@ module _ (s : Setup) (rs : Ranges s) (t : Tables) (c : Copy) (r : Request) (d : 
     request = forgotten-bounded r o;
   }
 
-  offer-received : (v n e : ℕ) → v < s .volumes → Receipt s c r (offerReceived t c r d v n e)
+  offer-received : (v n e : ℕ) → v < s .volumes → Receipt s c r (offerReceived t r d v n e)
   unfolding offerReceived
   offer-received v n e q =
       cond-keeps (Receipt s c r) (stands r n)

@@ -151,9 +151,9 @@ unfolding clientRestarted
 client-shape s u d h = view-expiry-shape _ (simp length-store) (view-epoch-shape _ (simp length-store) h)
 
 -- ---- a step
-read-shape : (s : Setup) (t : Tables) (c : Copy) (r : Request) (d o : ℕ) → Shape t → Shape (readDecided s t c r d o .outcome .tables)
+read-shape : (s : Setup) (t : Tables) (c : Copy) (d o : ℕ) → Shape t → Shape (readDecided s t c d o .outcome .tables)
 unfolding readDecided
-read-shape s t c r d o h = cond-keeps (λ (g : Decision). Shape (g .outcome .tables)) (showable s t c d o) (λ _. h) (λ _. h)
+read-shape s t c d o h = cond-keeps (λ (g : Decision). Shape (g .outcome .tables)) (showable s t c d o) (λ _. h) (λ _. h)
 
 ask-shape : (s : Setup) (t : Tables) (c : Copy) (r : Request) (d o : ℕ) → Shape t → Shape (askDecided s t c r d o .outcome .tables)
 unfolding askDecided
@@ -163,22 +163,22 @@ deliver-shape : (s : Setup) (t : Tables) (c : Copy) (r : Request) (i : ℕ) → 
 unfolding deliverDecided
 deliver-shape s t c r i k h = received-shape s _ c r _ _ (taken-shape t i k h)
 
-restart-shape : (s : Setup) (t : Tables) (c : Copy) (r : Request) (d : ℕ) → Shape t → Shape (restartDecided s t c r d .outcome .tables)
+restart-shape : (s : Setup) (t : Tables) (d : ℕ) → Shape t → Shape (restartDecided s t d .outcome .tables)
 unfolding restartDecided
-restart-shape s t c r d h = views-shape (client-shape s (t .views) d (h .views)) h
+restart-shape s t d h = views-shape (client-shape s (t .views) d (h .views)) h
 
 performed-shape : (s : Setup) (t : Tables) (b : Bool) (c : Copy) (r : Request) (x : Step) → Accepted s t b r x → Shape t → Shape (performed s t c r x .outcome .tables)
 performed-shape s t b c r x a h =
     by-kind (Shape (performed s t c r x .outcome .tables)) x (a .passes .knows)
     (λ e. rw (clock-performed s t c r x e) (settled-shape s _ (clock-shape t (x .clock) h)))
-    (λ e. rw (read-performed s t c r x e) (read-shape s t c r (x .client) (x .object) h))
+    (λ e. rw (read-performed s t c r x e) (read-shape s t c (x .client) (x .object) h))
     (λ e. rw (ask-performed s t c r x e) (ask-shape s t c r (x .client) (x .object) h))
     (λ e. rw (write-performed s t c r x e) (settled-shape s _ (written-shape s t (x .object) (x .value) h)))
     (λ e. rw (deliver-performed s t c r x e) (deliver-shape s t c r (x .place) (in-list (rw e)) h))
     (λ e. rw (lose-performed s t c r x e) (taken-shape t (x .place) (in-list (rw e)) h))
     (λ e. rw (double-performed s t c r x e) (sent-shape t _ h))
     (λ e. rw (server-performed s t c r x e) (server-shape s t h))
-    (λ e. rw (client-performed s t c r x e) (restart-shape s t c r (x .client) h))
+    (λ e. rw (client-performed s t c r x e) (restart-shape s t (x .client) h))
   where
     in-list : usesPlace x ≡ true → x .place < 64
     in-list e = omega (arith, place-exists (a .passes) e, queue-fits a)

@@ -104,7 +104,7 @@ module _ (s : Setup) (w : World) (x : Step) where
   accepted-answer e = ap (λ (d : Decision). d .outcome .answer) (decision-accepted e)
 
   pub decision-refused : accepts s w x ≡ false
-      → decision s w x ≡ refusedWith (w .tables) (copyOf s w x) (requestOf s w x) (refusal s (w .tables) (recordsOf s w) (requestOf s w x) x)
+      → decision s w x ≡ refusedWith (w .tables) (refusal s (w .tables) (recordsOf s w) (requestOf s w x) x)
   unfolding decision decided
   decision-refused e = rw e
 
@@ -138,11 +138,11 @@ by-kind P x e clock read ask write deliver lose double server client =
     next? k h here above = ⊎-elim here (λ n. above (omega arith)) (same? (x .kind) k)
 
 module _ (s : Setup) (t : Tables) (c : Copy) (r : Request) (x : Step) where
-  pub clock-performed : x .kind ≡ 1 → performed s t c r x ≡ counting c r (settled s (clockStaged s t (x .clock)))
+  pub clock-performed : x .kind ≡ 1 → performed s t c r x ≡ counting (settled s (clockStaged s t (x .clock)))
   unfolding performed
   clock-performed e = rw e
 
-  pub read-performed : x .kind ≡ 2 → performed s t c r x ≡ readDecided s t c r (x .client) (x .object)
+  pub read-performed : x .kind ≡ 2 → performed s t c r x ≡ readDecided s t c (x .client) (x .object)
   unfolding performed
   read-performed e = rw e
 
@@ -150,7 +150,7 @@ module _ (s : Setup) (t : Tables) (c : Copy) (r : Request) (x : Step) where
   unfolding performed
   ask-performed e = rw e
 
-  pub write-performed : x .kind ≡ 4 → performed s t c r x ≡ counting c r (settled s (writeStaged s t (x .object) (x .value)))
+  pub write-performed : x .kind ≡ 4 → performed s t c r x ≡ counting (settled s (writeStaged s t (x .object) (x .value)))
   unfolding performed
   write-performed e = rw e
 
@@ -158,19 +158,19 @@ module _ (s : Setup) (t : Tables) (c : Copy) (r : Request) (x : Step) where
   unfolding performed
   deliver-performed e = rw e
 
-  pub lose-performed : x .kind ≡ 6 → performed s t c r x ≡ answered (kept c r) (taken t (x .place)) Done
+  pub lose-performed : x .kind ≡ 6 → performed s t c r x ≡ answered kept (taken t (x .place)) Done
   unfolding performed
   lose-performed e = rw e
 
-  pub double-performed : x .kind ≡ 7 → performed s t c r x ≡ answered (kept c r) (withQueue t (doubled (t .queue) (x .place))) Done
+  pub double-performed : x .kind ≡ 7 → performed s t c r x ≡ answered kept (withQueue t (doubled (t .queue) (x .place))) Done
   unfolding performed
   double-performed e = rw e
 
-  pub server-performed : x .kind ≡ 8 → performed s t c r x ≡ answered (kept c r) (serverRestarted s t) Done
+  pub server-performed : x .kind ≡ 8 → performed s t c r x ≡ answered kept (serverRestarted s t) Done
   unfolding performed
   server-performed e = rw e
 
-  pub client-performed : x .kind ≡ 9 → performed s t c r x ≡ restartDecided s t c r (x .client)
+  pub client-performed : x .kind ≡ 9 → performed s t c r x ≡ restartDecided s t (x .client)
   unfolding performed
   client-performed e = rw e
 

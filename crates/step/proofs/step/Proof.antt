@@ -48,11 +48,12 @@ use contract.Monad.{factI}
 use lib.Dec.{T as TB}
 use mir.Val.{WT, hasTy}
 use Rattle.protocol.specs.Tables.{noCopy, noRequest}
-use Rattle.protocol.specs.Client.{sweptAll}
+use Rattle.protocol.specs.Client.{turned, CanTurn, changed, sweptAll}
 use Rattle.protocol.specs.Sound.{copiesSound, requestsSound}
 use Rattle.protocol.specs.Answers.{answerNumber, answerValue}
 use Rattle.protocol.specs.Decide.{decided}
 use Rattle.protocol.specs.World.{World, target, copiesAfter, requestsAfter, decision, stepped, answerOf}
+use Rattle.protocol.specs.Soundness.Numbering.{decision-turns}
 use Rattle.protocol.specs.declared.records.Copy.{Copy}
 use Rattle.protocol.proofs.records.Copy as R-
 use Rattle.protocol.proofs.records.Copy.Laws as R′
@@ -83,15 +84,16 @@ use Rattle.protocol.proofs.step.Target.Laws as P′
 use Rattle.protocol.specs.declared.step.Sweep.{Sweep}
 use Rattle.protocol.proofs.step.Sweep as G-
 use Rattle.protocol.proofs.step.Sweep.Laws as G′
-use Rattle.records.specs.declared.turn.Turn.{Turn}
-use Rattle.records.proofs.turn.Turn as Y-
-use Rattle.records.proofs.turn.Turn.Laws as Y′
+use Rattle.protocol.specs.declared.step.CopyChange.{CopyChange}
+use Rattle.protocol.proofs.step.CopyChange as F-
+use Rattle.protocol.proofs.step.CopyChange.Laws as F′
+use Rattle.protocol.specs.declared.step.Turn.{Turn}
+use Rattle.protocol.proofs.step.Turn as Y-
+use Rattle.protocol.proofs.step.Turn.Laws as Y′
 use denote.Struct.Laws as LL
 use denote.Enum.Laws as EL
 use Rattle.records.specs.Lent.{lend-mut, back-mut, lend-shr-at, back-shr, Part}
-use Rattle.records.specs.Turns.{turned, CanTurn, turnOf, turn-back}
 use Rattle.step.specs.Lent.{world}
-use Rattle.step.specs.Moved.{moves}
 use Rattle.step.specs.Numbers.{numberOf, valueOf, number-is, value-is}
 use Rattle.step.specs.Refused.{refused-same}
 use Rattle.records.proofs.copies.sound as copies-sound-c
@@ -126,18 +128,14 @@ use Rattle.step.proofs.change_of as change-of-c
 use Rattle.step.proofs.change_of.Symbol as change-of-def
 use Rattle.step.proofs.change_of.Symbol.{name as #step·change-of}
 use Rattle.step.proofs.change_of.Met as change-of-thm
-use Rattle.records.proofs.copies.settle as settle-c
-use Rattle.records.proofs.copies.settle.Symbol as settle-def
-use Rattle.records.proofs.copies.settle.Symbol.{name as #records·copies·settle}
-use Rattle.records.proofs.copies.settle.Met as settle-thm
+use Rattle.records.proofs.copies.change as change-c
+use Rattle.records.proofs.copies.change.Symbol as change-def
+use Rattle.records.proofs.copies.change.Symbol.{name as #records·copies·change}
+use Rattle.records.proofs.copies.change.Met as change-thm
 use Rattle.records.proofs.sweep.sweep as sweep-c
 use Rattle.records.proofs.sweep.sweep.Symbol as sweep-def
 use Rattle.records.proofs.sweep.sweep.Symbol.{name as #records·sweep·sweep}
 use Rattle.records.proofs.sweep.sweep.Met as sweep-thm
-use Rattle.records.proofs.turn.turn_of as turn-of-c
-use Rattle.records.proofs.turn.turn_of.Symbol as turn-of-def
-use Rattle.records.proofs.turn.turn_of.Symbol.{name as #records·turn·turn-of}
-use Rattle.records.proofs.turn.turn_of.Met as turn-of-thm
 use Rattle.records.proofs.turn.update as update-c
 use Rattle.records.proofs.turn.update.Symbol as update-def
 use Rattle.records.proofs.turn.update.Symbol.{name as #records·turn·update}
@@ -180,6 +178,9 @@ P = P-.the-row
 
 abbrev G : RattleType
 G = G-.the-row
+
+abbrev F : RattleType
+F = F-.the-row
 
 abbrev Y : RattleType
 Y = Y-.the-row
@@ -238,14 +239,11 @@ On-decide 𝓤 H A mem run = tripleOf 𝓤 H A decide-c.signature (decide-c.spec
 abbrev On-change-of : {M : Type 1} (𝓤 : URA M) (H : Heap 𝓤) (A : Atoms 𝓤) (mem : Memory → SProp 𝓤) (run : Routine → Fun 𝓤) → Contract 𝓤
 On-change-of 𝓤 H A mem run = tripleOf 𝓤 H A change-of-c.signature (change-of-c.spec 𝓤 H A mem run)
 
-abbrev On-settle : {M : Type 1} (𝓤 : URA M) (H : Heap 𝓤) (A : Atoms 𝓤) (mem : Memory → SProp 𝓤) (run : Routine → Fun 𝓤) → Contract 𝓤
-On-settle 𝓤 H A mem run = tripleOf 𝓤 H A settle-c.signature (settle-c.spec 𝓤 H A mem run)
+abbrev On-change : {M : Type 1} (𝓤 : URA M) (H : Heap 𝓤) (A : Atoms 𝓤) (mem : Memory → SProp 𝓤) (run : Routine → Fun 𝓤) → Contract 𝓤
+On-change 𝓤 H A mem run = tripleOf 𝓤 H A change-c.signature (change-c.spec 𝓤 H A mem run)
 
 abbrev On-sweep : {M : Type 1} (𝓤 : URA M) (H : Heap 𝓤) (A : Atoms 𝓤) (mem : Memory → SProp 𝓤) (run : Routine → Fun 𝓤) → Contract 𝓤
 On-sweep 𝓤 H A mem run = tripleOf 𝓤 H A sweep-c.signature (sweep-c.spec 𝓤 H A mem run)
-
-abbrev On-turn-of : {M : Type 1} (𝓤 : URA M) (H : Heap 𝓤) (A : Atoms 𝓤) (mem : Memory → SProp 𝓤) (run : Routine → Fun 𝓤) → Contract 𝓤
-On-turn-of 𝓤 H A mem run = tripleOf 𝓤 H A turn-of-c.signature (turn-of-c.spec 𝓤 H A mem run)
 
 abbrev On-update : {M : Type 1} (𝓤 : URA M) (H : Heap 𝓤) (A : Atoms 𝓤) (mem : Memory → SProp 𝓤) (run : Routine → Fun 𝓤) → Contract 𝓤
 On-update 𝓤 H A mem run = tripleOf 𝓤 H A update-c.signature (update-c.spec 𝓤 H A mem run)
@@ -317,19 +315,19 @@ module _ {M : Type 1} (𝓤 : URA M) (H : Heap 𝓤) (A : Atoms 𝓤) (W : Given
   d₀ = decided st tb ok₀ c₀ h₀ uq
 
   abbrev ys₁ : Decision → List Copy
-  ys₁ d = set ys (t₀ .copy) (d .change .copy)
+  ys₁ d = set ys (t₀ .copy) (changed c₀ (d .change .copy))
 
   abbrev ys₂ : Decision → List Copy
   ys₂ d = sweptAll st (d .change .sweep) (t₀ .first) (ys₁ d)
 
   abbrev u₀ : Decision → Turn
-  u₀ d = turnOf h₀ (d .change .request)
+  u₀ d = d .change .request
 
   abbrev ks₁ : Decision → List Request
   ks₁ d = set ks (t₀ .client) (turned h₀ (u₀ d))
 
   len₁ : (d : Decision) → length (ys₁ d) ≡ n
-  len₁ d = length-set ys (t₀ .copy) (d .change .copy)
+  len₁ d = length-set ys (t₀ .copy) _
 
   len₂ : (d : Decision) → length (ys₂ d) ≡ length (ys₁ d) → length (ys₂ d) ≡ n
   len₂ d e = e ∙ len₁ d
@@ -343,14 +341,11 @@ module _ {M : Type 1} (𝓤 : URA M) (H : Heap 𝓤) (A : Atoms 𝓤) (W : Given
   is-decision d e = e
 
   can : (d : Decision) → d ≡ d₀ → CanTurn h₀ (u₀ d)
-  can d e = subst (λ (z : Decision). CanTurn h₀ (u₀ z)) (sym (is-decision d e)) (turn-back h₀ _ (moves st w₀ uq) .1)
-
-  moved : (d : Decision) → d ≡ d₀ → ks₁ d ≡ requestsAfter ks t₀ d
-  moved d e = subst (λ (z : Decision). ks₁ z ≡ requestsAfter ks t₀ z) (sym (is-decision d e)) (ap (set ks (t₀ .client)) (turn-back h₀ _ (moves st w₀ uq) .0))
+  can d e = subst (λ (z : Decision). CanTurn h₀ (u₀ z)) (sym (is-decision d e)) (decision-turns st w₀ uq)
 
   steps : (d : Decision) → d ≡ d₀ → world (d .outcome .tables) (ys₂ d) (ks₁ d) ≡ stepped st w₀ uq
   unfolding stepped
-  steps d e = ap (world (d .outcome .tables) (ys₂ d)) (moved d e) ∙ ap (λ (z : Decision). world (z .outcome .tables) (copiesAfter st ys t₀ z) (requestsAfter ks t₀ z)) (is-decision d e)
+  steps d e = ap (λ (z : Decision). world (z .outcome .tables) (copiesAfter st ys t₀ z) (requestsAfter ks t₀ z)) (is-decision d e)
 
   says-answer : (d : Decision) → d ≡ d₀ → d .outcome .answer ≡ answerOf st w₀ uq
   says-answer d e = ap (λ (z : Decision). z .outcome .answer) (is-decision d e)
@@ -377,16 +372,13 @@ module _ {M : Type 1} (𝓤 : URA M) (H : Heap 𝓤) (A : Atoms 𝓤) (W : Given
   said-D : {w : Val} (c : Decision) → Is D c (w ∷ []) → Is D c ((LL.val D-.the-type D′.the-laws c) ∷ [])
   said-D {w} c is = subst (λ (vs : List Val). Is D c vs) (LL.tells D-.the-type D′.the-laws c (w ∷ []) is) is
 
-  said-Y : {w : Val} (c : Turn) → Is Y c (w ∷ []) → Is Y c ((EL.val Y-.the-type Y′.the-laws c) ∷ [])
-  said-Y {w} c is = subst (λ (vs : List Val). Is Y c vs) (EL.tells Y-.the-type Y′.the-laws c (w ∷ []) is) is
-
   in-t : Is P t₀ ((LL.val P-.the-type P′.the-laws t₀) ∷ []) → Is usize (t₀ .client) (vint w64 (t₀ .client) ∷ []) × (Is usize (t₀ .copy) (vint w64 (t₀ .copy) ∷ []) × (Is usize (t₀ .first) (vint w64 (t₀ .first) ∷ []) × (Unit {0})))
   in-t is = LL.owed P-.the-type P′.the-laws t₀ _ is
 
   in-d : (d : Decision) → Is D d ((LL.val D-.the-type D′.the-laws d) ∷ []) → Is C (d .change) ((LL.val C-.the-type C′.the-laws (d .change)) ∷ []) × (Is O (d .outcome) ((LL.val O-.the-type O′.the-laws (d .outcome)) ∷ []) × Unit {0})
   in-d d is = LL.owed D-.the-type D′.the-laws d _ is
 
-  in-g : (d : Decision) → Is D d ((LL.val D-.the-type D′.the-laws d) ∷ []) → Is R (d .change .copy) ((LL.val R-.the-type R′.the-laws (d .change .copy)) ∷ []) × (Is Q (d .change .request) ((LL.val Q-.the-type Q′.the-laws (d .change .request)) ∷ []) × (Is G (d .change .sweep) ((EL.val G-.the-type G′.the-laws (d .change .sweep)) ∷ []) × (Unit {0})))
+  in-g : (d : Decision) → Is D d ((LL.val D-.the-type D′.the-laws d) ∷ []) → Is F (d .change .copy) ((EL.val F-.the-type F′.the-laws (d .change .copy)) ∷ []) × (Is Y (d .change .request) ((EL.val Y-.the-type Y′.the-laws (d .change .request)) ∷ []) × (Is G (d .change .sweep) ((EL.val G-.the-type G′.the-laws (d .change .sweep)) ∷ []) × (Unit {0})))
   in-g d is = LL.owed C-.the-type C′.the-laws (d .change) _ (in-d d is .0)
 
   -- the machine's test of types, of the types that are shut
@@ -510,17 +502,17 @@ module _ {M : Type 1} (𝓤 : URA M) (H : Heap 𝓤) (A : Atoms 𝓤) (W : Given
   got-change-of : (d : Decision) (r : Change) → ent 𝓤 (ensured 𝓤 H A change-of-c.ended (change-of-c.clauses 𝓤 H A at-mem run) tt (args-change-of d) tt r) (fact 𝓤 (r ≡ d .change))
   got-change-of d r = exE 𝓤 _ (λ ws. snd∗ 𝓤 (sem 𝓤 H A (lasts change-of-c.ended tt (args-change-of d) ws)) (fact 𝓤 (r ≡ d .change)))
 
-  -- settle
-  abbrev args-settle : (d : Decision) → GName → RefT (List Copy) × (ℕ × (Copy × (Unit {0})))
-  args-settle d δ = (x δ (ys), ((t₀ .copy), ((d .change .copy), tt)))
+  -- change
+  abbrev args-change : (d : Decision) → GName → RefT (List Copy) × (ℕ × (CopyChange × (Unit {0})))
+  args-change d δ = (x δ (ys), ((t₀ .copy), ((d .change .copy), tt)))
 
-  abbrev to-settle : (d : Decision) → ℕ → GName → On-settle 𝓤 H A at-mem run .Ghost
-  to-settle d ν δ = (((ν ∷ [], tt), (fullShare, tt), tt, args-settle d δ, (s ∷ [], (vint w64 (t₀ .copy) ∷ [], ((LL.val R-.the-type R′.the-laws (d .change .copy)) ∷ [], tt)))), tt)
+  abbrev to-change : (d : Decision) → ℕ → GName → On-change 𝓤 H A at-mem run .Ghost
+  to-change d ν δ = (((ν ∷ [], tt), (fullShare, tt), tt, args-change d δ, (s ∷ [], (vint w64 (t₀ .copy) ∷ [], ((EL.val F-.the-type F′.the-laws (d .change .copy)) ∷ [], tt)))), tt)
 
-  goes-settle : (d : Decision) (is : Is D d ((LL.val D-.the-type D′.the-laws d) ∷ [])) (is-t : Is P t₀ ((LL.val P-.the-type P′.the-laws t₀) ∷ [])) (ν : ℕ) (δ : GName) → ent 𝓤 (sep 𝓤 (A .lft (ν ∷ []) fullShare) (sem 𝓤 H A (MutSlice (named 0) (ν ∷ []) R .own (x δ (ys)) (s ∷ [])))) (On-settle 𝓤 H A at-mem run .pre (to-settle d ν δ))
-  goes-settle d is is-t ν δ =
+  goes-change : (d : Decision) (is : Is D d ((LL.val D-.the-type D′.the-laws d) ∷ [])) (is-t : Is P t₀ ((LL.val P-.the-type P′.the-laws t₀) ∷ [])) (ν : ℕ) (δ : GName) → ent 𝓤 (sep 𝓤 (A .lft (ν ∷ []) fullShare) (sem 𝓤 H A (MutSlice (named 0) (ν ∷ []) R .own (x δ (ys)) (s ∷ [])))) (On-change 𝓤 H A at-mem run .pre (to-change d ν δ))
+  goes-change d is is-t ν δ =
       qed W (‵ (flft (ν ∷ []) fullShare) ∷ ‵ (MutSlice (named 0) (ν ∷ []) R .own (x δ (ys)) (s ∷ [])) ∷ []) ∵ nothing ! $ move ! (1 ∷ 0 ∷ []) $ join ! $ nothing ! $
-      owned ! R (Is R) (LL.makes R-.the-type R′.the-plain 𝓤 H A) (d .change .copy) _ (in-g d is .0) $ fjoin ! $ owned ! usize (Is usize) (uint-makes 𝓤 H A W w64) (t₀ .copy) _ (refl, in-t is-t .1 .0 .1) $ fjoin ! $ move ! (2 ∷ 0 ∷ []) $ fjoin ! $ move ! (1 ∷ 0 ∷ []) $ join ! $ nothing ! $ move ! (1 ∷ 0 ∷ []) $ done !
+      owned ! F (Is F) (EL.makes F-.the-type F′.the-plain 𝓤 H A) (d .change .copy) _ (in-g d is .0) $ fjoin ! $ owned ! usize (Is usize) (uint-makes 𝓤 H A W w64) (t₀ .copy) _ (refl, in-t is-t .1 .0 .1) $ fjoin ! $ move ! (2 ∷ 0 ∷ []) $ fjoin ! $ move ! (1 ∷ 0 ∷ []) $ join ! $ nothing ! $ move ! (1 ∷ 0 ∷ []) $ done !
 
   -- sweep
   abbrev args-sweep : (d : Decision) → GName → RefT (List Copy) × (Setup × (Sweep × (ℕ × (Unit {0}))))
@@ -534,19 +526,6 @@ module _ {M : Type 1} (𝓤 : URA M) (H : Heap 𝓤) (A : Atoms 𝓤) (W : Given
       qed W (‵ (flft (ν ∷ []) fullShare) ∷ ‵ (MutSlice (named 0) (ν ∷ []) R .own (x δ (ys₁ d)) (s ∷ [])) ∷ []) ∵ nothing ! $ move ! (1 ∷ 0 ∷ []) $ join ! $ nothing ! $
       owned ! usize (Is usize) (uint-makes 𝓤 H A W w64) (t₀ .first) _ (refl, in-t is-t .1 .1 .0 .1) $ fjoin ! $ owned ! G (Is G) (EL.makes G-.the-type G′.the-plain 𝓤 H A) (d .change .sweep) _ (in-g d is .1 .1 .0) $ fjoin ! $ owned ! S (Is S) (LL.makes S-.the-type S′.the-plain 𝓤 H A) st _ is-st $ fjoin ! $ move ! (2 ∷ 0 ∷ []) $ fjoin ! $ move ! (1 ∷ 0 ∷ []) $ join ! $ nothing ! $ move ! (1 ∷ 0 ∷ []) $ done !
 
-  -- turn-of
-  abbrev args-turn-of : (d : Decision) → Request × (Request × (Unit {0}))
-  args-turn-of d = (h₀, ((d .change .request), tt))
-
-  abbrev to-turn-of : (d : Decision) → On-turn-of 𝓤 H A at-mem run .Ghost
-  to-turn-of d = ((tt, tt, tt, args-turn-of d, ((LL.val Q-.the-type Q′.the-laws h₀) ∷ [], ((LL.val Q-.the-type Q′.the-laws (d .change .request)) ∷ [], tt))), tt)
-
-  goes-turn-of : (d : Decision) (is : Is D d ((LL.val D-.the-type D′.the-laws d) ∷ [])) (is-h : Is Q h₀ ((LL.val Q-.the-type Q′.the-laws h₀) ∷ [])) → ent 𝓤 (emp 𝓤) (On-turn-of 𝓤 H A at-mem run .pre (to-turn-of d))
-  goes-turn-of d is is-h = qed W [] ∵ nothing ! $ owned ! Q (Is Q) (LL.makes Q-.the-type Q′.the-plain 𝓤 H A) (d .change .request) _ (in-g d is .1 .0) $ fjoin ! $ owned ! Q (Is Q) (LL.makes Q-.the-type Q′.the-plain 𝓤 H A) h₀ _ is-h $ fjoin ! $ nothing ! $ join ! $ frame ! $ done !
-
-  got-turn-of : (d : Decision) (r : Turn) → ent 𝓤 (ensured 𝓤 H A turn-of-c.ended (turn-of-c.clauses 𝓤 H A at-mem run) tt (args-turn-of d) tt r) (fact 𝓤 (r ≡ u₀ d))
-  got-turn-of d r = exE 𝓤 _ (λ ws. snd∗ 𝓤 (sem 𝓤 H A (lasts turn-of-c.ended tt (args-turn-of d) ws)) (fact 𝓤 (r ≡ u₀ d)))
-
   -- update
   abbrev args-update : Decision → GName → RefT (List Request) × (ℕ × (Turn × Unit {0}))
   args-update d δ = (xq δ ks, (t₀ .client, (u₀ d, tt)))
@@ -554,10 +533,10 @@ module _ {M : Type 1} (𝓤 : URA M) (H : Heap 𝓤) (A : Atoms 𝓤) (W : Given
   abbrev to-update : Decision → ℕ → GName → On-update 𝓤 H A at-mem run .Ghost
   to-update d ν δ = (((ν ∷ [], tt), (fullShare, tt), tt, args-update d δ, (sq ∷ [], (vint w64 (t₀ .client) ∷ [], ((EL.val Y-.the-type Y′.the-laws (u₀ d)) ∷ [], tt)))), tt)
 
-  goes-update : (d : Decision) → CanTurn h₀ (u₀ d) → Is Y (u₀ d) ((EL.val Y-.the-type Y′.the-laws (u₀ d)) ∷ []) → Is P t₀ ((LL.val P-.the-type P′.the-laws t₀) ∷ []) → (ν : ℕ) (δ : GName) → ent 𝓤 (sep 𝓤 (A .lft (ν ∷ []) fullShare) (sem 𝓤 H A (MutSlice (named 0) (ν ∷ []) Q .own (xq δ ks) (sq ∷ [])))) (On-update 𝓤 H A at-mem run .pre (to-update d ν δ))
-  goes-update d can is-y is-t ν δ =
+  goes-update : (d : Decision) → CanTurn h₀ (u₀ d) → Is D d ((LL.val D-.the-type D′.the-laws d) ∷ []) → Is P t₀ ((LL.val P-.the-type P′.the-laws t₀) ∷ []) → (ν : ℕ) (δ : GName) → ent 𝓤 (sep 𝓤 (A .lft (ν ∷ []) fullShare) (sem 𝓤 H A (MutSlice (named 0) (ν ∷ []) Q .own (xq δ ks) (sq ∷ [])))) (On-update 𝓤 H A at-mem run .pre (to-update d ν δ))
+  goes-update d can is is-t ν δ =
       qed W (‵ (flft (ν ∷ []) fullShare) ∷ ‵ (MutSlice (named 0) (ν ∷ []) Q .own (xq δ ks) (sq ∷ [])) ∷ []) ∵ says ! can $ nothing ! $ move ! (1 ∷ 0 ∷ []) $ join ! $ frame ! $ nothing ! $
-      owned ! Y (Is Y) (EL.makes Y-.the-type Y′.the-plain 𝓤 H A) (u₀ d) _ is-y $ fjoin ! $ owned ! usize (Is usize) (uint-makes 𝓤 H A W w64) (t₀ .client) _ (refl, in-t is-t .0 .1) $ fjoin ! $ move ! (1 ∷ 0 ∷ []) $ fjoin ! $ done !
+      owned ! Y (Is Y) (EL.makes Y-.the-type Y′.the-plain 𝓤 H A) (u₀ d) _ (in-g d is .1 .0) $ fjoin ! $ owned ! usize (Is usize) (uint-makes 𝓤 H A W w64) (t₀ .client) _ (refl, in-t is-t .0 .1) $ fjoin ! $ move ! (1 ∷ 0 ∷ []) $ fjoin ! $ done !
 
   -- outcome-of
   abbrev args-outcome-of : (d : Decision) → Decision × (Unit {0})
@@ -584,26 +563,26 @@ module _ {M : Type 1} (𝓤 : URA M) (H : Heap 𝓤) (A : Atoms 𝓤) (W : Given
       nothing ! $ owned ! U (Is U) (LL.makes U-.the-type U′.the-plain 𝓤 H A) uq _ is-u $ fjoin ! $ move ! (1 ∷ 0 ∷ []) $ fjoin ! $ move ! (1 ∷ 0 ∷ []) $ fjoin ! $ owned ! B (Is B) (LL.makes B-.the-type B′.the-plain 𝓤 H A) tb _ is-tb $ fjoin ! $ owned ! S (Is S) (LL.makes S-.the-type S′.the-plain 𝓤 H A) st _ is-st $ fjoin ! $
       frame ! $ owned ! O (Is O) (LL.makes O-.the-type O′.the-plain 𝓤 H A) (d .outcome) _ (in-d d is .1 .0) $ done !
 
-  module _ (𝓣 : Tables 𝓤 H) (fm : FmC 𝓤 H (W .laws) (𝓣 .C)) (known-copies-sound : Triple 𝓤 (𝓣 .C #records·copies·sound) (On-copies-sound 𝓤 H A at-mem run)) (known-requests-sound : Triple 𝓤 (𝓣 .C #records·requests·sound) (On-requests-sound 𝓤 H A at-mem run)) (known-both : Triple 𝓤 (𝓣 .C #step·both) (On-both 𝓤 H A at-mem run)) (known-target : Triple 𝓤 (𝓣 .C #decide·records·target) (On-target 𝓤 H A at-mem run)) (known-copies-look : Triple 𝓤 (𝓣 .C #records·copies·look) (On-copies-look 𝓤 H A at-mem run)) (known-requests-look : Triple 𝓤 (𝓣 .C #records·requests·look) (On-requests-look 𝓤 H A at-mem run)) (known-decide : Triple 𝓤 (𝓣 .C #decide·decide) (On-decide 𝓤 H A at-mem run)) (known-change-of : Triple 𝓤 (𝓣 .C #step·change-of) (On-change-of 𝓤 H A at-mem run)) (known-settle : Triple 𝓤 (𝓣 .C #records·copies·settle) (On-settle 𝓤 H A at-mem run)) (known-sweep : Triple 𝓤 (𝓣 .C #records·sweep·sweep) (On-sweep 𝓤 H A at-mem run)) (known-turn-of : Triple 𝓤 (𝓣 .C #records·turn·turn-of) (On-turn-of 𝓤 H A at-mem run)) (known-update : Triple 𝓤 (𝓣 .C #records·turn·update) (On-update 𝓤 H A at-mem run)) (known-outcome-of : Triple 𝓤 (𝓣 .C #step·outcome-of) (On-outcome-of 𝓤 H A at-mem run)) where
+  module _ (𝓣 : Tables 𝓤 H) (fm : FmC 𝓤 H (W .laws) (𝓣 .C)) (known-copies-sound : Triple 𝓤 (𝓣 .C #records·copies·sound) (On-copies-sound 𝓤 H A at-mem run)) (known-requests-sound : Triple 𝓤 (𝓣 .C #records·requests·sound) (On-requests-sound 𝓤 H A at-mem run)) (known-both : Triple 𝓤 (𝓣 .C #step·both) (On-both 𝓤 H A at-mem run)) (known-target : Triple 𝓤 (𝓣 .C #decide·records·target) (On-target 𝓤 H A at-mem run)) (known-copies-look : Triple 𝓤 (𝓣 .C #records·copies·look) (On-copies-look 𝓤 H A at-mem run)) (known-requests-look : Triple 𝓤 (𝓣 .C #records·requests·look) (On-requests-look 𝓤 H A at-mem run)) (known-decide : Triple 𝓤 (𝓣 .C #decide·decide) (On-decide 𝓤 H A at-mem run)) (known-change-of : Triple 𝓤 (𝓣 .C #step·change-of) (On-change-of 𝓤 H A at-mem run)) (known-change : Triple 𝓤 (𝓣 .C #records·copies·change) (On-change 𝓤 H A at-mem run)) (known-sweep : Triple 𝓤 (𝓣 .C #records·sweep·sweep) (On-sweep 𝓤 H A at-mem run)) (known-update : Triple 𝓤 (𝓣 .C #records·turn·update) (On-update 𝓤 H A at-mem run)) (known-outcome-of : Triple 𝓤 (𝓣 .C #step·outcome-of) (On-outcome-of 𝓤 H A at-mem run)) where
     -- what the body starts from: both borrows open, the arguments in their locals
-    abbrev Start : ℕ → ℕ → ℕ → ℕ → ℕ → ℕ → ℕ → ℕ → ℕ → ℕ → ℕ → ℕ → ℕ → ℕ → ℕ → ℕ → ℕ → ℕ → ℕ → ℕ → ℕ → ℕ → ℕ → ℕ → ℕ → ℕ → ℕ → ℕ → ℕ → ℕ → List (Item 𝓤)
-    Start l₀ l₁ l₂ l₃ l₄ l₅ l₆ l₇ l₈ l₉ l₁₀ l₁₁ l₁₂ l₁₃ l₁₄ l₁₅ l₁₆ l₁₇ l₁₈ l₁₉ l₂₀ l₂₁ l₂₂ l₂₃ l₂₄ l₂₅ l₂₆ l₂₇ l₂₈ l₂₉ = ‵ (row R fullShare ys b o) ∷ ‵ (fobor κ q (Held R n b o γ)) ∷ ‵ (fobs γ (codedHoleys R .code (heres R ys))) ∷ ‵ (fauth γ (codedHoleys R .code (heres R ys)))
+    abbrev Start : ℕ → ℕ → ℕ → ℕ → ℕ → ℕ → ℕ → ℕ → ℕ → ℕ → ℕ → ℕ → ℕ → ℕ → ℕ → ℕ → ℕ → ℕ → ℕ → ℕ → ℕ → ℕ → ℕ → ℕ → ℕ → ℕ → ℕ → ℕ → ℕ → List (Item 𝓤)
+    Start l₀ l₁ l₂ l₃ l₄ l₅ l₆ l₇ l₈ l₉ l₁₀ l₁₁ l₁₂ l₁₃ l₁₄ l₁₅ l₁₆ l₁₇ l₁₈ l₁₉ l₂₀ l₂₁ l₂₂ l₂₃ l₂₄ l₂₅ l₂₆ l₂₇ l₂₈ = ‵ (row R fullShare ys b o) ∷ ‵ (fobor κ q (Held R n b o γ)) ∷ ‵ (fobs γ (codedHoleys R .code (heres R ys))) ∷ ‵ (fauth γ (codedHoleys R .code (heres R ys)))
         ∷ ‵ (row Q fullShare ks bq oq) ∷ ‵ (fobor κ₁ q₁ (Held Q nq bq oq γq)) ∷ ‵ (fobs γq (codedHoleys Q .code (heres Q ks))) ∷ ‵ (fauth γq (codedHoleys Q .code (heres Q ks)))
-        ∷ ‵ (froom oty l₀ 0) ∷ ‵ (fat fullShare sty l₁ 0 vs) ∷ ‵ (fat fullShare bty l₂ 0 vb) ∷ ‵ (fat fullShare (sliceTy (tyRef (named 0) mut (pointee (R .written)))) l₃ 0 s) ∷ ‵ (fat fullShare (sliceTy (tyRef (named 1) mut (pointee (Q .written)))) l₄ 0 sq) ∷ ‵ (fat fullShare U′.mir l₅ 0 vu) ∷ ‵ (froom tyBool l₆ 0) ∷ ‵ (froom tyBool l₇ 0) ∷ ‵ (froom tyBool l₈ 0) ∷ ‵ (froom P′.mir l₉ 0) ∷ ‵ (froom R′.mir l₁₀ 0) ∷ ‵ (froom Q′.mir l₁₁ 0) ∷ ‵ (froom dty l₁₂ 0) ∷ ‵ (froom C′.mir l₁₃ 0) ∷ ‵ (froom Y′.mir l₁₄ 0) ∷ ‵ (froom (tyRef erased imm (pointee (R .written))) l₁₅ 0) ∷ ‵ (froom (sliceTy (tyRef erased imm (pointee (R .written)))) l₁₆ 0) ∷ ‵ (froom (tyRef erased imm (pointee (Q .written))) l₁₇ 0) ∷ ‵ (froom (sliceTy (tyRef erased imm (pointee (Q .written)))) l₁₈ 0) ∷ ‵ (froom (tyRef erased imm (pointee (R .written))) l₁₉ 0) ∷ ‵ (froom (sliceTy (tyRef erased imm (pointee (R .written)))) l₂₀ 0) ∷ ‵ (froom (tyRef erased imm (pointee (Q .written))) l₂₁ 0) ∷ ‵ (froom (sliceTy (tyRef erased imm (pointee (Q .written)))) l₂₂ 0) ∷ ‵ (froom tyUnit l₂₃ 0) ∷ ‵ (froom (tyRef erased mut (pointee (R .written))) l₂₄ 0) ∷ ‵ (froom (sliceTy (tyRef erased mut (pointee (R .written)))) l₂₅ 0) ∷ ‵ (froom (tyRef erased mut (pointee (R .written))) l₂₆ 0) ∷ ‵ (froom (sliceTy (tyRef erased mut (pointee (R .written)))) l₂₇ 0) ∷ ‵ (froom (tyRef erased mut (pointee (Q .written))) l₂₈ 0) ∷ ‵ (froom (sliceTy (tyRef erased mut (pointee (Q .written)))) l₂₉ 0)
-        ∷ ‵ (fdies oty l₀) ∷ ‵ (fdies sty l₁) ∷ ‵ (fdies bty l₂) ∷ ‵ (fdies (sliceTy (tyRef (named 0) mut (pointee (R .written)))) l₃) ∷ ‵ (fdies (sliceTy (tyRef (named 1) mut (pointee (Q .written)))) l₄) ∷ ‵ (fdies U′.mir l₅) ∷ ‵ (fdies tyBool l₆) ∷ ‵ (fdies tyBool l₇) ∷ ‵ (fdies tyBool l₈) ∷ ‵ (fdies P′.mir l₉) ∷ ‵ (fdies R′.mir l₁₀) ∷ ‵ (fdies Q′.mir l₁₁) ∷ ‵ (fdies dty l₁₂) ∷ ‵ (fdies C′.mir l₁₃) ∷ ‵ (fdies Y′.mir l₁₄) ∷ ‵ (fdies (tyRef erased imm (pointee (R .written))) l₁₅) ∷ ‵ (fdies (sliceTy (tyRef erased imm (pointee (R .written)))) l₁₆) ∷ ‵ (fdies (tyRef erased imm (pointee (Q .written))) l₁₇) ∷ ‵ (fdies (sliceTy (tyRef erased imm (pointee (Q .written)))) l₁₈) ∷ ‵ (fdies (tyRef erased imm (pointee (R .written))) l₁₉) ∷ ‵ (fdies (sliceTy (tyRef erased imm (pointee (R .written)))) l₂₀) ∷ ‵ (fdies (tyRef erased imm (pointee (Q .written))) l₂₁) ∷ ‵ (fdies (sliceTy (tyRef erased imm (pointee (Q .written)))) l₂₂) ∷ ‵ (fdies tyUnit l₂₃) ∷ ‵ (fdies (tyRef erased mut (pointee (R .written))) l₂₄) ∷ ‵ (fdies (sliceTy (tyRef erased mut (pointee (R .written)))) l₂₅) ∷ ‵ (fdies (tyRef erased mut (pointee (R .written))) l₂₆) ∷ ‵ (fdies (sliceTy (tyRef erased mut (pointee (R .written)))) l₂₇) ∷ ‵ (fdies (tyRef erased mut (pointee (Q .written))) l₂₈) ∷ ‵ (fdies (sliceTy (tyRef erased mut (pointee (Q .written)))) l₂₉) ∷ []
+        ∷ ‵ (froom oty l₀ 0) ∷ ‵ (fat fullShare sty l₁ 0 vs) ∷ ‵ (fat fullShare bty l₂ 0 vb) ∷ ‵ (fat fullShare (sliceTy (tyRef (named 0) mut (pointee (R .written)))) l₃ 0 s) ∷ ‵ (fat fullShare (sliceTy (tyRef (named 1) mut (pointee (Q .written)))) l₄ 0 sq) ∷ ‵ (fat fullShare U′.mir l₅ 0 vu) ∷ ‵ (froom tyBool l₆ 0) ∷ ‵ (froom tyBool l₇ 0) ∷ ‵ (froom tyBool l₈ 0) ∷ ‵ (froom P′.mir l₉ 0) ∷ ‵ (froom R′.mir l₁₀ 0) ∷ ‵ (froom Q′.mir l₁₁ 0) ∷ ‵ (froom dty l₁₂ 0) ∷ ‵ (froom C′.mir l₁₃ 0) ∷ ‵ (froom (tyRef erased imm (pointee (R .written))) l₁₄ 0) ∷ ‵ (froom (sliceTy (tyRef erased imm (pointee (R .written)))) l₁₅ 0) ∷ ‵ (froom (tyRef erased imm (pointee (Q .written))) l₁₆ 0) ∷ ‵ (froom (sliceTy (tyRef erased imm (pointee (Q .written)))) l₁₇ 0) ∷ ‵ (froom (tyRef erased imm (pointee (R .written))) l₁₈ 0) ∷ ‵ (froom (sliceTy (tyRef erased imm (pointee (R .written)))) l₁₉ 0) ∷ ‵ (froom (tyRef erased imm (pointee (Q .written))) l₂₀ 0) ∷ ‵ (froom (sliceTy (tyRef erased imm (pointee (Q .written)))) l₂₁ 0) ∷ ‵ (froom tyUnit l₂₂ 0) ∷ ‵ (froom (tyRef erased mut (pointee (R .written))) l₂₃ 0) ∷ ‵ (froom (sliceTy (tyRef erased mut (pointee (R .written)))) l₂₄ 0) ∷ ‵ (froom (tyRef erased mut (pointee (R .written))) l₂₅ 0) ∷ ‵ (froom (sliceTy (tyRef erased mut (pointee (R .written)))) l₂₆ 0) ∷ ‵ (froom (tyRef erased mut (pointee (Q .written))) l₂₇ 0) ∷ ‵ (froom (sliceTy (tyRef erased mut (pointee (Q .written)))) l₂₈ 0)
+        ∷ ‵ (fdies oty l₀) ∷ ‵ (fdies sty l₁) ∷ ‵ (fdies bty l₂) ∷ ‵ (fdies (sliceTy (tyRef (named 0) mut (pointee (R .written)))) l₃) ∷ ‵ (fdies (sliceTy (tyRef (named 1) mut (pointee (Q .written)))) l₄) ∷ ‵ (fdies U′.mir l₅) ∷ ‵ (fdies tyBool l₆) ∷ ‵ (fdies tyBool l₇) ∷ ‵ (fdies tyBool l₈) ∷ ‵ (fdies P′.mir l₉) ∷ ‵ (fdies R′.mir l₁₀) ∷ ‵ (fdies Q′.mir l₁₁) ∷ ‵ (fdies dty l₁₂) ∷ ‵ (fdies C′.mir l₁₃) ∷ ‵ (fdies (tyRef erased imm (pointee (R .written))) l₁₄) ∷ ‵ (fdies (sliceTy (tyRef erased imm (pointee (R .written)))) l₁₅) ∷ ‵ (fdies (tyRef erased imm (pointee (Q .written))) l₁₆) ∷ ‵ (fdies (sliceTy (tyRef erased imm (pointee (Q .written)))) l₁₇) ∷ ‵ (fdies (tyRef erased imm (pointee (R .written))) l₁₈) ∷ ‵ (fdies (sliceTy (tyRef erased imm (pointee (R .written)))) l₁₉) ∷ ‵ (fdies (tyRef erased imm (pointee (Q .written))) l₂₀) ∷ ‵ (fdies (sliceTy (tyRef erased imm (pointee (Q .written)))) l₂₁) ∷ ‵ (fdies tyUnit l₂₂) ∷ ‵ (fdies (tyRef erased mut (pointee (R .written))) l₂₃) ∷ ‵ (fdies (sliceTy (tyRef erased mut (pointee (R .written)))) l₂₄) ∷ ‵ (fdies (tyRef erased mut (pointee (R .written))) l₂₅) ∷ ‵ (fdies (sliceTy (tyRef erased mut (pointee (R .written)))) l₂₆) ∷ ‵ (fdies (tyRef erased mut (pointee (Q .written))) l₂₇) ∷ ‵ (fdies (sliceTy (tyRef erased mut (pointee (Q .written)))) l₂₈) ∷ []
 
-    abbrev En : ℕ → ℕ → ℕ → ℕ → ℕ → ℕ → ℕ → ℕ → ℕ → ℕ → ℕ → ℕ → ℕ → ℕ → ℕ → ℕ → ℕ → ℕ → ℕ → ℕ → ℕ → ℕ → ℕ → ℕ → ℕ → ℕ → ℕ → ℕ → ℕ → ℕ → Env 𝓤 H
-    En l₀ l₁ l₂ l₃ l₄ l₅ l₆ l₇ l₈ l₉ l₁₀ l₁₁ l₁₂ l₁₃ l₁₄ l₁₅ l₁₆ l₁₇ l₁₈ l₁₉ l₂₀ l₂₁ l₂₂ l₂₃ l₂₄ l₂₅ l₂₆ l₂₇ l₂₈ l₂₉ = (oty, l₀) ∷ (sty, l₁) ∷ (bty, l₂) ∷ ((sliceTy (tyRef (named 0) mut (pointee (R .written)))), l₃) ∷ ((sliceTy (tyRef (named 1) mut (pointee (Q .written)))), l₄) ∷ (U′.mir, l₅) ∷ (tyBool, l₆) ∷ (tyBool, l₇) ∷ (tyBool, l₈) ∷ (P′.mir, l₉) ∷ (R′.mir, l₁₀) ∷ (Q′.mir, l₁₁) ∷ (dty, l₁₂) ∷ (C′.mir, l₁₃) ∷ (Y′.mir, l₁₄) ∷ ((tyRef erased imm (pointee (R .written))), l₁₅) ∷ ((sliceTy (tyRef erased imm (pointee (R .written)))), l₁₆) ∷ ((tyRef erased imm (pointee (Q .written))), l₁₇) ∷ ((sliceTy (tyRef erased imm (pointee (Q .written)))), l₁₈) ∷ ((tyRef erased imm (pointee (R .written))), l₁₉) ∷ ((sliceTy (tyRef erased imm (pointee (R .written)))), l₂₀) ∷ ((tyRef erased imm (pointee (Q .written))), l₂₁) ∷ ((sliceTy (tyRef erased imm (pointee (Q .written)))), l₂₂) ∷ (tyUnit, l₂₃) ∷ ((tyRef erased mut (pointee (R .written))), l₂₄) ∷ ((sliceTy (tyRef erased mut (pointee (R .written)))), l₂₅) ∷ ((tyRef erased mut (pointee (R .written))), l₂₆) ∷ ((sliceTy (tyRef erased mut (pointee (R .written)))), l₂₇) ∷ ((tyRef erased mut (pointee (Q .written))), l₂₈) ∷ ((sliceTy (tyRef erased mut (pointee (Q .written)))), l₂₉) ∷ []
+    abbrev En : ℕ → ℕ → ℕ → ℕ → ℕ → ℕ → ℕ → ℕ → ℕ → ℕ → ℕ → ℕ → ℕ → ℕ → ℕ → ℕ → ℕ → ℕ → ℕ → ℕ → ℕ → ℕ → ℕ → ℕ → ℕ → ℕ → ℕ → ℕ → ℕ → Env 𝓤 H
+    En l₀ l₁ l₂ l₃ l₄ l₅ l₆ l₇ l₈ l₉ l₁₀ l₁₁ l₁₂ l₁₃ l₁₄ l₁₅ l₁₆ l₁₇ l₁₈ l₁₉ l₂₀ l₂₁ l₂₂ l₂₃ l₂₄ l₂₅ l₂₆ l₂₇ l₂₈ = (oty, l₀) ∷ (sty, l₁) ∷ (bty, l₂) ∷ ((sliceTy (tyRef (named 0) mut (pointee (R .written)))), l₃) ∷ ((sliceTy (tyRef (named 1) mut (pointee (Q .written)))), l₄) ∷ (U′.mir, l₅) ∷ (tyBool, l₆) ∷ (tyBool, l₇) ∷ (tyBool, l₈) ∷ (P′.mir, l₉) ∷ (R′.mir, l₁₀) ∷ (Q′.mir, l₁₁) ∷ (dty, l₁₂) ∷ (C′.mir, l₁₃) ∷ ((tyRef erased imm (pointee (R .written))), l₁₄) ∷ ((sliceTy (tyRef erased imm (pointee (R .written)))), l₁₅) ∷ ((tyRef erased imm (pointee (Q .written))), l₁₆) ∷ ((sliceTy (tyRef erased imm (pointee (Q .written)))), l₁₇) ∷ ((tyRef erased imm (pointee (R .written))), l₁₈) ∷ ((sliceTy (tyRef erased imm (pointee (R .written)))), l₁₉) ∷ ((tyRef erased imm (pointee (Q .written))), l₂₀) ∷ ((sliceTy (tyRef erased imm (pointee (Q .written)))), l₂₁) ∷ (tyUnit, l₂₂) ∷ ((tyRef erased mut (pointee (R .written))), l₂₃) ∷ ((sliceTy (tyRef erased mut (pointee (R .written)))), l₂₄) ∷ ((tyRef erased mut (pointee (R .written))), l₂₅) ∷ ((sliceTy (tyRef erased mut (pointee (R .written)))), l₂₆) ∷ ((tyRef erased mut (pointee (Q .written))), l₂₇) ∷ ((sliceTy (tyRef erased mut (pointee (Q .written)))), l₂₈) ∷ []
 
-    body : Room R n → Room Q nq → (l₀ l₁ l₂ l₃ l₄ l₅ l₆ l₇ l₈ l₉ l₁₀ l₁₁ l₁₂ l₁₃ l₁₄ l₁₅ l₁₆ l₁₇ l₁₈ l₁₉ l₂₀ l₂₁ l₂₂ l₂₃ l₂₄ l₂₅ l₂₆ l₂₇ l₂₈ l₂₉ : ℕ) → Sq W (Start l₀ l₁ l₂ l₃ l₄ l₅ l₆ l₇ l₈ l₉ l₁₀ l₁₁ l₁₂ l₁₃ l₁₄ l₁₅ l₁₆ l₁₇ l₁₈ l₁₉ l₂₀ l₂₁ l₂₂ l₂₃ l₂₄ l₂₅ l₂₆ l₂₇ l₂₈ l₂₉) (runs (𝓣 .C) (𝓣 .Λ) (En l₀ l₁ l₂ l₃ l₄ l₅ l₆ l₇ l₈ l₉ l₁₀ l₁₁ l₁₂ l₁₃ l₁₄ l₁₅ l₁₆ l₁₇ l₁₈ l₁₉ l₂₀ l₂₁ l₂₂ l₂₃ l₂₄ l₂₅ l₂₆ l₂₇ l₂₈ l₂₉) (code.function .body) (atRet (En l₀ l₁ l₂ l₃ l₄ l₅ l₆ l₇ l₈ l₉ l₁₀ l₁₁ l₁₂ l₁₃ l₁₄ l₁₅ l₁₆ l₁₇ l₁₈ l₁₉ l₂₀ l₂₁ l₂₂ l₂₃ l₂₄ l₂₅ l₂₆ l₂₇ l₂₈ l₂₉) Post))
-    body gn gq l₀ l₁ l₂ l₃ l₄ l₅ l₆ l₇ l₈ l₉ l₁₀ l₁₁ l₁₂ l₁₃ l₁₄ l₁₅ l₁₆ l₁₇ l₁₈ l₁₉ l₂₀ l₂₁ l₂₂ l₂₃ l₂₄ l₂₅ l₂₆ l₂₇ l₂₈ l₂₉ =
+    body : Room R n → Room Q nq → (l₀ l₁ l₂ l₃ l₄ l₅ l₆ l₇ l₈ l₉ l₁₀ l₁₁ l₁₂ l₁₃ l₁₄ l₁₅ l₁₆ l₁₇ l₁₈ l₁₉ l₂₀ l₂₁ l₂₂ l₂₃ l₂₄ l₂₅ l₂₆ l₂₇ l₂₈ : ℕ) → Sq W (Start l₀ l₁ l₂ l₃ l₄ l₅ l₆ l₇ l₈ l₉ l₁₀ l₁₁ l₁₂ l₁₃ l₁₄ l₁₅ l₁₆ l₁₇ l₁₈ l₁₉ l₂₀ l₂₁ l₂₂ l₂₃ l₂₄ l₂₅ l₂₆ l₂₇ l₂₈) (runs (𝓣 .C) (𝓣 .Λ) (En l₀ l₁ l₂ l₃ l₄ l₅ l₆ l₇ l₈ l₉ l₁₀ l₁₁ l₁₂ l₁₃ l₁₄ l₁₅ l₁₆ l₁₇ l₁₈ l₁₉ l₂₀ l₂₁ l₂₂ l₂₃ l₂₄ l₂₅ l₂₆ l₂₇ l₂₈) (code.function .body) (atRet (En l₀ l₁ l₂ l₃ l₄ l₅ l₆ l₇ l₈ l₉ l₁₀ l₁₁ l₁₂ l₁₃ l₁₄ l₁₅ l₁₆ l₁₇ l₁₈ l₁₉ l₂₀ l₂₁ l₂₂ l₂₃ l₂₄ l₂₅ l₂₆ l₂₇ l₂₈) Post))
+    body gn gq l₀ l₁ l₂ l₃ l₄ l₅ l₆ l₇ l₈ l₉ l₁₀ l₁₁ l₁₂ l₁₃ l₁₄ l₁₅ l₁₆ l₁₇ l₁₈ l₁₉ l₂₀ l₂₁ l₂₂ l₂₃ l₂₄ l₂₅ l₂₆ l₂₇ l₂₈ =
         -- sound
-        assigns ! (addr ! (from ! (fld ! refl (hop ! (look-in ! 11 (sub ! 0 refl (whole !))) (stop !))))) (from ! (stop !)) (init ! 23 refl (tt, tt)) $
-        assigns ! (agg ! (and-then ! (load ! (from ! (stop !)) (look ! 23 refl)) (and-then ! (load ! (from ! (fld ! refl (stop !))) (look-in ! 11 (sub ! 1 refl (whole !)))) (no-more !)))) (from ! (stop !)) (init ! 24 refl (tt, (tt, (record { fits = gn .0 }, tt)))) $
+        assigns ! (addr ! (from ! (fld ! refl (hop ! (look-in ! 11 (sub ! 0 refl (whole !))) (stop !))))) (from ! (stop !)) (init ! 22 refl (tt, tt)) $
+        assigns ! (agg ! (and-then ! (load ! (from ! (stop !)) (look ! 22 refl)) (and-then ! (load ! (from ! (fld ! refl (stop !))) (look-in ! 11 (sub ! 1 refl (whole !)))) (no-more !)))) (from ! (stop !)) (init ! 23 refl (tt, (tt, (record { fits = gn .0 }, tt)))) $
         lft-new ! tt (λ ν.
         move ! (1 ∷ []) $ use1 W (later (some (λ (δ : GName). ‵ (ShrSlice (named 0) (ν ∷ []) R .own (x δ ys) (s ∷ [])) ⊛ ‵ (flent (ν ∷ []) (Part 𝓤 H A W R (named 0) (ν ∷ []) b o ys))))) (lend-shr-at 𝓤 H A W R (named 0) (ν ∷ []) b o n ys refl gn) $ await ! tt $ pick ! (λ δ. split ! $
         move ! (2 ∷ 0 ∷ []) $ use2 W (raw (On-copies-sound 𝓤 H A at-mem run .pre (to-copies-sound ν δ))) (goes-copies-sound ν δ) $
-        calls-at ! fm (On-copies-sound 𝓤 H A at-mem run) known-copies-sound (to-copies-sound ν δ) (and-then ! (load ! (from ! (stop !)) (look ! 25 refl)) (and-then ! (load ! (from ! (stop !)) (look ! 10 refl)) (no-more !))) (λ w.
+        calls-at ! fm (On-copies-sound 𝓤 H A at-mem run) known-copies-sound (to-copies-sound ν δ) (and-then ! (load ! (from ! (stop !)) (look ! 24 refl)) (and-then ! (load ! (from ! (stop !)) (look ! 10 refl)) (no-more !))) (λ w.
         use1 W (later (some (λ (r : Bool). ((‵ (flft (ν ∷ []) fullShare) ⊛ ‵ ftrue) ⊛ ‵ (Boolean .own r (w ∷ []))) ⊛ raw (ensured 𝓤 H A copies-sound-c.ended (copies-sound-c.clauses 𝓤 H A at-mem run) (ν ∷ [], tt) (args-copies-sound δ) tt r)))) (id⊢ 𝓤 _) $ await ! tt $ pick ! (λ r₀.
         split ! $ move ! (1 ∷ []) $ use1 W (raw (fact 𝓤 (r₀ ≡ held₀))) (got-copies-sound ν δ r₀) $ heard ! (r₀ ≡ held₀) (λ e₀. split ! $
         move ! (1 ∷ []) $ facts ! Boolean (Is Boolean) (shows 𝓤 H A Boolean) r₀ (w ∷ []) (λ is₀.
@@ -612,12 +591,12 @@ module _ {M : Type 1} (𝓤 : URA M) (H : Heap 𝓤) (A : Atoms 𝓤) (W : Given
         move ! (0 ∷ 2 ∷ []) $ use2 W (later (‵ (row R fullShare ys b o))) (back-shr 𝓤 H A W R (named 0) (ν ∷ []) b o ys) $ await ! tt $
         move ! (1 ∷ []) $ drop ! $
         -- sound
-        assigns ! (addr ! (from ! (fld ! refl (hop ! (look-in ! 12 (sub ! 0 refl (whole !))) (stop !))))) (from ! (stop !)) (init ! 25 refl (tt, tt)) $
-        assigns ! (agg ! (and-then ! (load ! (from ! (stop !)) (look ! 25 refl)) (and-then ! (load ! (from ! (fld ! refl (stop !))) (look-in ! 12 (sub ! 1 refl (whole !)))) (no-more !)))) (from ! (stop !)) (init ! 26 refl (tt, (tt, (record { fits = gq .0 }, tt)))) $
+        assigns ! (addr ! (from ! (fld ! refl (hop ! (look-in ! 12 (sub ! 0 refl (whole !))) (stop !))))) (from ! (stop !)) (init ! 24 refl (tt, tt)) $
+        assigns ! (agg ! (and-then ! (load ! (from ! (stop !)) (look ! 24 refl)) (and-then ! (load ! (from ! (fld ! refl (stop !))) (look-in ! 12 (sub ! 1 refl (whole !)))) (no-more !)))) (from ! (stop !)) (init ! 25 refl (tt, (tt, (record { fits = gq .0 }, tt)))) $
         lft-new ! tt (λ ν.
         move ! (5 ∷ []) $ use1 W (later (some (λ (δ : GName). ‵ (ShrSlice (named 0) (ν ∷ []) Q .own (xq δ ks) (sq ∷ [])) ⊛ ‵ (flent (ν ∷ []) (Part 𝓤 H A W Q (named 0) (ν ∷ []) bq oq ks))))) (lend-shr-at 𝓤 H A W Q (named 0) (ν ∷ []) bq oq nq ks refl gq) $ await ! tt $ pick ! (λ δ. split ! $
         move ! (2 ∷ 0 ∷ []) $ use2 W (raw (On-requests-sound 𝓤 H A at-mem run .pre (to-requests-sound ν δ))) (goes-requests-sound ν δ) $
-        calls-at ! fm (On-requests-sound 𝓤 H A at-mem run) known-requests-sound (to-requests-sound ν δ) (and-then ! (load ! (from ! (stop !)) (look ! 27 refl)) (and-then ! (load ! (from ! (stop !)) (look ! 10 refl)) (no-more !))) (λ w.
+        calls-at ! fm (On-requests-sound 𝓤 H A at-mem run) known-requests-sound (to-requests-sound ν δ) (and-then ! (load ! (from ! (stop !)) (look ! 26 refl)) (and-then ! (load ! (from ! (stop !)) (look ! 10 refl)) (no-more !))) (λ w.
         use1 W (later (some (λ (r : Bool). ((‵ (flft (ν ∷ []) fullShare) ⊛ ‵ ftrue) ⊛ ‵ (Boolean .own r (w ∷ []))) ⊛ raw (ensured 𝓤 H A requests-sound-c.ended (requests-sound-c.clauses 𝓤 H A at-mem run) (ν ∷ [], tt) (args-requests-sound δ) tt r)))) (id⊢ 𝓤 _) $ await ! tt $ pick ! (λ r₁.
         split ! $ move ! (1 ∷ []) $ use1 W (raw (fact 𝓤 (r₁ ≡ asked₀))) (got-requests-sound ν δ r₁) $ heard ! (r₁ ≡ asked₀) (λ e₁. split ! $
         move ! (1 ∷ []) $ facts ! Boolean (Is Boolean) (shows 𝓤 H A Boolean) r₁ (w ∷ []) (λ is₁.
@@ -639,12 +618,12 @@ module _ {M : Type 1} (𝓤 : URA M) (H : Heap 𝓤) (A : Atoms 𝓤) (W : Given
         land ! (from ! (stop !)) (init ! 17 refl (LL.lawful P-.the-type P′.the-laws 𝓤 H A W .typed r₃ _ is₃ .0)) $ rewrite ! 17 (λ (u : Val). ‵ (fat fullShare P′.mir l₉ 0 u)) (ap only (LL.tells P-.the-type P′.the-laws r₃ _ is₃) ∙ ap (λ (z : Target). (LL.val P-.the-type P′.the-laws z)) e₃) refl $
         let is-t : Is P t₀ ((LL.val P-.the-type P′.the-laws t₀) ∷ []) = (subst (λ (z : Target). Is P z ((LL.val P-.the-type P′.the-laws z) ∷ [])) e₃ (said-P r₃ is₃)) in
         -- look
-        assigns ! (addr ! (from ! (fld ! refl (hop ! (look-in ! 11 (sub ! 0 refl (whole !))) (stop !))))) (from ! (stop !)) (init ! 27 refl (tt, tt)) $
-        assigns ! (agg ! (and-then ! (load ! (from ! (stop !)) (look ! 27 refl)) (and-then ! (load ! (from ! (fld ! refl (stop !))) (look-in ! 11 (sub ! 1 refl (whole !)))) (no-more !)))) (from ! (stop !)) (init ! 28 refl (tt, (tt, (record { fits = gn .0 }, tt)))) $
+        assigns ! (addr ! (from ! (fld ! refl (hop ! (look-in ! 11 (sub ! 0 refl (whole !))) (stop !))))) (from ! (stop !)) (init ! 26 refl (tt, tt)) $
+        assigns ! (agg ! (and-then ! (load ! (from ! (stop !)) (look ! 26 refl)) (and-then ! (load ! (from ! (fld ! refl (stop !))) (look-in ! 11 (sub ! 1 refl (whole !)))) (no-more !)))) (from ! (stop !)) (init ! 27 refl (tt, (tt, (record { fits = gn .0 }, tt)))) $
         lft-new ! tt (λ ν.
         move ! (2 ∷ []) $ use1 W (later (some (λ (δ : GName). ‵ (ShrSlice (named 0) (ν ∷ []) R .own (x δ ys) (s ∷ [])) ⊛ ‵ (flent (ν ∷ []) (Part 𝓤 H A W R (named 0) (ν ∷ []) b o ys))))) (lend-shr-at 𝓤 H A W R (named 0) (ν ∷ []) b o n ys refl gn) $ await ! tt $ pick ! (λ δ. split ! $
         move ! (2 ∷ 0 ∷ []) $ use2 W (raw (On-copies-look 𝓤 H A at-mem run .pre (to-copies-look ν δ))) (goes-copies-look is-t ν δ) $
-        calls-at ! fm (On-copies-look 𝓤 H A at-mem run) known-copies-look (to-copies-look ν δ) (and-then ! (load ! (from ! (stop !)) (look ! 29 refl)) (and-then ! (load ! (from ! (fld ! refl (stop !))) (look-in ! 18 (sub ! 1 refl (whole !)))) (no-more !))) (λ w.
+        calls-at ! fm (On-copies-look 𝓤 H A at-mem run) known-copies-look (to-copies-look ν δ) (and-then ! (load ! (from ! (stop !)) (look ! 28 refl)) (and-then ! (load ! (from ! (fld ! refl (stop !))) (look-in ! 18 (sub ! 1 refl (whole !)))) (no-more !))) (λ w.
         use1 W (later (some (λ (r : Copy). ((‵ (flft (ν ∷ []) fullShare) ⊛ ‵ ftrue) ⊛ ‵ (R .own r (w ∷ []))) ⊛ raw (ensured 𝓤 H A copies-look-c.ended (copies-look-c.clauses 𝓤 H A at-mem run) (ν ∷ [], tt) (args-copies-look δ) tt r)))) (id⊢ 𝓤 _) $ await ! tt $ pick ! (λ r₄.
         split ! $ move ! (1 ∷ []) $ use1 W (raw (fact 𝓤 (r₄ ≡ c₀))) (got-copies-look ν δ r₄) $ heard ! (r₄ ≡ c₀) (λ e₄. split ! $
         move ! (1 ∷ []) $ facts ! R (Is R) (shows 𝓤 H A R) r₄ (w ∷ []) (λ is₄.
@@ -653,12 +632,12 @@ module _ {M : Type 1} (𝓤 : URA M) (H : Heap 𝓤) (A : Atoms 𝓤) (W : Given
         move ! (0 ∷ 2 ∷ []) $ use2 W (later (‵ (row R fullShare ys b o))) (back-shr 𝓤 H A W R (named 0) (ν ∷ []) b o ys) $ await ! tt $
         move ! (1 ∷ []) $ drop ! $
         -- look
-        assigns ! (addr ! (from ! (fld ! refl (hop ! (look-in ! 12 (sub ! 0 refl (whole !))) (stop !))))) (from ! (stop !)) (init ! 29 refl (tt, tt)) $
-        assigns ! (agg ! (and-then ! (load ! (from ! (stop !)) (look ! 29 refl)) (and-then ! (load ! (from ! (fld ! refl (stop !))) (look-in ! 12 (sub ! 1 refl (whole !)))) (no-more !)))) (from ! (stop !)) (init ! 30 refl (tt, (tt, (record { fits = gq .0 }, tt)))) $
+        assigns ! (addr ! (from ! (fld ! refl (hop ! (look-in ! 12 (sub ! 0 refl (whole !))) (stop !))))) (from ! (stop !)) (init ! 28 refl (tt, tt)) $
+        assigns ! (agg ! (and-then ! (load ! (from ! (stop !)) (look ! 28 refl)) (and-then ! (load ! (from ! (fld ! refl (stop !))) (look-in ! 12 (sub ! 1 refl (whole !)))) (no-more !)))) (from ! (stop !)) (init ! 29 refl (tt, (tt, (record { fits = gq .0 }, tt)))) $
         lft-new ! tt (λ ν.
         move ! (2 ∷ []) $ use1 W (later (some (λ (δ : GName). ‵ (ShrSlice (named 0) (ν ∷ []) Q .own (xq δ ks) (sq ∷ [])) ⊛ ‵ (flent (ν ∷ []) (Part 𝓤 H A W Q (named 0) (ν ∷ []) bq oq ks))))) (lend-shr-at 𝓤 H A W Q (named 0) (ν ∷ []) bq oq nq ks refl gq) $ await ! tt $ pick ! (λ δ. split ! $
         move ! (2 ∷ 0 ∷ []) $ use2 W (raw (On-requests-look 𝓤 H A at-mem run .pre (to-requests-look ν δ))) (goes-requests-look is-t ν δ) $
-        calls-at ! fm (On-requests-look 𝓤 H A at-mem run) known-requests-look (to-requests-look ν δ) (and-then ! (load ! (from ! (stop !)) (look ! 31 refl)) (and-then ! (load ! (from ! (fld ! refl (stop !))) (look-in ! 18 (sub ! 0 refl (whole !)))) (no-more !))) (λ w.
+        calls-at ! fm (On-requests-look 𝓤 H A at-mem run) known-requests-look (to-requests-look ν δ) (and-then ! (load ! (from ! (stop !)) (look ! 30 refl)) (and-then ! (load ! (from ! (fld ! refl (stop !))) (look-in ! 18 (sub ! 0 refl (whole !)))) (no-more !))) (λ w.
         use1 W (later (some (λ (r : Request). ((‵ (flft (ν ∷ []) fullShare) ⊛ ‵ ftrue) ⊛ ‵ (Q .own r (w ∷ []))) ⊛ raw (ensured 𝓤 H A requests-look-c.ended (requests-look-c.clauses 𝓤 H A at-mem run) (ν ∷ [], tt) (args-requests-look δ) tt r)))) (id⊢ 𝓤 _) $ await ! tt $ pick ! (λ r₅.
         split ! $ move ! (1 ∷ []) $ use1 W (raw (fact 𝓤 (r₅ ≡ h₀))) (got-requests-look ν δ r₅) $ heard ! (r₅ ≡ h₀) (λ e₅. split ! $
         move ! (1 ∷ []) $ facts ! Q (Is Q) (shows 𝓤 H A Q) r₅ (w ∷ []) (λ is₅.
@@ -680,53 +659,46 @@ module _ {M : Type 1} (𝓤 : URA M) (H : Heap 𝓤) (A : Atoms 𝓤) (W : Given
         use1 W (later (some (λ (r : Change). (‵ ftrue ⊛ ‵ (C .own r (w ∷ []))) ⊛ raw (ensured 𝓤 H A change-of-c.ended (change-of-c.clauses 𝓤 H A at-mem run) tt (args-change-of d) tt r)))) (id⊢ 𝓤 _) $ await ! tt $ pick ! (λ r₇.
         split ! $ move ! (1 ∷ []) $ use1 W (raw (fact 𝓤 (r₇ ≡ d .change))) (got-change-of d r₇) $ heard ! (r₇ ≡ d .change) (λ e₇. split ! $ drop ! $ facts ! C (Is C) (shows 𝓤 H A C) r₇ (w ∷ []) (λ is₇.
         land ! (from ! (stop !)) (init ! 21 refl (LL.lawful C-.the-type C′.the-laws 𝓤 H A W .typed r₇ _ is₇ .0)) $ rewrite ! 21 (λ (u : Val). ‵ (fat fullShare C′.mir l₁₃ 0 u)) (ap only (LL.tells C-.the-type C′.the-laws r₇ _ is₇) ∙ ap (λ (z : Change). (LL.val C-.the-type C′.the-laws z)) e₇) refl $
-        -- settle
-        assigns ! (addr ! (from ! (fld ! refl (hop ! (look-in ! 11 (sub ! 0 refl (whole !))) (stop !))))) (from ! (stop !)) (init ! 32 refl (tt, tt)) $
-        assigns ! (agg ! (and-then ! (load ! (from ! (stop !)) (look ! 32 refl)) (and-then ! (load ! (from ! (fld ! refl (stop !))) (look-in ! 11 (sub ! 1 refl (whole !)))) (no-more !)))) (from ! (stop !)) (init ! 33 refl (tt, (tt, (record { fits = gn .0 }, tt)))) $
+        -- change
+        assigns ! (addr ! (from ! (fld ! refl (hop ! (look-in ! 11 (sub ! 0 refl (whole !))) (stop !))))) (from ! (stop !)) (init ! 31 refl (tt, tt)) $
+        assigns ! (agg ! (and-then ! (load ! (from ! (stop !)) (look ! 31 refl)) (and-then ! (load ! (from ! (fld ! refl (stop !))) (look-in ! 11 (sub ! 1 refl (whole !)))) (no-more !)))) (from ! (stop !)) (init ! 32 refl (tt, (tt, (record { fits = gn .0 }, tt)))) $
         lft-new ! tt (λ ν.
         move ! (2 ∷ []) $ use1 W (later (some (λ (δ : GName). ‵ (MutSlice (named 0) (ν ∷ []) R .own (x δ (ys)) (s ∷ [])) ⊛ ‵ (flent (ν ∷ []) (Held R n b o δ))))) (lend-mut 𝓤 H A W R (named 0) (ν ∷ []) b o n (ys) (refl) gn) $ await ! tt $ pick ! (λ δ. split ! $
-        move ! (2 ∷ 0 ∷ []) $ use2 W (raw (On-settle 𝓤 H A at-mem run .pre (to-settle d ν δ))) (goes-settle d is-d is-t ν δ) $
-        calls-at ! fm (On-settle 𝓤 H A at-mem run) known-settle (to-settle d ν δ) (and-then ! (load ! (from ! (stop !)) (look ! 34 refl)) (and-then ! (load ! (from ! (fld ! refl (stop !))) (look-in ! 18 (sub ! 1 refl (whole !)))) (and-then ! (load ! (from ! (fld ! refl (stop !))) (look-in ! 22 (sub ! 0 refl (whole !)))) (no-more !)))) (λ w.
-        use1 W (later (some (λ (r : Unit {0}). ((‵ (flft (ν ∷ []) fullShare) ⊛ ‵ ftrue) ⊛ ‵ (Nothing .own r (w ∷ []))) ⊛ raw (ensured 𝓤 H A settle-c.ended (settle-c.clauses 𝓤 H A at-mem run) (ν ∷ [], tt) (args-settle d δ) tt r)))) (id⊢ 𝓤 _) $ await ! tt $ pick ! (λ r.
-        split ! $ move ! (1 ∷ []) $ use1 W (some (λ (us : List Copy × (Unit {0} × (Unit {0} × (Unit {0})))). ‵ (lasts settle-c.ended (ν ∷ [], tt) (args-settle d δ) us) ⊛ raw (fact 𝓤 (us .0 ≡ ys₁ d)))) (id⊢ 𝓤 _) $ pick ! (λ us.
+        move ! (2 ∷ 0 ∷ []) $ use2 W (raw (On-change 𝓤 H A at-mem run .pre (to-change d ν δ))) (goes-change d is-d is-t ν δ) $
+        calls-at ! fm (On-change 𝓤 H A at-mem run) known-change (to-change d ν δ) (and-then ! (load ! (from ! (stop !)) (look ! 33 refl)) (and-then ! (load ! (from ! (fld ! refl (stop !))) (look-in ! 18 (sub ! 1 refl (whole !)))) (and-then ! (load ! (from ! (fld ! refl (stop !))) (look-in ! 22 (sub ! 0 refl (whole !)))) (no-more !)))) (λ w.
+        use1 W (later (some (λ (r : Unit {0}). ((‵ (flft (ν ∷ []) fullShare) ⊛ ‵ ftrue) ⊛ ‵ (Nothing .own r (w ∷ []))) ⊛ raw (ensured 𝓤 H A change-c.ended (change-c.clauses 𝓤 H A at-mem run) (ν ∷ [], tt) (args-change d δ) tt r)))) (id⊢ 𝓤 _) $ await ! tt $ pick ! (λ r.
+        split ! $ move ! (1 ∷ []) $ use1 W (some (λ (us : List Copy × (Unit {0} × (Unit {0} × (Unit {0})))). ‵ (lasts change-c.ended (ν ∷ [], tt) (args-change d δ) us) ⊛ raw (fact 𝓤 (us .0 ≡ ys₁ d)))) (id⊢ 𝓤 _) $ pick ! (λ us.
         split ! $ move ! (1 ∷ []) $ heard ! (us .0 ≡ ys₁ d) (λ e₈. fsplit ! $ fsplit ! $ move ! (1 ∷ []) $ feqL ! (λ len₈. move ! (2 ∷ []) $ split ! $
         move ! (1 ∷ []) $ facts ! Nothing (Is Nothing) (shows 𝓤 H A Nothing) r (w ∷ []) (λ is.
-        land ! (from ! (stop !)) (init ! 34 refl (nothing-lawful 𝓤 H A W .typed r _ is .0)) $ split ! $ lft-end ! tt $
+        land ! (from ! (stop !)) (init ! 33 refl (nothing-lawful 𝓤 H A W .typed r _ is .0)) $ split ! $ lft-end ! tt $
         move ! (0 ∷ 4 ∷ 2 ∷ []) $ use3 W (later (‵ (row R fullShare (us .0) b o))) (back-mut 𝓤 H A W R (named 0) (ν ∷ []) b o n δ (us .0)) $ await ! tt $ rewrite ! 0 (λ (z : List Copy). ‵ (row R fullShare z b o)) e₈ refl $
         move ! (1 ∷ 2 ∷ []) $ drop ! $ drop ! $
         -- sweep
-        assigns ! (addr ! (from ! (fld ! refl (hop ! (look-in ! 11 (sub ! 0 refl (whole !))) (stop !))))) (from ! (stop !)) (init ! 34 refl (tt, tt)) $
-        assigns ! (agg ! (and-then ! (load ! (from ! (stop !)) (look ! 34 refl)) (and-then ! (load ! (from ! (fld ! refl (stop !))) (look-in ! 11 (sub ! 1 refl (whole !)))) (no-more !)))) (from ! (stop !)) (init ! 35 refl (tt, (tt, (record { fits = gn .0 }, tt)))) $
+        assigns ! (addr ! (from ! (fld ! refl (hop ! (look-in ! 11 (sub ! 0 refl (whole !))) (stop !))))) (from ! (stop !)) (init ! 33 refl (tt, tt)) $
+        assigns ! (agg ! (and-then ! (load ! (from ! (stop !)) (look ! 33 refl)) (and-then ! (load ! (from ! (fld ! refl (stop !))) (look-in ! 11 (sub ! 1 refl (whole !)))) (no-more !)))) (from ! (stop !)) (init ! 34 refl (tt, (tt, (record { fits = gn .0 }, tt)))) $
         lft-new ! tt (λ ν.
         move ! (1 ∷ []) $ use1 W (later (some (λ (δ : GName). ‵ (MutSlice (named 0) (ν ∷ []) R .own (x δ (ys₁ d)) (s ∷ [])) ⊛ ‵ (flent (ν ∷ []) (Held R n b o δ))))) (lend-mut 𝓤 H A W R (named 0) (ν ∷ []) b o n (ys₁ d) (len₁ d) gn) $ await ! tt $ pick ! (λ δ. split ! $
         move ! (2 ∷ 0 ∷ []) $ use2 W (raw (On-sweep 𝓤 H A at-mem run .pre (to-sweep d ν δ))) (goes-sweep d is-d is-t ν δ) $
-        calls-at ! fm (On-sweep 𝓤 H A at-mem run) known-sweep (to-sweep d ν δ) (and-then ! (load ! (from ! (stop !)) (look ! 36 refl)) (and-then ! (load ! (from ! (stop !)) (look ! 10 refl)) (and-then ! (load ! (from ! (fld ! refl (stop !))) (look-in ! 22 (sub ! 2 refl (whole !)))) (and-then ! (load ! (from ! (fld ! refl (stop !))) (look-in ! 18 (sub ! 2 refl (whole !)))) (no-more !))))) (λ w.
+        calls-at ! fm (On-sweep 𝓤 H A at-mem run) known-sweep (to-sweep d ν δ) (and-then ! (load ! (from ! (stop !)) (look ! 35 refl)) (and-then ! (load ! (from ! (stop !)) (look ! 10 refl)) (and-then ! (load ! (from ! (fld ! refl (stop !))) (look-in ! 22 (sub ! 2 refl (whole !)))) (and-then ! (load ! (from ! (fld ! refl (stop !))) (look-in ! 18 (sub ! 2 refl (whole !)))) (no-more !))))) (λ w.
         use1 W (later (some (λ (r : Unit {0}). ((‵ (flft (ν ∷ []) fullShare) ⊛ ‵ ftrue) ⊛ ‵ (Nothing .own r (w ∷ []))) ⊛ raw (ensured 𝓤 H A sweep-c.ended (sweep-c.clauses 𝓤 H A at-mem run) (ν ∷ [], tt) (args-sweep d δ) tt r)))) (id⊢ 𝓤 _) $ await ! tt $ pick ! (λ r.
         split ! $ move ! (1 ∷ []) $ use1 W (some (λ (us : List Copy × (Unit {0} × (Unit {0} × (Unit {0} × (Unit {0}))))). ‵ (lasts sweep-c.ended (ν ∷ [], tt) (args-sweep d δ) us) ⊛ raw (fact 𝓤 (us .0 ≡ ys₂ d)))) (id⊢ 𝓤 _) $ pick ! (λ us.
         split ! $ move ! (1 ∷ []) $ heard ! (us .0 ≡ ys₂ d) (λ e₉. fsplit ! $ fsplit ! $ move ! (1 ∷ []) $ feqL ! (λ len₉. move ! (2 ∷ []) $ split ! $
         move ! (1 ∷ []) $ facts ! Nothing (Is Nothing) (shows 𝓤 H A Nothing) r (w ∷ []) (λ is.
-        land ! (from ! (stop !)) (store ! 34 refl (nothing-lawful 𝓤 H A W .typed r _ is .0)) $ split ! $ lft-end ! tt $
+        land ! (from ! (stop !)) (store ! 33 refl (nothing-lawful 𝓤 H A W .typed r _ is .0)) $ split ! $ lft-end ! tt $
         move ! (0 ∷ 4 ∷ 2 ∷ []) $ use3 W (later (‵ (row R fullShare (us .0) b o))) (back-mut 𝓤 H A W R (named 0) (ν ∷ []) b o n δ (us .0)) $ await ! tt $ rewrite ! 0 (λ (z : List Copy). ‵ (row R fullShare z b o)) e₉ refl $
         move ! (1 ∷ 2 ∷ []) $ drop ! $ drop ! $
-        -- turn-of
-        use0 W (raw (On-turn-of 𝓤 H A at-mem run .pre (to-turn-of d))) (goes-turn-of d is-d is-h) $
-        calls-at ! fm (On-turn-of 𝓤 H A at-mem run) known-turn-of (to-turn-of d) (and-then ! (load ! (from ! (stop !)) (look ! 20 refl)) (and-then ! (load ! (from ! (fld ! refl (stop !))) (look-in ! 22 (sub ! 1 refl (whole !)))) (no-more !))) (λ w.
-        use1 W (later (some (λ (r : Turn). (‵ ftrue ⊛ ‵ (Y .own r (w ∷ []))) ⊛ raw (ensured 𝓤 H A turn-of-c.ended (turn-of-c.clauses 𝓤 H A at-mem run) tt (args-turn-of d) tt r)))) (id⊢ 𝓤 _) $ await ! tt $ pick ! (λ r₁₀.
-        split ! $ move ! (1 ∷ []) $ use1 W (raw (fact 𝓤 (r₁₀ ≡ u₀ d))) (got-turn-of d r₁₀) $ heard ! (r₁₀ ≡ u₀ d) (λ e₁₀. split ! $ drop ! $ facts ! Y (Is Y) (shows 𝓤 H A Y) r₁₀ (w ∷ []) (λ is₁₀.
-        land ! (from ! (stop !)) (init ! 22 refl (EL.lawful Y-.the-type Y′.the-laws 𝓤 H A W tt .typed r₁₀ _ is₁₀ .0)) $ rewrite ! 22 (λ (u : Val). ‵ (fat fullShare Y′.mir l₁₄ 0 u)) (ap only (EL.tells Y-.the-type Y′.the-laws r₁₀ _ is₁₀) ∙ ap (λ (z : Turn). (EL.val Y-.the-type Y′.the-laws z)) e₁₀) refl $
-        let is-y : Is Y (u₀ d) ((EL.val Y-.the-type Y′.the-laws (u₀ d)) ∷ []) = (subst (λ (z : Turn). Is Y z ((EL.val Y-.the-type Y′.the-laws z) ∷ [])) e₁₀ (said-Y r₁₀ is₁₀)) in
         -- update
-        assigns ! (addr ! (from ! (fld ! refl (hop ! (look-in ! 12 (sub ! 0 refl (whole !))) (stop !))))) (from ! (stop !)) (init ! 36 refl (tt, tt)) $
-        assigns ! (agg ! (and-then ! (load ! (from ! (stop !)) (look ! 36 refl)) (and-then ! (load ! (from ! (fld ! refl (stop !))) (look-in ! 12 (sub ! 1 refl (whole !)))) (no-more !)))) (from ! (stop !)) (init ! 37 refl (tt, (tt, (record { fits = gq .0 }, tt)))) $
+        assigns ! (addr ! (from ! (fld ! refl (hop ! (look-in ! 12 (sub ! 0 refl (whole !))) (stop !))))) (from ! (stop !)) (init ! 35 refl (tt, tt)) $
+        assigns ! (agg ! (and-then ! (load ! (from ! (stop !)) (look ! 35 refl)) (and-then ! (load ! (from ! (fld ! refl (stop !))) (look-in ! 12 (sub ! 1 refl (whole !)))) (no-more !)))) (from ! (stop !)) (init ! 36 refl (tt, (tt, (record { fits = gq .0 }, tt)))) $
         lft-new ! tt (λ ν.
         move ! (2 ∷ []) $ use1 W (later (some (λ (δ : GName). ‵ (MutSlice (named 0) (ν ∷ []) Q .own (xq δ (ks)) (sq ∷ [])) ⊛ ‵ (flent (ν ∷ []) (Held Q nq bq oq δ))))) (lend-mut 𝓤 H A W Q (named 0) (ν ∷ []) bq oq nq (ks) (refl) gq) $ await ! tt $ pick ! (λ δ. split ! $
-        move ! (2 ∷ 0 ∷ []) $ use2 W (raw (On-update 𝓤 H A at-mem run .pre (to-update d ν δ))) (goes-update d (can d e₆) is-y is-t ν δ) $
-        calls-at ! fm (On-update 𝓤 H A at-mem run) known-update (to-update d ν δ) (and-then ! (load ! (from ! (stop !)) (look ! 38 refl)) (and-then ! (load ! (from ! (fld ! refl (stop !))) (look-in ! 18 (sub ! 0 refl (whole !)))) (and-then ! (load ! (from ! (stop !)) (look ! 23 refl)) (no-more !)))) (λ w.
+        move ! (2 ∷ 0 ∷ []) $ use2 W (raw (On-update 𝓤 H A at-mem run .pre (to-update d ν δ))) (goes-update d (can d e₆) is-d is-t ν δ) $
+        calls-at ! fm (On-update 𝓤 H A at-mem run) known-update (to-update d ν δ) (and-then ! (load ! (from ! (stop !)) (look ! 37 refl)) (and-then ! (load ! (from ! (fld ! refl (stop !))) (look-in ! 18 (sub ! 0 refl (whole !)))) (and-then ! (load ! (from ! (fld ! refl (stop !))) (look-in ! 22 (sub ! 1 refl (whole !)))) (no-more !)))) (λ w.
         use1 W (later (some (λ (r : Unit {0}). ((‵ (flft (ν ∷ []) fullShare) ⊛ ‵ ftrue) ⊛ ‵ (Nothing .own r (w ∷ []))) ⊛ raw (ensured 𝓤 H A update-c.ended (update-c.clauses 𝓤 H A at-mem run) (ν ∷ [], tt) (args-update d δ) tt r)))) (id⊢ 𝓤 _) $ await ! tt $ pick ! (λ r.
         split ! $ move ! (1 ∷ []) $ use1 W (some (λ (us : List Request × (Unit {0} × (Unit {0} × (Unit {0})))). ‵ (lasts update-c.ended (ν ∷ [], tt) (args-update d δ) us) ⊛ raw (fact 𝓤 (us .0 ≡ ks₁ d)))) (id⊢ 𝓤 _) $ pick ! (λ us.
         split ! $ move ! (1 ∷ []) $ heard ! (us .0 ≡ ks₁ d) (λ e₁₁. fsplit ! $ fsplit ! $ move ! (1 ∷ []) $ feqL ! (λ len₁₁. move ! (2 ∷ []) $ split ! $
         move ! (1 ∷ []) $ facts ! Nothing (Is Nothing) (shows 𝓤 H A Nothing) r (w ∷ []) (λ is.
-        land ! (from ! (stop !)) (store ! 34 refl (nothing-lawful 𝓤 H A W .typed r _ is .0)) $ split ! $ lft-end ! tt $
+        land ! (from ! (stop !)) (store ! 33 refl (nothing-lawful 𝓤 H A W .typed r _ is .0)) $ split ! $ lft-end ! tt $
         move ! (0 ∷ 4 ∷ 2 ∷ []) $ use3 W (later (‵ (row Q fullShare (us .0) bq oq))) (back-mut 𝓤 H A W Q (named 0) (ν ∷ []) bq oq nq δ (us .0)) $ await ! tt $ rewrite ! 0 (λ (z : List Request). ‵ (row Q fullShare z bq oq)) e₁₁ refl $
         move ! (1 ∷ 2 ∷ []) $ drop ! $ drop ! $
         -- outcome-of
@@ -737,30 +709,30 @@ module _ {M : Type 1} (𝓤 : URA M) (H : Heap 𝓤) (A : Atoms 𝓤) (W : Given
         land ! (from ! (stop !)) (init ! 8 refl (typed-o r₁₂ is₁₂)) $ rewrite ! 8 (λ (u : Val). ‵ (fat fullShare oty l₀ 0 u)) (ap only (LL.tells O-.the-type O′.the-laws r₁₂ _ is₁₂) ∙ ap (λ (z : Outcome). (LL.val O-.the-type O′.the-laws z)) e₁₂) refl $
         move ! (1 ∷ 2 ∷ 3 ∷ 4 ∷ []) $ closes-slice ! tt R ys (ys₂ d) (len₂ d (sym (ap (λ (z : List Copy). length z) e₉) ∙ len₉)) b o $
         move ! (3 ∷ 4 ∷ 5 ∷ 6 ∷ []) $ closes-slice ! tt Q ks (ks₁ d) (lenq d) bq oq $
-        returns ! (look ! 6 refl) $ forget ! 6 refl $ forget ! 7 refl $ forget ! 8 refl $ forget ! 9 refl $ forget ! 10 refl $ forget ! 11 refl $ forget ! 12 refl $ forget ! 13 refl $ forget ! 14 refl $ forget ! 15 refl $ forget ! 16 refl $ forget ! 17 refl $ forget ! 18 refl $ forget ! 19 refl $ forget ! 20 refl $ forget ! 21 refl $ forget ! 22 refl $ forget ! 23 refl $ forget ! 24 refl $ forget ! 25 refl $ forget ! 26 refl $ forget ! 27 refl $ forget ! 28 refl $ forget ! 29 refl $ forget ! 30 refl $ forget ! 31 refl $ forget ! 32 refl $ forget ! 33 refl $ forget ! 34 refl $ forget ! 35 refl $
-        move ! (6 ∷ 36 ∷ []) $ free1 ! $ move ! (6 ∷ 35 ∷ []) $ free1 ! $ move ! (6 ∷ 34 ∷ []) $ free1 ! $ move ! (6 ∷ 33 ∷ []) $ free1 ! $ move ! (6 ∷ 32 ∷ []) $ free1 ! $ move ! (6 ∷ 31 ∷ []) $ free1 ! $ move ! (6 ∷ 30 ∷ []) $ free1 ! $ move ! (6 ∷ 29 ∷ []) $ free1 ! $ move ! (6 ∷ 28 ∷ []) $ free1 ! $ move ! (6 ∷ 27 ∷ []) $ free1 ! $ move ! (6 ∷ 26 ∷ []) $ free1 ! $ move ! (6 ∷ 25 ∷ []) $ free1 ! $ move ! (6 ∷ 24 ∷ []) $ free1 ! $ move ! (6 ∷ 23 ∷ []) $ free1 ! $ move ! (6 ∷ 22 ∷ []) $ free1 ! $ move ! (6 ∷ 21 ∷ []) $ free1 ! $ move ! (6 ∷ 20 ∷ []) $ free1 ! $ move ! (6 ∷ 19 ∷ []) $ free1 ! $ move ! (6 ∷ 18 ∷ []) $ free1 ! $ move ! (6 ∷ 17 ∷ []) $ free1 ! $ move ! (6 ∷ 16 ∷ []) $ free1 ! $ move ! (6 ∷ 15 ∷ []) $ free1 ! $ move ! (6 ∷ 14 ∷ []) $ free1 ! $ move ! (6 ∷ 13 ∷ []) $ free1 ! $ move ! (6 ∷ 12 ∷ []) $ free1 ! $ move ! (6 ∷ 11 ∷ []) $ free1 ! $ move ! (6 ∷ 10 ∷ []) $ free1 ! $ move ! (6 ∷ 9 ∷ []) $ free1 ! $ move ! (6 ∷ 8 ∷ []) $ free1 ! $ move ! (6 ∷ 7 ∷ []) $ free1 ! $ free0 ! $
-        move ! (3 ∷ 4 ∷ 5 ∷ 0 ∷ 1 ∷ 2 ∷ []) $ by ! (exits d e₆ is-d (len₂ d (sym (ap (λ (z : List Copy). length z) e₉) ∙ len₉)) gn gq)))))))))))))))))))))))))))))))))))))))))))))))))))))))))))))))))))))))))
+        returns ! (look ! 6 refl) $ forget ! 6 refl $ forget ! 7 refl $ forget ! 8 refl $ forget ! 9 refl $ forget ! 10 refl $ forget ! 11 refl $ forget ! 12 refl $ forget ! 13 refl $ forget ! 14 refl $ forget ! 15 refl $ forget ! 16 refl $ forget ! 17 refl $ forget ! 18 refl $ forget ! 19 refl $ forget ! 20 refl $ forget ! 21 refl $ forget ! 22 refl $ forget ! 23 refl $ forget ! 24 refl $ forget ! 25 refl $ forget ! 26 refl $ forget ! 27 refl $ forget ! 28 refl $ forget ! 29 refl $ forget ! 30 refl $ forget ! 31 refl $ forget ! 32 refl $ forget ! 33 refl $ forget ! 34 refl $
+        move ! (6 ∷ 35 ∷ []) $ free1 ! $ move ! (6 ∷ 34 ∷ []) $ free1 ! $ move ! (6 ∷ 33 ∷ []) $ free1 ! $ move ! (6 ∷ 32 ∷ []) $ free1 ! $ move ! (6 ∷ 31 ∷ []) $ free1 ! $ move ! (6 ∷ 30 ∷ []) $ free1 ! $ move ! (6 ∷ 29 ∷ []) $ free1 ! $ move ! (6 ∷ 28 ∷ []) $ free1 ! $ move ! (6 ∷ 27 ∷ []) $ free1 ! $ move ! (6 ∷ 26 ∷ []) $ free1 ! $ move ! (6 ∷ 25 ∷ []) $ free1 ! $ move ! (6 ∷ 24 ∷ []) $ free1 ! $ move ! (6 ∷ 23 ∷ []) $ free1 ! $ move ! (6 ∷ 22 ∷ []) $ free1 ! $ move ! (6 ∷ 21 ∷ []) $ free1 ! $ move ! (6 ∷ 20 ∷ []) $ free1 ! $ move ! (6 ∷ 19 ∷ []) $ free1 ! $ move ! (6 ∷ 18 ∷ []) $ free1 ! $ move ! (6 ∷ 17 ∷ []) $ free1 ! $ move ! (6 ∷ 16 ∷ []) $ free1 ! $ move ! (6 ∷ 15 ∷ []) $ free1 ! $ move ! (6 ∷ 14 ∷ []) $ free1 ! $ move ! (6 ∷ 13 ∷ []) $ free1 ! $ move ! (6 ∷ 12 ∷ []) $ free1 ! $ move ! (6 ∷ 11 ∷ []) $ free1 ! $ move ! (6 ∷ 10 ∷ []) $ free1 ! $ move ! (6 ∷ 9 ∷ []) $ free1 ! $ move ! (6 ∷ 8 ∷ []) $ free1 ! $ move ! (6 ∷ 7 ∷ []) $ free1 ! $ free0 ! $
+        move ! (3 ∷ 4 ∷ 5 ∷ 0 ∷ 1 ∷ 2 ∷ []) $ by ! (exits d e₆ is-d (len₂ d (sym (ap (λ (z : List Copy). length z) e₉) ∙ len₉)) gn gq)))))))))))))))))))))))))))))))))))))))))))))))))))))))))))))))))))))
 
     walk : Room R n → Room Q nq → ent 𝓤 (onEntry 𝓤 H A this.signature (κ, (κ₁, tt)) (q, (q₁, tt)) a at) (WpFn 𝓤 H (𝓣 .C) (𝓣 .Λ) code.function (vs ∷ vb ∷ s ∷ sq ∷ vu ∷ []) Post)
     unfolding sty bty dty oty
     walk gn gq =
         qed W ((‵ (flft κ q) ⊛ ‵ (flft κ₁ q₁) ⊛ ‵ ftrue) ∷ ‵ (owns (S ∷ B ∷ MutSlice (named 0) κ R ∷ MutSlice (named 1) κ₁ Q ∷ U ∷ []) a at) ∷ []) ∵ enter ! (𝓣 .C) (𝓣 .Λ) code.function (vs ∷ vb ∷ s ∷ sq ∷ vu ∷ []) _ $
-        alloc1 ! (λ l₀. alloc1 ! (λ l₁. alloc1 ! (λ l₂. alloc1 ! (λ l₃. alloc1 ! (λ l₄. alloc1 ! (λ l₅. alloc1 ! (λ l₆. alloc1 ! (λ l₇. alloc1 ! (λ l₈. alloc1 ! (λ l₉. alloc1 ! (λ l₁₀. alloc1 ! (λ l₁₁. alloc1 ! (λ l₁₂. alloc1 ! (λ l₁₃. alloc1 ! (λ l₁₄. alloc1 ! (λ l₁₅. alloc1 ! (λ l₁₆. alloc1 ! (λ l₁₇. alloc1 ! (λ l₁₈. alloc1 ! (λ l₁₉. alloc1 ! (λ l₂₀. alloc1 ! (λ l₂₁. alloc1 ! (λ l₂₂. alloc1 ! (λ l₂₃. alloc1 ! (λ l₂₄. alloc1 ! (λ l₂₅. alloc1 ! (λ l₂₆. alloc1 ! (λ l₂₇. alloc1 ! (λ l₂₈. alloc1 ! (λ l₂₉. alloc0 ! $ params1 ! $ pass1 ! (init ! 56 refl (LL.lawful S-.the-type S′.the-laws 𝓤 H A W .typed st _ is-st .0)) $ pass1 ! (init ! 54 refl (LL.lawful B-.the-type B′.the-laws 𝓤 H A W .typed tb _ is-tb .0)) $ pass1 ! (init ! 52 refl (tt, (tt, (record { fits = gn .0 }, tt)))) $ pass1 ! (init ! 50 refl (tt, (tt, (record { fits = gq .0 }, tt)))) $ pass1 ! (init ! 48 refl (LL.lawful U-.the-type U′.the-laws 𝓤 H A W .typed uq _ is-u .0)) $ pass0 ! $
-        move ! (61 ∷ []) $ fsplit ! $ move ! (1 ∷ []) $ fsplit ! $ move ! (1 ∷ []) $ fsplit ! $ fsplit ! $ move ! (1 ∷ []) $ fsplit ! $ move ! (3 ∷ []) $ fsplit ! $ fsplit ! $ move ! (1 ∷ []) $ fsplit ! $ move ! (69 ∷ []) $ split ! $ move ! (1 ∷ []) $ split ! $
+        alloc1 ! (λ l₀. alloc1 ! (λ l₁. alloc1 ! (λ l₂. alloc1 ! (λ l₃. alloc1 ! (λ l₄. alloc1 ! (λ l₅. alloc1 ! (λ l₆. alloc1 ! (λ l₇. alloc1 ! (λ l₈. alloc1 ! (λ l₉. alloc1 ! (λ l₁₀. alloc1 ! (λ l₁₁. alloc1 ! (λ l₁₂. alloc1 ! (λ l₁₃. alloc1 ! (λ l₁₄. alloc1 ! (λ l₁₅. alloc1 ! (λ l₁₆. alloc1 ! (λ l₁₇. alloc1 ! (λ l₁₈. alloc1 ! (λ l₁₉. alloc1 ! (λ l₂₀. alloc1 ! (λ l₂₁. alloc1 ! (λ l₂₂. alloc1 ! (λ l₂₃. alloc1 ! (λ l₂₄. alloc1 ! (λ l₂₅. alloc1 ! (λ l₂₆. alloc1 ! (λ l₂₇. alloc1 ! (λ l₂₈. alloc0 ! $ params1 ! $ pass1 ! (init ! 54 refl (LL.lawful S-.the-type S′.the-laws 𝓤 H A W .typed st _ is-st .0)) $ pass1 ! (init ! 52 refl (LL.lawful B-.the-type B′.the-laws 𝓤 H A W .typed tb _ is-tb .0)) $ pass1 ! (init ! 50 refl (tt, (tt, (record { fits = gn .0 }, tt)))) $ pass1 ! (init ! 48 refl (tt, (tt, (record { fits = gq .0 }, tt)))) $ pass1 ! (init ! 46 refl (LL.lawful U-.the-type U′.the-laws 𝓤 H A W .typed uq _ is-u .0)) $ pass0 ! $
+        move ! (59 ∷ []) $ fsplit ! $ move ! (1 ∷ []) $ fsplit ! $ move ! (1 ∷ []) $ fsplit ! $ fsplit ! $ move ! (1 ∷ []) $ fsplit ! $ move ! (3 ∷ []) $ fsplit ! $ fsplit ! $ move ! (1 ∷ []) $ fsplit ! $ move ! (67 ∷ []) $ split ! $ move ! (1 ∷ []) $ split ! $
         move ! (7 ∷ 8 ∷ 2 ∷ []) $ opens-slice ! tt R ys b o $
         move ! (6 ∷ 7 ∷ 4 ∷ []) $ opens-slice ! tt Q ks bq oq $
-        keep ! (4 ∷ 5 ∷ 6 ∷ 7 ∷ 0 ∷ 1 ∷ 2 ∷ 3 ∷ 72 ∷ 70 ∷ 68 ∷ 66 ∷ 64 ∷ 62 ∷ 60 ∷ 58 ∷ 56 ∷ 54 ∷ 52 ∷ 50 ∷ 48 ∷ 46 ∷ 44 ∷ 42 ∷ 40 ∷ 38 ∷ 36 ∷ 34 ∷ 32 ∷ 30 ∷ 28 ∷ 26 ∷ 24 ∷ 22 ∷ 20 ∷ 18 ∷ 16 ∷ 14 ∷ 73 ∷ 71 ∷ 69 ∷ 67 ∷ 65 ∷ 63 ∷ 61 ∷ 59 ∷ 57 ∷ 55 ∷ 53 ∷ 51 ∷ 49 ∷ 47 ∷ 45 ∷ 43 ∷ 41 ∷ 39 ∷ 37 ∷ 35 ∷ 33 ∷ 31 ∷ 29 ∷ 27 ∷ 25 ∷ 23 ∷ 21 ∷ 19 ∷ 17 ∷ 15 ∷ []) $ body gn gq l₀ l₁ l₂ l₃ l₄ l₅ l₆ l₇ l₈ l₉ l₁₀ l₁₁ l₁₂ l₁₃ l₁₄ l₁₅ l₁₆ l₁₇ l₁₈ l₁₉ l₂₀ l₂₁ l₂₂ l₂₃ l₂₄ l₂₅ l₂₆ l₂₇ l₂₈ l₂₉))))))))))))))))))))))))))))))
+        keep ! (4 ∷ 5 ∷ 6 ∷ 7 ∷ 0 ∷ 1 ∷ 2 ∷ 3 ∷ 70 ∷ 68 ∷ 66 ∷ 64 ∷ 62 ∷ 60 ∷ 58 ∷ 56 ∷ 54 ∷ 52 ∷ 50 ∷ 48 ∷ 46 ∷ 44 ∷ 42 ∷ 40 ∷ 38 ∷ 36 ∷ 34 ∷ 32 ∷ 30 ∷ 28 ∷ 26 ∷ 24 ∷ 22 ∷ 20 ∷ 18 ∷ 16 ∷ 14 ∷ 71 ∷ 69 ∷ 67 ∷ 65 ∷ 63 ∷ 61 ∷ 59 ∷ 57 ∷ 55 ∷ 53 ∷ 51 ∷ 49 ∷ 47 ∷ 45 ∷ 43 ∷ 41 ∷ 39 ∷ 37 ∷ 35 ∷ 33 ∷ 31 ∷ 29 ∷ 27 ∷ 25 ∷ 23 ∷ 21 ∷ 19 ∷ 17 ∷ 15 ∷ []) $ body gn gq l₀ l₁ l₂ l₃ l₄ l₅ l₆ l₇ l₈ l₉ l₁₀ l₁₁ l₁₂ l₁₃ l₁₄ l₁₅ l₁₆ l₁₇ l₁₈ l₁₉ l₂₀ l₂₁ l₂₂ l₂₃ l₂₄ l₂₅ l₂₆ l₂₇ l₂₈)))))))))))))))))))))))))))))
 
 module _ {M : Type 1} (𝓤 : URA M) (H : Heap 𝓤) (A : Atoms 𝓤) (W : Given 𝓤 H A) (mem : Memory → SProp 𝓤) (run : Routine → Fun 𝓤) where
-  this-walks : (𝓣 : Tables 𝓤 H) → Triple 𝓤 (𝓣 .C #records·copies·sound) (On-copies-sound 𝓤 H A mem run) → Triple 𝓤 (𝓣 .C #records·requests·sound) (On-requests-sound 𝓤 H A mem run) → Triple 𝓤 (𝓣 .C #step·both) (On-both 𝓤 H A mem run) → Triple 𝓤 (𝓣 .C #decide·records·target) (On-target 𝓤 H A mem run) → Triple 𝓤 (𝓣 .C #records·copies·look) (On-copies-look 𝓤 H A mem run) → Triple 𝓤 (𝓣 .C #records·requests·look) (On-requests-look 𝓤 H A mem run) → Triple 𝓤 (𝓣 .C #decide·decide) (On-decide 𝓤 H A mem run) → Triple 𝓤 (𝓣 .C #step·change-of) (On-change-of 𝓤 H A mem run) → Triple 𝓤 (𝓣 .C #records·copies·settle) (On-settle 𝓤 H A mem run) → Triple 𝓤 (𝓣 .C #records·sweep·sweep) (On-sweep 𝓤 H A mem run) → Triple 𝓤 (𝓣 .C #records·turn·turn-of) (On-turn-of 𝓤 H A mem run) → Triple 𝓤 (𝓣 .C #records·turn·update) (On-update 𝓤 H A mem run) → Triple 𝓤 (𝓣 .C #step·outcome-of) (On-outcome-of 𝓤 H A mem run) → Walks 𝓤 H A this.ended stayed (WpFn 𝓤 H (𝓣 .C) (𝓣 .Λ) code.function) (this.clauses 𝓤 H A mem run)
-  this-walks 𝓣 known-copies-sound known-requests-sound known-both known-target known-copies-look known-requests-look known-decide known-change-of known-settle known-sweep known-turn-of known-update known-outcome-of = walked 𝓤 H A this.ended stayed (this.clauses 𝓤 H A mem run) (WpFn 𝓤 H (𝓣 .C) (𝓣 .Λ) code.function) (λ κs. ((LL.vals S-.the-type S′.the-laws), ((LL.vals B-.the-type B′.the-laws), (slice-vals, (slice-vals, ((LL.vals U-.the-type U′.the-laws), tt)))))) (λ κs. ((LL.tells S-.the-type S′.the-laws), ((LL.tells B-.the-type B′.the-laws), (mut-slice-tells (named 0) (κs .0) R, (mut-slice-tells (named 1) (κs .1 .0) Q, ((LL.tells U-.the-type U′.the-laws), tt))))))
-      (λ κs qs bounds a g are. via 𝓤 _ (fst∗ 𝓤 _ (emp 𝓤)) (walk 𝓤 H A W mem run (κs .0) (κs .1 .0) (qs .0) (qs .1 .0) (a .0) (a .1 .0) (a .1 .1 .0 .ptr .0) (a .1 .1 .0 .ptr .1) (a .1 .1 .0 .name) (a .1 .1 .0 .now) (a .1 .1 .1 .0 .ptr .0) (a .1 .1 .1 .0 .ptr .1) (a .1 .1 .1 .0 .name) (a .1 .1 .1 .0 .now) (a .1 .1 .1 .1 .0) (are .0) (are .1 .0) (are .1 .1 .1 .1 .0) 𝓣 (fmOf 𝓤 H (W .laws) 𝓣) known-copies-sound known-requests-sound known-both known-target known-copies-look known-requests-look known-decide known-change-of known-settle known-sweep known-turn-of known-update known-outcome-of (are .1 .1 .0 .0 .1) (are .1 .1 .1 .0 .0 .1)))
+  this-walks : (𝓣 : Tables 𝓤 H) → Triple 𝓤 (𝓣 .C #records·copies·sound) (On-copies-sound 𝓤 H A mem run) → Triple 𝓤 (𝓣 .C #records·requests·sound) (On-requests-sound 𝓤 H A mem run) → Triple 𝓤 (𝓣 .C #step·both) (On-both 𝓤 H A mem run) → Triple 𝓤 (𝓣 .C #decide·records·target) (On-target 𝓤 H A mem run) → Triple 𝓤 (𝓣 .C #records·copies·look) (On-copies-look 𝓤 H A mem run) → Triple 𝓤 (𝓣 .C #records·requests·look) (On-requests-look 𝓤 H A mem run) → Triple 𝓤 (𝓣 .C #decide·decide) (On-decide 𝓤 H A mem run) → Triple 𝓤 (𝓣 .C #step·change-of) (On-change-of 𝓤 H A mem run) → Triple 𝓤 (𝓣 .C #records·copies·change) (On-change 𝓤 H A mem run) → Triple 𝓤 (𝓣 .C #records·sweep·sweep) (On-sweep 𝓤 H A mem run) → Triple 𝓤 (𝓣 .C #records·turn·update) (On-update 𝓤 H A mem run) → Triple 𝓤 (𝓣 .C #step·outcome-of) (On-outcome-of 𝓤 H A mem run) → Walks 𝓤 H A this.ended stayed (WpFn 𝓤 H (𝓣 .C) (𝓣 .Λ) code.function) (this.clauses 𝓤 H A mem run)
+  this-walks 𝓣 known-copies-sound known-requests-sound known-both known-target known-copies-look known-requests-look known-decide known-change-of known-change known-sweep known-update known-outcome-of = walked 𝓤 H A this.ended stayed (this.clauses 𝓤 H A mem run) (WpFn 𝓤 H (𝓣 .C) (𝓣 .Λ) code.function) (λ κs. ((LL.vals S-.the-type S′.the-laws), ((LL.vals B-.the-type B′.the-laws), (slice-vals, (slice-vals, ((LL.vals U-.the-type U′.the-laws), tt)))))) (λ κs. ((LL.tells S-.the-type S′.the-laws), ((LL.tells B-.the-type B′.the-laws), (mut-slice-tells (named 0) (κs .0) R, (mut-slice-tells (named 1) (κs .1 .0) Q, ((LL.tells U-.the-type U′.the-laws), tt))))))
+      (λ κs qs bounds a g are. via 𝓤 _ (fst∗ 𝓤 _ (emp 𝓤)) (walk 𝓤 H A W mem run (κs .0) (κs .1 .0) (qs .0) (qs .1 .0) (a .0) (a .1 .0) (a .1 .1 .0 .ptr .0) (a .1 .1 .0 .ptr .1) (a .1 .1 .0 .name) (a .1 .1 .0 .now) (a .1 .1 .1 .0 .ptr .0) (a .1 .1 .1 .0 .ptr .1) (a .1 .1 .1 .0 .name) (a .1 .1 .1 .0 .now) (a .1 .1 .1 .1 .0) (are .0) (are .1 .0) (are .1 .1 .1 .1 .0) 𝓣 (fmOf 𝓤 H (W .laws) 𝓣) known-copies-sound known-requests-sound known-both known-target known-copies-look known-requests-look known-decide known-change-of known-change known-sweep known-update known-outcome-of (are .1 .1 .0 .0 .1) (are .1 .1 .1 .0 .0 .1)))
 
 this-meets : {M : Type 1} (𝓤 : URA M) (H : Heap 𝓤) (A : Atoms 𝓤) → Given 𝓤 H A → (mem : Memory → SProp 𝓤) (run : Routine → Fun 𝓤) (𝓣 : Tables 𝓤 H)
-    → Triple 𝓤 (𝓣 .C #records·copies·sound) (On-copies-sound 𝓤 H A mem run) → Triple 𝓤 (𝓣 .C #records·requests·sound) (On-requests-sound 𝓤 H A mem run) → Triple 𝓤 (𝓣 .C #step·both) (On-both 𝓤 H A mem run) → Triple 𝓤 (𝓣 .C #decide·records·target) (On-target 𝓤 H A mem run) → Triple 𝓤 (𝓣 .C #records·copies·look) (On-copies-look 𝓤 H A mem run) → Triple 𝓤 (𝓣 .C #records·requests·look) (On-requests-look 𝓤 H A mem run) → Triple 𝓤 (𝓣 .C #decide·decide) (On-decide 𝓤 H A mem run) → Triple 𝓤 (𝓣 .C #step·change-of) (On-change-of 𝓤 H A mem run) → Triple 𝓤 (𝓣 .C #records·copies·settle) (On-settle 𝓤 H A mem run) → Triple 𝓤 (𝓣 .C #records·sweep·sweep) (On-sweep 𝓤 H A mem run) → Triple 𝓤 (𝓣 .C #records·turn·turn-of) (On-turn-of 𝓤 H A mem run) → Triple 𝓤 (𝓣 .C #records·turn·update) (On-update 𝓤 H A mem run) → Triple 𝓤 (𝓣 .C #step·outcome-of) (On-outcome-of 𝓤 H A mem run) → Meets 𝓤 H A this.signature (WpFn 𝓤 H (𝓣 .C) (𝓣 .Λ) code.function) (this.spec 𝓤 H A mem run)
-this-meets 𝓤 H A W mem run 𝓣 known-copies-sound known-requests-sound known-both known-target known-copies-look known-requests-look known-decide known-change-of known-settle known-sweep known-turn-of known-update known-outcome-of =
+    → Triple 𝓤 (𝓣 .C #records·copies·sound) (On-copies-sound 𝓤 H A mem run) → Triple 𝓤 (𝓣 .C #records·requests·sound) (On-requests-sound 𝓤 H A mem run) → Triple 𝓤 (𝓣 .C #step·both) (On-both 𝓤 H A mem run) → Triple 𝓤 (𝓣 .C #decide·records·target) (On-target 𝓤 H A mem run) → Triple 𝓤 (𝓣 .C #records·copies·look) (On-copies-look 𝓤 H A mem run) → Triple 𝓤 (𝓣 .C #records·requests·look) (On-requests-look 𝓤 H A mem run) → Triple 𝓤 (𝓣 .C #decide·decide) (On-decide 𝓤 H A mem run) → Triple 𝓤 (𝓣 .C #step·change-of) (On-change-of 𝓤 H A mem run) → Triple 𝓤 (𝓣 .C #records·copies·change) (On-change 𝓤 H A mem run) → Triple 𝓤 (𝓣 .C #records·sweep·sweep) (On-sweep 𝓤 H A mem run) → Triple 𝓤 (𝓣 .C #records·turn·update) (On-update 𝓤 H A mem run) → Triple 𝓤 (𝓣 .C #step·outcome-of) (On-outcome-of 𝓤 H A mem run) → Meets 𝓤 H A this.signature (WpFn 𝓤 H (𝓣 .C) (𝓣 .Λ) code.function) (this.spec 𝓤 H A mem run)
+this-meets 𝓤 H A W mem run 𝓣 known-copies-sound known-requests-sound known-both known-target known-copies-look known-requests-look known-decide known-change-of known-change known-sweep known-update known-outcome-of =
     walk-meets 𝓤 H A this.ended stayed W (goes-none 𝓤 H A W 2 (λ _. S) yes (λ κs x f. refl), (goes-none 𝓤 H A W 2 (λ _. B) yes (λ κs x f. refl), (goes-slice 𝓤 H A W 2 0 tt (plain (λ _. R)), (goes-slice 𝓤 H A W 2 1 tt (plain (λ _. Q)), (goes-none 𝓤 H A W 2 (λ _. U) yes (λ κs x f. refl), tt))))) (this.clauses 𝓤 H A mem run)
-    (WpFn 𝓤 H (𝓣 .C) (𝓣 .Λ) code.function) (WpFn-mono 𝓤 H (W .laws) 𝓣 code.function) (this-walks 𝓤 H A W mem run 𝓣 known-copies-sound known-requests-sound known-both known-target known-copies-look known-requests-look known-decide known-change-of known-settle known-sweep known-turn-of known-update known-outcome-of)
+    (WpFn 𝓤 H (𝓣 .C) (𝓣 .Λ) code.function) (WpFn-mono 𝓤 H (W .laws) 𝓣 code.function) (this-walks 𝓤 H A W mem run 𝓣 known-copies-sound known-requests-sound known-both known-target known-copies-look known-requests-look known-decide known-change-of known-change known-sweep known-update known-outcome-of)
 
 pub step-spec : {M : Type 1} → stated.statement M
 unfolding code.routine tablesOf
@@ -776,8 +748,7 @@ step-spec 𝓤 H 𝓜 𝓖 𝓡 =
     (cited 𝓤 H (On-requests-look 𝓤 H (𝓖 .A) (𝓜 .mem) (𝓡 .run)) 𝓜 𝓡 code.env #records·requests·look requests-look-def.routine code.calls-records·requests·look (requests-look-thm.met 𝓤 H 𝓜 𝓖 𝓡))
     (cited 𝓤 H (On-decide 𝓤 H (𝓖 .A) (𝓜 .mem) (𝓡 .run)) 𝓜 𝓡 code.env #decide·decide decide-def.routine code.calls-decide·decide (decide-thm.met 𝓤 H 𝓜 𝓖 𝓡))
     (cited 𝓤 H (On-change-of 𝓤 H (𝓖 .A) (𝓜 .mem) (𝓡 .run)) 𝓜 𝓡 code.env #step·change-of change-of-def.routine code.calls-step·change-of (change-of-thm.met 𝓤 H 𝓜 𝓖 𝓡))
-    (cited 𝓤 H (On-settle 𝓤 H (𝓖 .A) (𝓜 .mem) (𝓡 .run)) 𝓜 𝓡 code.env #records·copies·settle settle-def.routine code.calls-records·copies·settle (settle-thm.met 𝓤 H 𝓜 𝓖 𝓡))
+    (cited 𝓤 H (On-change 𝓤 H (𝓖 .A) (𝓜 .mem) (𝓡 .run)) 𝓜 𝓡 code.env #records·copies·change change-def.routine code.calls-records·copies·change (change-thm.met 𝓤 H 𝓜 𝓖 𝓡))
     (cited 𝓤 H (On-sweep 𝓤 H (𝓖 .A) (𝓜 .mem) (𝓡 .run)) 𝓜 𝓡 code.env #records·sweep·sweep sweep-def.routine code.calls-records·sweep·sweep (sweep-thm.met 𝓤 H 𝓜 𝓖 𝓡))
-    (cited 𝓤 H (On-turn-of 𝓤 H (𝓖 .A) (𝓜 .mem) (𝓡 .run)) 𝓜 𝓡 code.env #records·turn·turn-of turn-of-def.routine code.calls-records·turn·turn-of (turn-of-thm.met 𝓤 H 𝓜 𝓖 𝓡))
     (cited 𝓤 H (On-update 𝓤 H (𝓖 .A) (𝓜 .mem) (𝓡 .run)) 𝓜 𝓡 code.env #records·turn·update update-def.routine code.calls-records·turn·update (update-thm.met 𝓤 H 𝓜 𝓖 𝓡))
     (cited 𝓤 H (On-outcome-of 𝓤 H (𝓖 .A) (𝓜 .mem) (𝓡 .run)) 𝓜 𝓡 code.env #step·outcome-of outcome-of-def.routine code.calls-step·outcome-of (outcome-of-thm.met 𝓤 H 𝓜 𝓖 𝓡)))

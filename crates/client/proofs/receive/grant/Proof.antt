@@ -21,9 +21,6 @@ put-requires-2 c κs = search needs
 fill-requires : tie.Need-fill-requires
 fill-requires c κs = search needs
 
-end-requires : tie.Need-end-requires
-end-requires c κs = search needs
-
 returns : tie.Need-returns
 returns c = search grant-yes
 
@@ -43,7 +40,6 @@ grant-spec =
     put-requires
     put-requires-2
     fill-requires
-    end-requires
     returns
     ignored-requires
     returns-2)

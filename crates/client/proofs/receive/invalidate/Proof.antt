@@ -3,9 +3,6 @@ use Rattle.client.proofs.Laws.{invalidated}
 use Rattle.client.proofs.receive.invalidate.Statement.{statement}
 use Rattle.client.proofs.receive.invalidate.Tie as tie
 
-none-requires : tie.Need-none-requires
-none-requires c κs = search needs
-
 forget-requires : tie.Need-forget-requires
 forget-requires c κs = search needs
 
@@ -13,4 +10,4 @@ returns : tie.Need-returns
 returns c = search invalidated
 
 pub invalidate-spec : {M : Type 1} → statement M
-invalidate-spec = tie.close (tie.spec none-requires forget-requires returns)
+invalidate-spec = tie.close (tie.spec forget-requires returns)

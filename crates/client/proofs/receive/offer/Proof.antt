@@ -12,9 +12,6 @@ put-requires c κs = search needs
 put-requires-2 : tie.Need-put-requires-2
 put-requires-2 c κs = search needs
 
-end-requires : tie.Need-end-requires
-end-requires c κs = search needs
-
 returns : tie.Need-returns
 returns c = search offer-yes
 
@@ -31,7 +28,6 @@ offer-spec =
     stands-requires
     put-requires
     put-requires-2
-    end-requires
     returns
     ignored-requires
     returns-2)

@@ -3,9 +3,6 @@ use Rattle.client.proofs.Laws.{forgetting}
 use Rattle.client.proofs.request.forget.Statement.{statement}
 use Rattle.client.proofs.request.forget.Tie as tie
 
-end-requires : tie.Need-end-requires
-end-requires c κs = search needs
-
 returns : tie.Need-returns
 returns c = search forgetting
 
@@ -13,4 +10,4 @@ returns-2 : tie.Need-returns-2
 returns-2 c = search forgetting
 
 pub forget-spec : {M : Type 1} → statement M
-forget-spec = tie.close (tie.spec end-requires returns returns-2)
+forget-spec = tie.close (tie.spec returns returns-2)

@@ -4,7 +4,7 @@ use denote.Ref.{now}
 use Rattle.client.specs.Shown.{read-answered}
 use Rattle.leases.specs.Parts.{tablesOf}
 use Rattle.protocol.specs.Tables.{freshSessions}
-use Rattle.protocol.specs.Soundness.StepCases.{passed, client-exists, object-exists, place-exists, next-grows}
+use Rattle.protocol.specs.Soundness.StepCases.{passed, client-exists, object-exists, place-exists}
 use Rattle.decide.proofs.Laws.{client-16, object-32, volume-of-8, volumes-8, last-client, by-read, by-ask, by-lose, by-double, by-last, asks, restarts}
 use borrow.Author.Needs.{needs}
 use Rattle.decide.proofs.client_steps.perform.Statement.{statement}
@@ -21,7 +21,7 @@ read-requires c κs =
 returns : tie.Need-returns
 returns c = λ v l k.
     let a = c .before .before .before .before .args in
-    by-read (a .s) (tablesOf (a .clock) (a .w) v (a .b) l k (record { epoch = now (a .epochs); expiry = now (a .expiries) }) (a .q)) (a .c) (a .r) (a .x) _ (c .before .before .if1 .taken) (read-answered (a .s) (tablesOf (a .clock) (a .w) v (a .b) l k (record { epoch = now (a .epochs); expiry = now (a .expiries) }) (a .q)) (a .c) (a .r) _ _ _ (c .read .ensures))
+    by-read (a .s) (tablesOf (a .clock) (a .w) v (a .b) l k (record { epoch = now (a .epochs); expiry = now (a .expiries) }) (a .q)) (a .c) (a .r) (a .x) _ (c .before .before .if1 .taken) (read-answered (a .s) (tablesOf (a .clock) (a .w) v (a .b) l k (record { epoch = now (a .epochs); expiry = now (a .expiries) }) (a .q)) (a .c) _ _ _ (c .read .ensures))
 
 ask-requires : tie.Need-ask-requires
 ask-requires c κs =
@@ -34,17 +34,10 @@ ask-requires c κs =
 push-requires : tie.Need-push-requires
 push-requires c κs = search needs
 
-number-requires : tie.Need-number-requires
-number-requires c κs =
-    let a = c .before .before .before .before .before .before .before .args in
-    let p = c .before .before .before .before .before .before .before .pre in
-    let e = p .1 .1 .1 freshSessions [] [] in
-    next-grows (passed (a .s) (tablesOf (a .clock) (a .w) freshSessions (a .b) [] [] (record { epoch = now (a .epochs); expiry = now (a .expiries) }) (a .q)) (a .r) (a .x) e) (c .before .before .before .if2 .taken)
-
 returns-2 : tie.Need-returns-2
 returns-2 c = λ v l k.
-    let a = c .before .before .before .before .before .before .before .before .args in
-    by-ask (a .s) (tablesOf (a .clock) (a .w) v (a .b) l k (record { epoch = now (a .epochs); expiry = now (a .expiries) }) (a .q)) (a .c) (a .r) (a .x) _ (c .before .before .before .before .if2 .taken) (asks (a .s) (tablesOf (a .clock) (a .w) v (a .b) l k (record { epoch = now (a .epochs); expiry = now (a .expiries) }) (a .q)) (a .c) (a .r) _ _ _ _ _ (c .before .before .ask .ensures (tablesOf (a .clock) (a .w) v (a .b) l k (record { epoch = now (a .epochs); expiry = now (a .expiries) }) (a .q))) (c .before .push .ensures) (c .number .ensures))
+    let a = c .before .before .before .before .before .before .before .args in
+    by-ask (a .s) (tablesOf (a .clock) (a .w) v (a .b) l k (record { epoch = now (a .epochs); expiry = now (a .expiries) }) (a .q)) (a .c) (a .r) (a .x) _ (c .before .before .before .if2 .taken) (asks (a .s) (tablesOf (a .clock) (a .w) v (a .b) l k (record { epoch = now (a .epochs); expiry = now (a .expiries) }) (a .q)) (a .c) (a .r) _ _ _ _ (c .before .ask .ensures (tablesOf (a .clock) (a .w) v (a .b) l k (record { epoch = now (a .epochs); expiry = now (a .expiries) }) (a .q))) (c .push .ensures))
 
 cast-remove : tie.Need-cast-remove
 cast-remove c = search needs
@@ -79,14 +72,11 @@ restart-requires c κs =
     let e = p .1 .1 .1 freshSessions [] [] in
     (client-16 (a .s) (p .0) _ (last-client (a .s) (tablesOf (a .clock) (a .w) freshSessions (a .b) [] [] (record { epoch = now (a .epochs); expiry = now (a .expiries) }) (a .q)) (a .r) (a .x) e (p .1 .1 .0 .0) (c .before .before .before .before .before .before .before .before .if1 .left) (c .before .before .before .before .before .before .if2 .left) (p .1 .1 .0 .1 .0) (p .1 .1 .0 .1 .1 .0) (c .before .before .before .before .if3 .left) (c .before .before .if4 .left) (p .1 .1 .0 .1 .1 .1)), volumes-8 (a .s) (p .0))
 
-end-requires : tie.Need-end-requires
-end-requires c κs = search needs
-
 returns-5 : tie.Need-returns-5
 returns-5 c = λ v l k.
-    let a = c .before .before .before .before .before .before .before .before .before .before .before .before .args in
-    let p = c .before .before .before .before .before .before .before .before .before .before .before .before .pre in
-    by-last (a .s) (tablesOf (a .clock) (a .w) v (a .b) l k (record { epoch = now (a .epochs); expiry = now (a .expiries) }) (a .q)) (a .r) (a .x) (p .1 .1 .1 v l k) (p .1 .1 .0 .0) (c .before .before .before .before .before .before .before .before .before .before .if1 .left) (c .before .before .before .before .before .before .before .before .if2 .left) (p .1 .1 .0 .1 .0) (p .1 .1 .0 .1 .1 .0) (c .before .before .before .before .before .before .if3 .left) (c .before .before .before .before .if4 .left) (p .1 .1 .0 .1 .1 .1) (a .c) _ (restarts (a .s) (tablesOf (a .clock) (a .w) v (a .b) l k (record { epoch = now (a .epochs); expiry = now (a .expiries) }) (a .q)) (a .c) (a .r) _ _ _ (c .before .restart .ensures) (c .end .ensures))
+    let a = c .before .before .before .before .before .before .before .before .before .before .before .args in
+    let p = c .before .before .before .before .before .before .before .before .before .before .before .pre in
+    by-last (a .s) (tablesOf (a .clock) (a .w) v (a .b) l k (record { epoch = now (a .epochs); expiry = now (a .expiries) }) (a .q)) (a .r) (a .x) (p .1 .1 .1 v l k) (p .1 .1 .0 .0) (c .before .before .before .before .before .before .before .before .before .if1 .left) (c .before .before .before .before .before .before .before .if2 .left) (p .1 .1 .0 .1 .0) (p .1 .1 .0 .1 .1 .0) (c .before .before .before .before .before .if3 .left) (c .before .before .before .if4 .left) (p .1 .1 .0 .1 .1 .1) (a .c) _ (restarts (a .s) (tablesOf (a .clock) (a .w) v (a .b) l k (record { epoch = now (a .epochs); expiry = now (a .expiries) }) (a .q)) _ _ (c .restart .ensures))
 
 pub perform-spec : {M : Type 1} → statement M
 perform-spec =
@@ -96,7 +86,6 @@ perform-spec =
     returns
     ask-requires
     push-requires
-    number-requires
     returns-2
     cast-remove
     remove-requires
@@ -105,5 +94,4 @@ perform-spec =
     double-requires
     returns-4
     restart-requires
-    end-requires
     returns-5)

@@ -47,12 +47,12 @@ use Rattle.protocol.specs.Client.{numbered, ended}
 use Rattle.protocol.specs.declared.records.Request.{Request}
 use Rattle.protocol.proofs.records.Request as Q-
 use Rattle.protocol.proofs.records.Request.Laws as Q′
-use Rattle.records.specs.declared.turn.Turn.{Turn}
-use Rattle.records.proofs.turn.Turn as Y-
-use Rattle.records.proofs.turn.Turn.Laws as Y′
+use Rattle.protocol.specs.declared.step.Turn.{Turn}
+use Rattle.protocol.proofs.step.Turn as Y-
+use Rattle.protocol.proofs.step.Turn.Laws as Y′
 use denote.Enum.Laws as EL
-use Rattle.records.specs.declared.turn.Turn.the-variants.{Keep, Take, End}
-use Rattle.records.specs.Turns.{turned, CanTurn}
+use Rattle.protocol.specs.declared.step.Turn.the-variants.{Keep, Take, End}
+use Rattle.protocol.specs.Client.{turned, CanTurn}
 use Rattle.records.proofs.requests.take_number as take-number-c
 use Rattle.records.proofs.requests.take_number.Symbol as take-number-def
 use Rattle.records.proofs.requests.take_number.Symbol.{name as #records·requests·take-number}
@@ -167,7 +167,6 @@ module _ {M : Type 1} (𝓤 : URA M) (H : Heap 𝓤) (A : Atoms 𝓤) (W : Given
 
       -- by cases on what is done: the tag is then a numeral
       matched : (u : Turn) → Is Y u ((EL.val Y-.the-type Y′.the-laws u) ∷ []) → CanTurn h u → Sq W (Has u h) (runs C Λ En the-match (Then u))
-      unfolding turned
       matched Keep is-u must =
           switches-on ! (load ! (from ! (vrt ! refl (fld ! refl (stop !)))) (look-tag ! 4 (whole !))) $ exec ! C Λ En skipᴹ (Then Keep) $ skips ! $ exec ! C Λ En rest (atRet En (Post Keep)) $ leaves Keep is-u h refl
       matched (Take n) is-u must =

@@ -51,12 +51,12 @@ use Rattle.protocol.specs.Tables.{noRequest}
 use Rattle.protocol.specs.declared.records.Request.{Request}
 use Rattle.protocol.proofs.records.Request as Q-
 use Rattle.protocol.proofs.records.Request.Laws as Q′
-use Rattle.records.specs.declared.turn.Turn.{Turn}
-use Rattle.records.proofs.turn.Turn as Y-
-use Rattle.records.proofs.turn.Turn.Laws as Y′
+use Rattle.protocol.specs.declared.step.Turn.{Turn}
+use Rattle.protocol.proofs.step.Turn as Y-
+use Rattle.protocol.proofs.step.Turn.Laws as Y′
 use denote.Struct.Laws as LL
 use denote.Enum.Laws as EL
-use Rattle.records.specs.Turns.{turned, CanTurn}
+use Rattle.protocol.specs.Client.{turned, CanTurn}
 use Rattle.records.specs.Lent.{lies-in, lies-out}
 use Rattle.records.proofs.turn.apply as apply-c
 use Rattle.records.proofs.turn.apply.Symbol as apply-def

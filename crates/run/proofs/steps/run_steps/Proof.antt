@@ -5,7 +5,7 @@ use mathlib.Core.Path.{_≡_, refl, _∙_}
 use lib.ListN.{length}
 use Rattle.leases.specs.Parts.{sessionsOf, tablesOf}
 use Rattle.run.specs.Ran.{Running, run-starts, run-ends, line-fits}
-use Rattle.run.proofs.Laws.{eight-volumes, tables-fresh, copies-fresh, requests-fresh, tables-sound, all-fit, copy-place, request-place, sweep-inside, not-swept, turn, turn-kept, refused-keeps, none-refused, performs}
+use Rattle.run.proofs.Laws.{eight-volumes, tables-fresh, copies-fresh, requests-fresh, tables-sound, all-fit, copy-place, request-place, sweep-inside, not-swept, turn, turn-kept, refused-keeps, none-refused, performs, can-turn}
 use borrow.Author.Needs.{needs}
 use Rattle.run.proofs.steps.run_steps.Statement.{statement}
 use Rattle.run.proofs.steps.run_steps.Tie as tie
@@ -106,11 +106,20 @@ perform-requires c κs =
     let t = (tablesOf (l .loop .clock) (l .loop .volumes) (sessionsOf (l .loop .seen) (l .loop .expiry) (l .loop .marks) (l .loop .offer)) (l .loop .objects) (l .loop .lease) (l .loop .waiting) (record { epoch = l .loop .epochs; expiry = l .loop .expiries }) (l .loop .queue)) in
     (p .0, (tables-sound _ t _ _ (p .0) (l .loop .inv .1 .1 .owned), none-refused _ t _ _ _ (c .before .before .before .before .before .before .before .before .before .refusal-of-step .ensures t refl refl refl refl) (c .before .before .before .before .before .before .before .before .if1 .left)))
 
+change-requires : tie.Need-change-requires Inv-loop μ-loop
+change-requires c κs = search needs
+
+turn-requires : tie.Need-turn-requires Inv-loop μ-loop
+turn-requires c κs =
+    let l = c .before .before .before .before .before .before .before .before .before .before .before .before .before .before .before .before .before .before .before .before .before .before .before in
+    let t = (tablesOf (l .loop .clock) (l .loop .volumes) (sessionsOf (l .loop .seen) (l .loop .expiry) (l .loop .marks) (l .loop .offer)) (l .loop .objects) (l .loop .lease) (l .loop .waiting) (record { epoch = l .loop .epochs; expiry = l .loop .expiries }) (l .loop .queue)) in
+    can-turn _ t _ _ _ _ (c .before .before .before .before .before .before .before .before .before .before .before .before .before .before .before .refusal-of-step .ensures t refl refl refl refl) (c .before .before .before .before .before .before .before .before .before .before .before .before .before .before .if1 .left) _ (c .before .before .before .before .before .perform .ensures)
+
 mul-copies : tie.Need-mul-copies Inv-loop μ-loop
-mul-copies c = omega (arith, copy-place _ _ _ (c .before .before .before .before .before .before .before .before .before .before .before .before .before .before .before .before .before .before .before .before .before .before .before .before .before .before .before .before .before .before .before .before .before .before .before .before .before .before .before .before .before .before .before .before .before .before .pre .0) (c .before .before .before .before .before .before .before .before .before .before .before .before .before .before .before .before .before .before .before .place-in .ensures))
+mul-copies c = omega (arith, copy-place _ _ _ (c .before .before .before .before .before .before .before .before .before .before .before .before .before .before .before .before .before .before .before .before .before .before .before .before .before .before .before .before .before .before .before .before .before .before .before .before .before .before .before .before .before .before .before .before .before .before .before .pre .0) (c .before .before .before .before .before .before .before .before .before .before .before .before .before .before .before .before .before .before .before .before .place-in .ensures))
 
 array-set-from-copies : tie.Need-array-set-from-copies Inv-loop μ-loop
-array-set-from-copies c = omega (arith, copy-place _ _ _ (c .before .before .before .before .before .before .before .before .before .before .before .before .before .before .before .before .before .before .before .before .before .before .before .before .before .before .before .before .before .before .before .before .before .before .before .before .before .before .before .before .before .before .before .before .before .before .pre .0) (c .before .before .before .before .before .before .before .before .before .before .before .before .before .before .before .before .before .before .before .place-in .ensures), c .before .before .before .before .before .before .before .before .before .before .before .before .before .before .before .before .before .before .before .before .before .before .before .loop .inv .1 .1 .owned .copies)
+array-set-from-copies c = omega (arith, copy-place _ _ _ (c .before .before .before .before .before .before .before .before .before .before .before .before .before .before .before .before .before .before .before .before .before .before .before .before .before .before .before .before .before .before .before .before .before .before .before .before .before .before .before .before .before .before .before .before .before .before .before .pre .0) (c .before .before .before .before .before .before .before .before .before .before .before .before .before .before .before .before .before .before .before .before .place-in .ensures), c .before .before .before .before .before .before .before .before .before .before .before .before .before .before .before .before .before .before .before .before .before .before .before .before .loop .inv .1 .1 .owned .copies)
 
 mul-requests : tie.Need-mul-requests Inv-loop μ-loop
 mul-requests c = omega (arith, request-place _ _ _ (c .before .before .before .before .before .before .before .before .before .before .before .before .before .before .before .before .before .before .before .before .before .before .before .before .before .before .before .before .before .before .before .before .before .before .before .before .before .before .before .before .before .before .before .before .before .before .before .pre .0) (c .before .before .before .before .before .before .before .before .before .before .before .before .before .before .before .before .before .before .before .place-in2 .ensures))
@@ -158,7 +167,7 @@ loop-again-2 c =
       (
         c .before .before .write-line2 .ensures .bytes .long ∙ l .loop .inv .1 .0,
         turn _ _ _ _ _ _ (p .0) (p .1 .records) (p .1 .few) _ t _ _ _ _ (i .taken) (l .loop .inv .1 .1) _ (c .before .before .before .before .before .before .before .before .before .before .before .before .before .before .before .before .before .before .before .before .before .before .before .before .before .before .before .before .step-at .ensures) _ (c .before .before .before .before .before .before .before .before .before .before .before .before .before .before .before .before .before .before .before .before .before .before .before .before .before .before .before .target-in .ensures t refl) _ (c .before .before .before .before .before .before .before .before .before .before .before .before .before .before .before .before .before .before .before .before .before .before .before .before .before .before .place-in .ensures) _ (c .before .before .before .before .before .before .before .before .before .before .before .before .before .before .before .before .before .before .before .before .before .before .before .before .before .place-in2 .ensures)
-            _ (performs _ t _ _ _ _ (c .before .before .before .before .before .before .before .before .before .before .before .before .before .before .before .before .before .before .before .before .before .before .refusal-of-step .ensures t refl refl refl refl) (c .before .before .before .before .before .before .before .before .before .before .before .before .before .before .before .before .before .before .before .before .before .if1 .left) _ (c .before .before .before .before .before .before .before .before .before .before .before .before .perform .ensures)) _ (c .before .before .before .before .before .reach .ensures)
+            _ (performs _ t _ _ _ _ (c .before .before .before .before .before .before .before .before .before .before .before .before .before .before .before .before .before .before .before .before .before .before .refusal-of-step .ensures t refl refl refl refl) (c .before .before .before .before .before .before .before .before .before .before .before .before .before .before .before .before .before .before .before .before .before .if1 .left) _ (c .before .before .before .before .before .before .before .before .before .before .before .before .perform .ensures)) _ (c .before .before .before .before .before .before .before .change .ensures) _ (c .before .before .before .before .before .before .turn .ensures) _ (c .before .before .before .before .before .reach .ensures)
             _ (⊎-elim (λ w. w .2 ∙ w .1 .ensures) (λ w. w .1 ∙ not-swept _ _ _ _ _ (w .0 .left)) (c .before .before .before .before .if2 .came)) _ (l .before .before .before .before .before .before .before .before .before .before .before .before .before .before .before .before .before .before .none .ensures) _ _ (c .before .before .write-line2 .ensures),
       ),
     )
@@ -198,6 +207,8 @@ run-steps-spec =
     loop-less
     loop-again
     perform-requires
+    change-requires
+    turn-requires
     mul-copies
     array-set-from-copies
     mul-requests
