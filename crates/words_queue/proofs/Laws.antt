@@ -21,10 +21,6 @@ use Rattle.words.specs.Rows.{wordsOf, Narrow, fieldsAt, messageFrom}
 use Rattle.words.specs.View.{tablesOf, recordsOf}
 use Rattle.words_queue.proofs.Rows.{at-in, at-past, items-set, items-remove}
 
-pub length-word : (w x : List ℕ) → tablesOf w x .queue .len ≡ getD w 1 0
-unfolding tablesOf
-length-word w x = sym (part-at wordLengths w LENGTH 0 (omega arith))
-
 -- ---- the message at a place
 
 module _ (w x : List ℕ) (i : ℕ) where

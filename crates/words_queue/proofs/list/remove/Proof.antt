@@ -1,5 +1,6 @@
 use native.Mathlib.Omega.{arith}
-use Rattle.words_queue.proofs.Laws.{length-word, removes}
+use Rattle.words.specs.Reads.{length-word}
+use Rattle.words_queue.proofs.Laws.{removes}
 use borrow.Author.Needs.{needs}
 use Rattle.words_queue.proofs.list.remove.Statement.{statement}
 use Rattle.words_queue.proofs.list.remove.Tie as tie
