@@ -1,5 +1,5 @@
 -- What the words and the values stand for: the tables of 01, the clients' records, and the world that both are.
-use Prim.Native.Nat.{ℕ, _*_}
+use Prim.Native.Nat.{ℕ, _*_, _%_}
 use mathlib.Core.List.{List, []}
 use lib.ListN.{getD, take, replicate}
 use Rattle.laws.specs.Flags.{flag, flags}
@@ -45,12 +45,13 @@ numbersOf words = tablesOf words []
 abbrev pub copyAt : List ℕ → List ℕ → List ℕ → ℕ → Copy
 copyAt version value expiry i = record { version = getD version i 0; value = getD value i 0; expiry = getD expiry i 0 }
 
+-- the object of a request is a byte
 abbrev pub requestAt : List ℕ → List ℕ → List ℕ → List ℕ → ℕ → Request
 requestAt next standing number object d = record {
   next = getD next d 0;
   standing = flag (getD standing d 0);
   number = getD number d 0;
-  object = getD object d 0;
+  object = getD object d 0 % 256;
 }
 
 pub record Records : Type 0 where
@@ -69,8 +70,17 @@ recordsOf words values = recordsIn (parts wordLengths words) (parts valueLengths
 abbrev pub freshRecords : Records
 freshRecords = record { copies = replicate 512 noCopy; requests = replicate 16 freshRequest }
 
--- ---- a setup's world: its records are the first of those
+-- the requests, which are words alone
+abbrev pub requestsOf : List ℕ → List Request
+requestsOf words = recordsOf words [] .requests
 
+-- ---- worlds
+
+-- all that there is room for
+abbrev pub stateOf : List ℕ → List ℕ → World
+stateOf words values = record { tables = tablesOf words values; copies = recordsOf words values .copies; requests = recordsOf words values .requests }
+
+-- a setup's, whose records are the first of those
 abbrev pub worldOf : Setup → List ℕ → List ℕ → World
 worldOf s words values = record {
   tables = tablesOf words values;

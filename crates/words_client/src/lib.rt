@@ -1,0 +1,2 @@
+// What a client does, in the words: its records, what it receives, and its steps (01, "Steps" and "Messages received").
+pub mod records;
