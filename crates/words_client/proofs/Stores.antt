@@ -1,6 +1,8 @@
 -- A copy, a request or a view read from the words and stored there.
-use Prim.Native.Nat.{ℕ, _+_, _-_, _%_, _<_, _≤_}
+use Prim.Native.Nat.{ℕ, _+_, _-_, _*_, _%_, _<_, _≤_}
+use native.Mathlib.Nat.{mul-le-mul}
 use native.Mathlib.Omega.{arith}
+use mathlib.Core.Bool.{true}
 use mathlib.Core.List.{List, []}
 use mathlib.Core.Path.{_≡_, refl, sym, ap, _∙_}
 use lib.ListN.{length, getD, set}
@@ -13,11 +15,26 @@ use Rattle.protocol.specs.declared.records.Copy.{Copy}
 use Rattle.protocol.specs.declared.records.Request.{Request}
 use Rattle.protocol.specs.declared.setup.Setup.{Setup}
 use Rattle.protocol.specs.declared.step.Sweep.{Sweep}
+use Rattle.protocol.specs.Setup.{inRange}
+use Rattle.protocol.specs.SoundLaws.{ranged}
 use Rattle.protocol.specs.Tables.{byVolume, noCopy, noRequest, withViews}
 use Rattle.protocol.specs.Client.{viewed, swept, sweepAt}
 use Rattle.words.specs.Fields.{wordLengths, valueLengths, at, atValue, WORDS, VALUES, VIEW-EPOCH, VIEW-EXPIRY, COPY-VERSION, COPY-EXPIRY, REQUEST-NEXT, REQUEST-STANDING, REQUEST-NUMBER, REQUEST-OBJECT, COPY-VALUE}
 use Rattle.words.specs.View.{tablesOf, copyAt, requestAt, Records, recordsOf, requestsOf}
-use Rattle.words_client.specs.Records.{withCopy, withRequest, sweptOver, requestStored, viewStored}
+use Rattle.words_client.specs.Records.{FirstCopy, RequestPut, withCopy, withRequest, sweptOver, requestStored, viewStored}
+
+-- ---- where a client's copies begin
+
+pub first-fits : (s : Setup) (d : ℕ) → inRange s ≡ true → d < s .clients → d * s .objects + s .objects ≤ 512
+first-fits s d i h =
+    let a = ranged s i .clients in
+    let b = ranged s i .objects in
+    let k : d ≤ 15 = omega arith in
+    let m : d * s .objects ≤ 15 * 32 = mul-le-mul k b in
+    omega arith
+
+pub first-copy-is : (s : Setup) (d : ℕ) → inRange s ≡ true → d < s .clients → FirstCopy s d (d * s .objects)
+first-copy-is s d i h = record { is = refl; fits = first-fits s d i h; client = omega (arith, ranged s i .clients) }
 
 -- ---- a copy
 
@@ -86,8 +103,9 @@ module _ (w x : List ℕ) (d : ℕ) (r : Request) (h : d < 16) (n : r .object < 
   records-requested =
       rw (stored wordLengths _ REQUEST-OBJECT d (r .object) h, stored wordLengths _ REQUEST-NUMBER d (r .number) h, stored wordLengths _ REQUEST-STANDING d (wordOf (r .standing)) h, stored wordLengths _ REQUEST-NEXT d (r .next) h, requests-set (parts wordLengths w REQUEST-NEXT) (parts wordLengths w REQUEST-STANDING) (parts wordLengths w REQUEST-NUMBER) (parts wordLengths w REQUEST-OBJECT) d r h n (part-length wordLengths w REQUEST-NEXT (omega arith)) (part-length wordLengths w REQUEST-STANDING (omega arith)) (part-length wordLengths w REQUEST-NUMBER (omega arith)) (part-length wordLengths w REQUEST-OBJECT (omega arith)))
 
-  pub request-stored : (tablesOf (requestStored w d r) x ≡ tablesOf w x) × (recordsOf (requestStored w d r) x ≡ withRequest (recordsOf w x) d r)
-  request-stored = (tables-requested, records-requested)
+pub request-stored : (w u x : List ℕ) (d : ℕ) (r : Request) → d < 16 → RequestPut w u d r → (tablesOf u x ≡ tablesOf w x) × (recordsOf u x ≡ withRequest (recordsOf w x) d r)
+request-stored w u x d r h p =
+    (ap (λ (u : List ℕ). tablesOf u x) (p .is) ∙ tables-requested w x d r h (p .byte) (p .long), ap (λ (u : List ℕ). recordsOf u x) (p .is) ∙ records-requested w x d r h (p .byte) (p .long))
 
 -- ---- what a client knows of a volume
 

@@ -2,9 +2,11 @@
 ghost use mathlib.Core.Path.{_≡_};
 ghost use Prim.Native.Nat.{_+_, _<_, _≤_};
 ghost use lib.ListN.{getD};
+ghost use mathlib.Core.Bool.{true};
+ghost use Rattle.protocol.specs.Setup.{inRange};
 ghost use Rattle.protocol.specs.Tables.{byVolume, noCopy, noRequest};
 ghost use Rattle.words.specs.View.{tablesOf, recordsOf, requestsOf};
-ghost use Rattle.words_client.specs.Records.{withCopy, sweptOver, requestStored, viewStored};
+ghost use Rattle.words_client.specs.Records.{FirstCopy, RequestPut, withCopy, sweptOver, viewStored};
 use client::copy;
 use protocol::records::Copy;
 use protocol::records::Request;
@@ -14,6 +16,15 @@ use words::Values;
 use words::Words;
 use words::client as fields;
 use words::pass;
+
+// Where the client's copies begin.
+pub fn first_copy(s: Setup, client: usize) -> usize
+    requires { ⌜ inRange s ≡ true ⌝ }
+    requires { ⌜ client < s .clients ⌝ }
+    ensures { λ r. ⌜ FirstCopy s client r ⌝ }
+{
+    client * s.objects as usize
+}
 
 pub fn copy_at<'a>(words: &'a Words, values: &'a Values, place: usize) -> Copy
     requires { ⌜ place < 512 ⌝ }
@@ -52,9 +63,9 @@ pub fn request_at(words: &Words, client: usize) -> Request
 
 pub fn put_request(words: &mut Words, client: usize, r: Request)
     requires { ⌜ client < 16 ⌝ }
-    ensures { λ _. ⌜ now (words .exit) ≡ requestStored (now (words .entry)) client r ⌝ }
-    ensures { λ _. ⌜ r .object < 256 ⌝ }
+    ensures { λ _. ⌜ RequestPut (now (words .entry)) (now (words .exit)) client r ⌝ }
 {
+    pass::sized(&*words);
     words[fields::REQUEST_NEXT + client] = r.next;
     words[fields::REQUEST_STANDING + client] = pass::word(r.standing);
     words[fields::REQUEST_NUMBER + client] = r.number;

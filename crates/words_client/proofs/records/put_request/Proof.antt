@@ -2,6 +2,9 @@ use borrow.Author.Needs.{needs}
 use Rattle.words_client.proofs.records.put_request.Statement.{statement}
 use Rattle.words_client.proofs.records.put_request.Tie as tie
 
+sized-requires : tie.Need-sized-requires
+sized-requires c κs = search needs
+
 add-words : tie.Need-add-words
 add-words c = search needs
 
@@ -45,12 +48,13 @@ element-write-words-4 : tie.Need-element-write-words-4
 element-write-words-4 c = search needs
 
 returns : tie.Need-returns
-returns c = (rw (c .before .word .ensures), search needs)
+returns c = record { is = rw (c .before .word .ensures); byte = search needs; long = c .before .before .before .sized-arg2 .given .0 }
 
 pub put-request-spec : {M : Type 1} → statement M
 put-request-spec =
     tie.close
     (tie.spec
+    sized-requires
     add-words
     mul-words
     element-write-words
