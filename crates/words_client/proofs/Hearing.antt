@@ -29,7 +29,7 @@ kept-same : (s : Setup) (u : World) (d o : ℕ) → changed s u d o (u .tables) 
 unfolding sweptAll foldFrom
 kept-same s u d o = rw (set-getD (u .copies) (d * s .objects + o) noCopy, set-getD (u .requests) d noRequest)
 
-state-is : (a b : List ℕ) (t : Tables) (q : Records) → tablesOf a b ≡ t → recordsOf a b ≡ q → stateOf a b ≡ record { tables = t; copies = q .copies; requests = q .requests }
+pub state-is : (a b : List ℕ) (t : Tables) (q : Records) → tablesOf a b ≡ t → recordsOf a b ≡ q → stateOf a b ≡ record { tables = t; copies = q .copies; requests = q .requests }
 state-is a b t q e f = rw (e, f)
 
 requests-same : (w x : List ℕ) → requestsOf w ≡ recordsOf w x .requests
@@ -38,10 +38,10 @@ requests-same w x = refl
 
 -- the client's request, and its copy where its copies begin at `first`
 module _ (s : Setup) (w x : List ℕ) (d : ℕ) where
-  request-is : (r : Request) → r ≡ getD (requestsOf w) d noRequest → r ≡ requestOf (stateOf w x) d
+  pub request-is : (r : Request) → r ≡ getD (requestsOf w) d noRequest → r ≡ requestOf (stateOf w x) d
   request-is r e = e ∙ ap (λ (l : List Request). getD l d noRequest) (requests-same w x)
 
-  copy-is : (o first : ℕ) (c : Copy) → FirstCopy s d first → c ≡ getD (recordsOf w x .copies) (first + o) noCopy → c ≡ copyOf s (stateOf w x) d o
+  pub copy-is : (o first : ℕ) (c : Copy) → FirstCopy s d first → c ≡ getD (recordsOf w x .copies) (first + o) noCopy → c ≡ copyOf s (stateOf w x) d o
   copy-is o first c i e = e ∙ ap (λ (k : ℕ). getD (recordsOf w x .copies) (k + o) noCopy) (i .is)
 
 -- ---- GRANT
