@@ -3,7 +3,7 @@ use Prim.Native.Nat.{ℕ, _+_, _-_, _<_, _≤_}
 use native.Mathlib.Omega.{arith}
 use mathlib.Core.Bool.{Bool, true, false, not, _&&_, _||_}
 use mathlib.Core.List.{List}
-use mathlib.Core.Path.{_≡_, refl, sym, ap, _∙_}
+use mathlib.Core.Path.{_≡_, refl, ap, _∙_}
 use lib.Dec.{eqb, leb}
 use lib.ListN.{getD}
 use borrow.Author.Tests.{le-leb, lt-leb}
@@ -16,7 +16,7 @@ use Rattle.protocol.specs.Messages.{messageAt}
 use Rattle.protocol.specs.Tables.{byVolume, byObject}
 use Rattle.protocol.specs.Sound.{timeFits, canGrow, clockLimit, volumeSound, objectSound, sessionSound, sessionsSound, holderSound, holdersSound, messageSound, queueSound, tablesSound}
 use Rattle.words.specs.Fields.{wordLengths, at, CLOCK, VOLUME-EPOCH, VOLUME-EXPIRY, GUARD, SESSION-EXPIRY, VERSION, OBJECT-EXPIRY, STANDING, END, LEASE, VIEW-EXPIRY}
-use Rattle.words.specs.Reads.{clock-word, length-word}
+use Rattle.words.specs.Reads.{length-word}
 use Rattle.words.specs.View.{tablesOf, numbersOf}
 
 pub not-not : (b : Bool) → not (not b) ≡ b
@@ -61,8 +61,9 @@ module _ (s : Setup) (w x : List ℕ) where
   queue-short r h e = rw (length-word w x, le-leb _ _ h) e
 
   -- the passes, put together: none reads a value
-  pub scanned : (a b c d e : Bool) → a ≡ allFrom (volumeSound (numbersOf w)) 0 (s .volumes) → b ≡ allFrom (objectSound (numbersOf w)) 0 (s .objects)
-      → c ≡ allFrom (sessionsSound s (numbersOf w)) 0 (s .clients) → d ≡ allFrom (holdersSound s (numbersOf w)) 0 (s .clients) → e ≡ queueSound s (tablesOf w x .queue)
-      → (leb (getD w 0 0) clockLimit && a && b && c && d && e) ≡ tablesSound s (tablesOf w x)
+  pub scanned : (volumes objects sessions holders queue : Bool) → volumes ≡ allFrom (volumeSound (numbersOf w)) 0 (s .volumes)
+      → objects ≡ allFrom (objectSound (numbersOf w)) 0 (s .objects) → sessions ≡ allFrom (sessionsSound s (numbersOf w)) 0 (s .clients)
+      → holders ≡ allFrom (holdersSound s (numbersOf w)) 0 (s .clients) → queue ≡ queueSound s (tablesOf w x .queue)
+      → (leb (getD w 0 0) clockLimit && volumes && objects && sessions && holders && queue) ≡ tablesSound s (tablesOf w x)
   unfolding tablesSound tablesOf
-  scanned a b c d e p q u v z = rw (p, q, u, v, z, part-at wordLengths w CLOCK 0 (omega arith))
+  scanned volumes objects sessions holders queue e₁ e₂ e₃ e₄ e₅ = rw (e₁, e₂, e₃, e₄, e₅, part-at wordLengths w CLOCK 0 (omega arith))

@@ -1,8 +1,9 @@
 // Questions 2 to 6, once the setup is in range. They read no value.
-ghost use mathlib.Core.Bool.{not, _||_};
+ghost use mathlib.Core.Bool.{true, not, _||_};
 ghost use mathlib.Core.Path.{_≡_};
 ghost use Prim.Native.Nat.{ℕ, _≤_};
 ghost use Rattle.laws.specs.Loop.{allFrom};
+ghost use Rattle.protocol.specs.Setup.{inRange};
 ghost use Rattle.protocol.specs.Sound.{canGrow};
 ghost use Rattle.protocol.specs.Tables.{epochAt, versionAt};
 ghost use Rattle.protocol.specs.Gate.{isWrite, exists, timely, vacant, growable, refusalOfStep};
@@ -69,7 +70,7 @@ fn epochs_grow(words: &Words, n: usize) -> bool
 }
 
 fn growable(s: Setup, words: &Words, r: Request, x: Step) -> bool
-    requires { ⌜ s .volumes ≤ 8 ⌝ }
+    requires { ⌜ inRange s ≡ true ⌝ }
     ensures { λ b. ⌜ b ≡ growable s (numbersOf (now (words .entry))) r x ⌝ }
 {
     let version = version_grows(words, x);
@@ -79,12 +80,17 @@ fn growable(s: Setup, words: &Words, r: Request, x: Step) -> bool
 
 // Questions 2 ("Is the kind 1 to 9?") to 6: the number of the first "no".
 pub fn refusal_of_step(s: Setup, words: &Words, values: &Values, r: Request, x: Step) -> u8
-    requires { ⌜ s .volumes ≤ 8 ⌝ }
+    requires { ⌜ inRange s ≡ true ⌝ }
     ensures { λ k. ⌜ k ≡ refusalOfStep s (tablesOf (now (words .entry)) (now (values .entry))) r x ⌝ }
 {
-    let sixth = steps::or_refuse(growable(s, words, r, x), 6, 0);
-    let fifth = steps::or_refuse(vacant(words, x), 5, sixth);
-    let fourth = steps::or_refuse(timely(words, x), 4, fifth);
-    let third = steps::or_refuse(exists(s, words, x), 3, fourth);
-    steps::or_refuse(kinds::known(x), 2, third)
+    let known = kinds::known(x);
+    let exists = exists(s, words, x);
+    let timely = timely(words, x);
+    let vacant = vacant(words, x);
+    let growable = growable(s, words, r, x);
+    let sixth = steps::or_refuse(growable, 6, 0);
+    let fifth = steps::or_refuse(vacant, 5, sixth);
+    let fourth = steps::or_refuse(timely, 4, fifth);
+    let third = steps::or_refuse(exists, 3, fourth);
+    steps::or_refuse(known, 2, third)
 }

@@ -1,7 +1,9 @@
 // Question 1 of all tables and messages, once the setup is in range. Each pass goes over what exists, and has no branch.
+ghost use mathlib.Core.Bool.{true};
 ghost use mathlib.Core.Path.{_≡_};
 ghost use Prim.Native.Nat.{_<_, _≤_};
 ghost use Rattle.laws.specs.Loop.{allFrom};
+ghost use Rattle.protocol.specs.Setup.{inRange};
 ghost use Rattle.protocol.specs.Sound.{volumeSound, objectSound, sessionSound, sessionsSound, holderSound, holdersSound, tablesSound};
 ghost use Rattle.words.specs.View.{tablesOf, numbersOf};
 use crate::messages;
@@ -80,7 +82,7 @@ fn holders_fit(words: &Words, d: usize, n: usize) -> bool
 }
 
 fn all_sessions_fit(s: Setup, words: &Words) -> bool
-    requires { ⌜ (s .clients ≤ 16) × (s .volumes ≤ 8) ⌝ }
+    requires { ⌜ inRange s ≡ true ⌝ }
     ensures { λ r. ⌜ r ≡ allFrom (sessionsSound s (numbersOf (now (words .entry)))) 0 (s .clients) ⌝ }
 {
     let clients = s.clients as usize;
@@ -94,7 +96,7 @@ fn all_sessions_fit(s: Setup, words: &Words) -> bool
 }
 
 fn all_holders_fit(s: Setup, words: &Words) -> bool
-    requires { ⌜ (s .clients ≤ 16) × (s .objects ≤ 32) ⌝ }
+    requires { ⌜ inRange s ≡ true ⌝ }
     ensures { λ r. ⌜ r ≡ allFrom (holdersSound s (numbersOf (now (words .entry)))) 0 (s .clients) ⌝ }
 {
     let clients = s.clients as usize;
@@ -108,13 +110,13 @@ fn all_holders_fit(s: Setup, words: &Words) -> bool
 }
 
 pub fn tables_sound(s: Setup, words: &Words, values: &Values) -> bool
-    requires { ⌜ (s .clients ≤ 16) × (s .volumes ≤ 8) × (s .objects ≤ 32) ⌝ }
+    requires { ⌜ inRange s ≡ true ⌝ }
     ensures { λ r. ⌜ r ≡ tablesSound s (tablesOf (now (words .entry)) (now (values .entry))) ⌝ }
 {
-    let a = volumes_fit(words, s.volumes as usize);
-    let b = objects_fit(words, s.objects as usize);
-    let c = all_sessions_fit(s, words);
-    let d = all_holders_fit(s, words);
-    let e = messages::queue_sound(s, words, values);
-    (words[network::CLOCK] <= 2147483647) & a & b & c & d & e
+    let volumes = volumes_fit(words, s.volumes as usize);
+    let objects = objects_fit(words, s.objects as usize);
+    let sessions = all_sessions_fit(s, words);
+    let holders = all_holders_fit(s, words);
+    let queue = messages::queue_sound(s, words, values);
+    (words[network::CLOCK] <= 2147483647) & volumes & objects & sessions & holders & queue
 }

@@ -1,5 +1,4 @@
 use Rattle.words_gate.proofs.Questions.{refusal-ranged, refusal-unranged}
-use Rattle.protocol.specs.Ranges.{ranges}
 use mathlib.Core.Path.{sym, _∙_}
 use borrow.Author.Needs.{needs}
 use Rattle.words_gate.proofs.refusal.Statement.{statement}
@@ -9,10 +8,10 @@ in-range-requires : tie.Need-in-range-requires
 in-range-requires c κs = search needs
 
 tables-sound-requires : tie.Need-tables-sound-requires
-tables-sound-requires c κs = let k = ranges _ (sym (c .before .in-range .ensures) ∙ c .if1 .taken) in search needs
+tables-sound-requires c κs = sym (c .before .in-range .ensures) ∙ c .if1 .taken
 
 refusal-of-step-requires : tie.Need-refusal-of-step-requires
-refusal-of-step-requires c κs = let k = ranges _ (sym (c .before .before .in-range .ensures) ∙ c .before .if1 .taken) in search needs
+refusal-of-step-requires c κs = sym (c .before .before .in-range .ensures) ∙ c .before .if1 .taken
 
 or-refuse-requires : tie.Need-or-refuse-requires
 or-refuse-requires c κs = search needs

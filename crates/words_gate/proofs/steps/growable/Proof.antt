@@ -1,3 +1,4 @@
+use Rattle.protocol.specs.Ranges.{ranges}
 use Rattle.words_gate.proofs.Questions.{growable-words}
 use borrow.Author.Needs.{needs}
 use Rattle.words_gate.proofs.steps.growable.Statement.{statement}
@@ -10,7 +11,7 @@ cast-epochs-grow : tie.Need-cast-epochs-grow
 cast-epochs-grow c = search needs
 
 epochs-grow-requires : tie.Need-epochs-grow-requires
-epochs-grow-requires c κs = search needs
+epochs-grow-requires c κs = let k = ranges _ (c .before .before .pre) in search needs
 
 returns : tie.Need-returns
 returns c = search growable-words

@@ -1,3 +1,4 @@
+use Rattle.protocol.specs.Ranges.{ranges}
 use borrow.Author.Needs.{needs}
 use Prim.Native.Nat.{_-_}
 use native.Mathlib.Nat.{sub-zero}
@@ -23,7 +24,7 @@ cast-sessions-fit : tie.Need-cast-sessions-fit Inv-loop μ-loop
 cast-sessions-fit c = search needs
 
 sessions-fit-requires : tie.Need-sessions-fit-requires Inv-loop μ-loop
-sessions-fit-requires c κs = search needs
+sessions-fit-requires c κs = let k = ranges _ (c .before .before .before .before .pre) in search needs
 
 add-d : tie.Need-add-d Inv-loop μ-loop
 add-d c = search needs

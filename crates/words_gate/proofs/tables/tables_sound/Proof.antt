@@ -1,3 +1,4 @@
+use Rattle.protocol.specs.Ranges.{ranges}
 use Rattle.words_gate.proofs.Scans.{scanned}
 use borrow.Author.Needs.{needs}
 use Rattle.words_gate.proofs.tables.tables_sound.Statement.{statement}
@@ -7,13 +8,13 @@ cast-volumes-fit : tie.Need-cast-volumes-fit
 cast-volumes-fit c = search needs
 
 volumes-fit-requires : tie.Need-volumes-fit-requires
-volumes-fit-requires c κs = search needs
+volumes-fit-requires c κs = let k = ranges _ (c .before .pre) in search needs
 
 cast-objects-fit : tie.Need-cast-objects-fit
 cast-objects-fit c = search needs
 
 objects-fit-requires : tie.Need-objects-fit-requires
-objects-fit-requires c κs = search needs
+objects-fit-requires c κs = let k = ranges _ (c .before .before .before .pre) in search needs
 
 all-sessions-fit-requires : tie.Need-all-sessions-fit-requires
 all-sessions-fit-requires c κs = search needs
