@@ -60,7 +60,7 @@ client-back d (Ack o e w) = refl
 client-back d (Offer v n e) = refl
 client-back d (Dropped v n e) = refl
 
-message-back : (m : Message) → messageIn (fieldsOf m) ≡ m
+pub message-back : (m : Message) → messageIn (fieldsOf m) ≡ m
 message-back m = rw (kind-back, client-back)
 
 same-self : (f : Fields) → same f f ≡ true

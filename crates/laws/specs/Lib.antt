@@ -6,3 +6,7 @@ pub mod Lists
 pub mod Each
 pub mod Count
 pub mod Skip
+pub mod Parts
+pub mod Flags
+pub mod Tabulate
+pub mod Shift

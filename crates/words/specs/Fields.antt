@@ -1,0 +1,116 @@
+-- Where each field stands in the words and in the values: its number, and by the tables of lengths where it starts.
+use Prim.Native.Nat.{ℕ}
+use mathlib.Core.List.{List, [], _∷_}
+use Rattle.laws.specs.Parts.{start}
+
+-- the fields' lengths, in the order of their numbers: a new field goes at the end of its side
+abbrev pub wordLengths : List ℕ
+wordLengths =
+    1 ∷ 1 ∷ 576
+    ∷ 8 ∷ 8 ∷ 8 ∷ 16 ∷ 128 ∷ 128 ∷ 128 ∷ 32 ∷ 32 ∷ 32 ∷ 32 ∷ 512 ∷ 512
+    ∷ 128 ∷ 128 ∷ 512 ∷ 512 ∷ 16 ∷ 16 ∷ 16 ∷ 16 ∷ []
+
+abbrev pub valueLengths : List ℕ
+valueLengths = 64 ∷ 32 ∷ 32 ∷ 512 ∷ []
+
+-- the network's words
+abbrev pub CLOCK : ℕ
+CLOCK = 0
+
+abbrev pub LENGTH : ℕ
+LENGTH = 1
+
+abbrev pub MESSAGES : ℕ
+MESSAGES = 2
+
+-- the server's
+abbrev pub VOLUME-EPOCH : ℕ
+VOLUME-EPOCH = 3
+
+abbrev pub VOLUME-EXPIRY : ℕ
+VOLUME-EXPIRY = 4
+
+abbrev pub GUARD : ℕ
+GUARD = 5
+
+abbrev pub SEEN : ℕ
+SEEN = 6
+
+abbrev pub SESSION-EXPIRY : ℕ
+SESSION-EXPIRY = 7
+
+abbrev pub UNREACHABLE : ℕ
+UNREACHABLE = 8
+
+abbrev pub OFFER : ℕ
+OFFER = 9
+
+abbrev pub VERSION : ℕ
+VERSION = 10
+
+abbrev pub OBJECT-EXPIRY : ℕ
+OBJECT-EXPIRY = 11
+
+abbrev pub STANDING : ℕ
+STANDING = 12
+
+abbrev pub END : ℕ
+END = 13
+
+abbrev pub LEASE : ℕ
+LEASE = 14
+
+abbrev pub WAITING : ℕ
+WAITING = 15
+
+-- the clients'
+abbrev pub VIEW-EPOCH : ℕ
+VIEW-EPOCH = 16
+
+abbrev pub VIEW-EXPIRY : ℕ
+VIEW-EXPIRY = 17
+
+abbrev pub COPY-VERSION : ℕ
+COPY-VERSION = 18
+
+abbrev pub COPY-EXPIRY : ℕ
+COPY-EXPIRY = 19
+
+abbrev pub REQUEST-NEXT : ℕ
+REQUEST-NEXT = 20
+
+abbrev pub REQUEST-STANDING : ℕ
+REQUEST-STANDING = 21
+
+abbrev pub REQUEST-NUMBER : ℕ
+REQUEST-NUMBER = 22
+
+abbrev pub REQUEST-OBJECT : ℕ
+REQUEST-OBJECT = 23
+
+-- .. and of the values: the network's, the server's two, the clients'
+abbrev pub MESSAGE-VALUE : ℕ
+MESSAGE-VALUE = 0
+
+abbrev pub VALUE : ℕ
+VALUE = 1
+
+abbrev pub PENDING : ℕ
+PENDING = 2
+
+abbrev pub COPY-VALUE : ℕ
+COPY-VALUE = 3
+
+-- how many words and values there are
+abbrev pub WORDS : ℕ
+WORDS = 3498
+
+abbrev pub VALUES : ℕ
+VALUES = 640
+
+-- where a field starts
+abbrev pub at : ℕ → ℕ
+at k = start wordLengths k
+
+abbrev pub atValue : ℕ → ℕ
+atValue k = start valueLengths k

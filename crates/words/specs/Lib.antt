@@ -1,0 +1,4 @@
+pub mod Fields
+pub mod Rows
+pub mod View
+pub mod Reads

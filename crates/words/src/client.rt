@@ -1,0 +1,19 @@
+// The clients' fields: what each knows of a volume; the copies, client by client in object order; one request a client.
+pub const VIEW_EPOCH: usize = 2154;
+
+pub const VIEW_EXPIRY: usize = 2282;
+
+pub const COPY_VERSION: usize = 2410;
+
+pub const COPY_EXPIRY: usize = 2922;
+
+pub const REQUEST_NEXT: usize = 3434;
+
+pub const REQUEST_STANDING: usize = 3450;
+
+pub const REQUEST_NUMBER: usize = 3466;
+
+pub const REQUEST_OBJECT: usize = 3482;
+
+// of the values: one a copy
+pub const COPY_VALUE: usize = 128;

@@ -1,0 +1,21 @@
+// "All else is fresh 0, none or no; clock 0."
+ghost use mathlib.Core.Path.{_≡_};
+ghost use Rattle.protocol.specs.Tables.{freshTables};
+ghost use Rattle.words.specs.View.{tablesOf, recordsOf, freshRecords};
+use crate::Values;
+use crate::Words;
+use crate::client;
+use crate::pass;
+use crate::server;
+
+// Epochs, versions and the next request numbers start at 1.
+pub fn fresh(words: &mut Words, values: &mut Values)
+    ensures { λ _. ⌜ tablesOf (now (words .exit)) (now (values .exit)) ≡ freshTables ⌝ }
+    ensures { λ _. ⌜ recordsOf (now (words .exit)) (now (values .exit)) ≡ freshRecords ⌝ }
+{
+    *words = [0; 3498];
+    *values = [0; 640];
+    pass::fill(&mut *words, server::VOLUME_EPOCH, 8, 1);
+    pass::fill(&mut *words, server::VERSION, 32, 1);
+    pass::fill(&mut *words, client::REQUEST_NEXT, 16, 1);
+}

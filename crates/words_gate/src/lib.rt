@@ -1,0 +1,25 @@
+// The questions at the gate, in order (01, "Questions at the gate"), of the tables in the words and values: the first "no" gives its number, and 0 is none.
+ghost use mathlib.Core.Path.{_≡_};
+ghost use Rattle.protocol.specs.Gate.{refusal};
+ghost use Rattle.words.specs.View.{tablesOf};
+use protocol::records::Request;
+use protocol::setup::Setup;
+use protocol::step::Step;
+use words::Values;
+use words::Words;
+
+pub mod messages;
+pub mod steps;
+pub mod tables;
+
+// All six questions, for any input; `records` says whether all records are sound.
+pub fn refusal(s: Setup, words: &Words, values: &Values, records: bool, r: Request, x: Step) -> u8
+    ensures { λ k. ⌜ k ≡ refusal s (tablesOf (now (words .entry)) (now (values .entry))) records r x ⌝ }
+{
+    if setup::in_range(s) {
+        let whole = records & tables::tables_sound(s, words, values);
+        let next = steps::refusal_of_step(s, words, values, r, x);
+        return gate::steps::or_refuse(whole, 1, next);
+    }
+    1
+}

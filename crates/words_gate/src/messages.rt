@@ -1,0 +1,28 @@
+ghost use mathlib.Core.Path.{_≡_};
+ghost use Rattle.protocol.specs.Sound.{queueSound};
+ghost use Rattle.words.specs.View.{tablesOf};
+use gate::messages;
+use protocol::setup::Setup;
+use words::Values;
+use words::Words;
+use words::network;
+use words_queue::list;
+
+// "at most 64 messages", each sound.
+pub fn queue_sound(s: Setup, words: &Words, values: &Values) -> bool
+    ensures { λ r. ⌜ r ≡ queueSound s (tablesOf (now (words .entry)) (now (values .entry)) .queue) ⌝ }
+{
+    let length = words[network::LENGTH];
+    if 64 < length {
+        return false;
+    }
+    let n = length as usize;
+    let mut ok = true;
+    let mut i = 0;
+    while i < n {
+        let m = list::message_at(words, values, i);
+        ok = ok & messages::message_sound(s, m);
+        i += 1;
+    }
+    ok
+}

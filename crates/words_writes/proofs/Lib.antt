@@ -1,0 +1,5 @@
+pub mod Passes
+pub mod Tests
+pub mod Completing
+pub mod Settling
+pub mod Accepting
