@@ -1,5 +1,5 @@
 -- Fresh words and values are fresh tables and fresh records.
-use Prim.Native.Nat.{ℕ, _+_, _<_, _≤_}
+use Prim.Native.Nat.{ℕ, _+_, _≤_}
 use native.Mathlib.Omega.{arith}
 use mathlib.Core.List.{List}
 use mathlib.Core.Path.{_≡_}
@@ -11,7 +11,7 @@ use Rattle.laws.specs.Parts.{start, size, parts, part-replicate, filling, lengt
 use Rattle.laws.specs.Tabulate.{tabulate, tabulate-one}
 use Rattle.protocol.specs.Messages.{blank}
 use Rattle.protocol.specs.Tables.{freshTables, noCopy, freshRequest}
-use Rattle.words.specs.Fields.{wordLengths, valueLengths, at, atValue, WORDS, VALUES, CLOCK, LENGTH, VOLUME-EPOCH, VOLUME-EXPIRY, GUARD, SEEN, SESSION-EXPIRY, UNREACHABLE, OFFER, VERSION, OBJECT-EXPIRY, STANDING, END, LEASE, WAITING, VIEW-EPOCH, VIEW-EXPIRY, COPY-VERSION, COPY-EXPIRY, REQUEST-NEXT, REQUEST-STANDING, REQUEST-NUMBER, REQUEST-OBJECT, VALUE, PENDING, COPY-VALUE}
+use Rattle.words.specs.Fields.{wordLengths, valueLengths, at, WORDS, VALUES, CLOCK, LENGTH, VOLUME-EPOCH, VOLUME-EXPIRY, GUARD, SEEN, SESSION-EXPIRY, UNREACHABLE, OFFER, VERSION, OBJECT-EXPIRY, STANDING, END, LEASE, WAITING, VIEW-EPOCH, VIEW-EXPIRY, COPY-VERSION, COPY-EXPIRY, REQUEST-NEXT, REQUEST-STANDING, REQUEST-NUMBER, REQUEST-OBJECT, VALUE, PENDING, COPY-VALUE}
 use Rattle.words.specs.Rows.{messageFrom}
 use Rattle.words.specs.View.{tablesOf, copyAt, requestAt, recordsOf, freshRecords}
 

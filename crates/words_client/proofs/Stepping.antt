@@ -3,13 +3,12 @@ use Prim.Native.Nat.{ℕ, _+_, _*_, _<_, _≤_}
 use native.Mathlib.Omega.{arith}
 use mathlib.Core.Bool.{Bool, true, false, cond}
 use mathlib.Core.List.{List}
-use mathlib.Core.Path.{_≡_, refl, sym, ap, _∙_, fun-ext}
+use mathlib.Core.Path.{_≡_, sym, ap, _∙_, fun-ext}
 use lib.ListN.{getD, set}
 use lib.Seq.{set-getD}
 use Rattle.laws.specs.Loop.{foldFrom}
-use Rattle.laws.specs.Parts.{parts, part-at, stored-each, filling}
+use Rattle.laws.specs.Parts.{part-at, stored-each, filling}
 use Rattle.laws.specs.Store.{storeEach, always}
-use Rattle.protocol.specs.declared.message.Message.{Message}
 use Rattle.protocol.specs.declared.message.Kind.the-variants.{Renew}
 use Rattle.protocol.specs.declared.records.Copy.{Copy}
 use Rattle.protocol.specs.declared.records.Request.{Request}

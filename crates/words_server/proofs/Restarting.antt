@@ -2,7 +2,7 @@
 use Prim.Native.Nat.{ℕ, _+_, _-_, _<_, _≤_}
 use native.Mathlib.Omega.{arith}
 use mathlib.Core.List.{List}
-use mathlib.Core.Path.{_≡_, refl, sym, ap, _∙_}
+use mathlib.Core.Path.{_≡_, refl, ap, _∙_}
 use lib.ListN.{length, getD, set, replicate}
 use lib.Seq.{getD-set-other}
 use Rattle.laws.specs.Flags.{flags-zero}
@@ -11,7 +11,6 @@ use Rattle.laws.specs.Parts.{parts, withPart, part-at, part-length, stored-each
 use Rattle.laws.specs.Shift.{Above}
 use Rattle.laws.specs.Store.{storeAt, storeEach, always, length-store}
 use Rattle.protocol.specs.declared.setup.Setup.{Setup}
-use Rattle.protocol.specs.Tables.{epochAt}
 use Rattle.protocol.specs.Server.{serverRestarted}
 use Rattle.words.specs.Fields.{wordLengths, valueLengths, at, atValue, WORDS, VALUES, VOLUME-EPOCH, VOLUME-EXPIRY, GUARD, SEEN, SESSION-EXPIRY, UNREACHABLE, OFFER, OBJECT-EXPIRY, STANDING, END, LEASE, WAITING, PENDING}
 use Rattle.words.specs.View.{tablesOf, numbersOf, recordsOf}

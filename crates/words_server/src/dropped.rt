@@ -6,7 +6,7 @@ ghost use Rattle.protocol.specs.Setup.{inRange};
 ghost use Rattle.protocol.specs.SoundLaws.{Growing};
 ghost use Rattle.protocol.specs.Tables.{byObject};
 ghost use Rattle.protocol.specs.Writes.{settled};
-ghost use Rattle.protocol.specs.Server.{ofVolume, dropTaken, dropped, dropStaged};
+ghost use Rattle.protocol.specs.Server.{ofVolume, dropTaken, dropStaged};
 ghost use Rattle.words.specs.Fields.{WORDS};
 ghost use Rattle.words.specs.View.{tablesOf, numbersOf, recordsOf};
 use leases::place;

@@ -1,7 +1,7 @@
 -- A write accepted: it stands, the INVALIDATEs are sent, and it may complete.
 use Prim.Native.Nat.{ℕ, _+_, _-_, _<_, _≤_}
 use native.Mathlib.Omega.{arith}
-use mathlib.Core.Bool.{Bool, true, false}
+use mathlib.Core.Bool.{Bool, false}
 use mathlib.Core.List.{List}
 use mathlib.Core.Path.{_≡_, refl, sym, ap, _∙_, fun-ext}
 use lib.ListN.{getD, set}
@@ -14,7 +14,6 @@ use Rattle.protocol.specs.declared.message.Queue.{Queue}
 use Rattle.protocol.specs.declared.message.Kind.the-variants.{Invalidate}
 use Rattle.protocol.specs.declared.setup.Setup.{Setup}
 use Rattle.protocol.specs.declared.tables.Tables.{Tables}
-use Rattle.protocol.specs.Setup.{volumeOf}
 use Rattle.protocol.specs.Messages.{message}
 use Rattle.protocol.specs.Tables.{byObject, versionAt, withQueue}
 use Rattle.protocol.specs.Writes.{Counted, waits, latestEnd, opened, awaited, begun, notified, written, writeStaged, settled}

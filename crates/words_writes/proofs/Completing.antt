@@ -10,7 +10,6 @@ use Rattle.laws.specs.Loop.{foldFrom}
 use Rattle.laws.specs.Parts.{parts, withPart, part-at, stored, stored-each}
 use Rattle.laws.specs.Store.{storeEach, always}
 use Rattle.protocol.specs.declared.setup.Setup.{Setup}
-use Rattle.protocol.specs.declared.tables.Tables.{Tables}
 use Rattle.protocol.specs.Tables.{byVolume, byObject, versionAt, withObjects}
 use Rattle.protocol.specs.Writes.{ready, posted, released, deserted, completed, settled}
 use Rattle.leases.specs.Parts.{Placed, waitingFor}
