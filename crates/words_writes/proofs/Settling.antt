@@ -4,7 +4,7 @@ use native.Mathlib.Omega.{arith}
 use mathlib.Core.Bool.{true, false}
 use mathlib.Core.List.{List}
 use mathlib.Core.Path.{_≡_, _∙_}
-use lib.ListN.{length, getD, set}
+use lib.ListN.{length, set}
 use lib.Seq.{getD-set-same}
 use Rattle.laws.specs.Choice.{and-true}
 use Rattle.laws.specs.Loop.{foldFrom, fold-again, fold-end}
