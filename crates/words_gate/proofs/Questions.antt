@@ -78,9 +78,9 @@ module _ (s : Setup) (w : List ℕ) (r : Request) (x : Step) where
   questioned y a b c d e k₆ k₅ k₄ k₃ k p q u i g e₆ e₅ e₄ e₃ f = rw (f, e₃, e₄, e₅, e₆, p, q, u, i, g)
 
   module _ (y : List ℕ) (records : Bool) (i : Bool) (p : i ≡ inRange s) where
-    pub refusal-ranged : (a : Bool) (n k : ℕ) → i ≡ true → a ≡ tablesSound s (tablesOf w y) → n ≡ refusalOfStep s (tablesOf w y) r x → k ≡ orRefuse (records && a) 1 n → k ≡ refusal s (tablesOf w y) records r x
+    pub refusal-ranges : (a : Bool) (n k : ℕ) → i ≡ true → a ≡ tablesSound s (tablesOf w y) → n ≡ refusalOfStep s (tablesOf w y) r x → k ≡ orRefuse (records && a) 1 n → k ≡ refusal s (tablesOf w y) records r x
     unfolding refusal sound
-    refusal-ranged a n k e f g h = rw (← p, e, ← f, ← g) h
+    refusal-ranges a n k e f g h = rw (← p, e, ← f, ← g) h
 
     pub refusal-unranged : i ≡ false → 1 ≡ refusal s (tablesOf w y) records r x
     unfolding refusal sound

@@ -1,4 +1,4 @@
-use Rattle.words_gate.proofs.Questions.{refusal-ranged, refusal-unranged}
+use Rattle.words_gate.proofs.Questions.{refusal-ranges, refusal-unranged}
 use mathlib.Core.Path.{sym, _∙_}
 use borrow.Author.Needs.{needs}
 use Rattle.words_gate.proofs.refusal.Statement.{statement}
@@ -17,7 +17,7 @@ or-refuse-requires : tie.Need-or-refuse-requires
 or-refuse-requires c κs = search needs
 
 returns : tie.Need-returns
-returns c = search refusal-ranged
+returns c = search refusal-ranges
 
 returns-2 : tie.Need-returns-2
 returns-2 c = search refusal-unranged

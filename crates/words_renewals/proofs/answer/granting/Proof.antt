@@ -1,5 +1,5 @@
 use native.Mathlib.Omega.{arith}
-use Rattle.protocol.specs.SoundLaws.{ranged}
+use Rattle.protocol.specs.Ranges.{ranges}
 use Rattle.words.specs.Reads.{clock-word}
 use Rattle.words_renewals.proofs.Answers.{sends-grant}
 use borrow.Author.Needs.{needs}
@@ -22,7 +22,7 @@ element-copy-out-t14 : tie.Need-element-copy-out-t14
 element-copy-out-t14 c = search needs
 
 add-t15 : tie.Need-add-t15
-add-t15 c = let a = c .before .before .before .before in omega (arith, ranged _ (a .pre .0) .tv, a .pre .1 .0, clock-word (a .args .words .now) (a .args .values .now))
+add-t15 c = let a = c .before .before .before .before in omega (arith, ranges _ (a .pre .0) .tv .1, a .pre .1 .0, clock-word (a .args .words .now) (a .args .values .now))
 
 add-t16 : tie.Need-add-t16
 add-t16 c = search needs
@@ -46,7 +46,7 @@ element-copy-out-t28 : tie.Need-element-copy-out-t28
 element-copy-out-t28 c = search needs
 
 add-t29 : tie.Need-add-t29
-add-t29 c = let a = c .before .before .before .before .before .before .before .before in omega (arith, ranged _ (a .pre .0) .t, a .pre .1 .0, clock-word (a .args .words .now) (a .args .values .now))
+add-t29 c = let a = c .before .before .before .before .before .before .before .before in omega (arith, ranges _ (a .pre .0) .t .1, a .pre .1 .0, clock-word (a .args .words .now) (a .args .values .now))
 
 returns : tie.Need-returns
 returns c = sends-grant _ _ _ _ _ _ _ _ _ (c .before .before .before .before .before .before .before .volume-of .ensures) (c .before .before .before .before .before .before .payload .ensures)

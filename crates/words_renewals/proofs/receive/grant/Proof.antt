@@ -1,5 +1,5 @@
 use native.Mathlib.Omega.{arith}
-use Rattle.protocol.specs.SoundLaws.{ranged}
+use Rattle.protocol.specs.Ranges.{ranges}
 use Rattle.words.specs.Reads.{clock-word}
 use Rattle.words_renewals.proofs.Rules.{grants}
 use borrow.Author.Needs.{needs}
@@ -16,13 +16,13 @@ element-copy-out-volume-expiry : tie.Need-element-copy-out-volume-expiry
 element-copy-out-volume-expiry c = search needs
 
 add-volume-expiry : tie.Need-add-volume-expiry
-add-volume-expiry c = let a = c .before .before .before .before .before .before in omega (arith, ranged _ (a .pre .0) .tv, a .pre .1 .0, clock-word (a .args .words .now) (a .args .values .now))
+add-volume-expiry c = let a = c .before .before .before .before .before .before in omega (arith, ranges _ (a .pre .0) .tv .1, a .pre .1 .0, clock-word (a .args .words .now) (a .args .values .now))
 
 element-copy-out-object-expiry : tie.Need-element-copy-out-object-expiry
 element-copy-out-object-expiry c = search needs
 
 add-object-expiry : tie.Need-add-object-expiry
-add-object-expiry c = let a = c .before .before .before .before .before .before .before .before in omega (arith, ranged _ (a .pre .0) .t, a .pre .1 .0, clock-word (a .args .words .now) (a .args .values .now))
+add-object-expiry c = let a = c .before .before .before .before .before .before .before .before in omega (arith, ranges _ (a .pre .0) .t .1, a .pre .1 .0, clock-word (a .args .words .now) (a .args .values .now))
 
 add-words : tie.Need-add-words
 add-words c = search needs

@@ -1,5 +1,5 @@
 use native.Mathlib.Omega.{arith}
-use Rattle.protocol.specs.SoundLaws.{ranged}
+use Rattle.protocol.specs.Ranges.{ranges}
 use Rattle.words_renewals.proofs.Answers.{low-version, stands, rests}
 use Rattle.words_renewals.proofs.Rules.{by-offer, by-resend, by-hold, by-grant}
 use borrow.Author.Needs.{needs}
@@ -25,7 +25,7 @@ cast-if2 : tie.Need-cast-if2
 cast-if2 c = search needs
 
 resending-requires : tie.Need-resending-requires
-resending-requires c κs = let a = c .before .before .before .before .before .before .before .before .before in (a .pre .0, ((omega (arith, c .before .before .before .before .before .before .before .before .before .pre .1 .1 .1 .0, ranged _ (c .before .before .before .before .before .before .before .before .before .pre .0) .clients)), (c .before .if2 .taken, low-version (a .args .words .now) (a .args .values .now) _ _ _ _ (c .before .before .before .lowest-waited .ensures) (a .pre .1 .1 .0) (c .before .if2 .taken))))
+resending-requires c κs = let a = c .before .before .before .before .before .before .before .before .before in (a .pre .0, ((omega (arith, c .before .before .before .before .before .before .before .before .before .pre .1 .1 .1 .0, ranges _ (c .before .before .before .before .before .before .before .before .before .pre .0) .clients .1)), (c .before .if2 .taken, low-version (a .args .words .now) (a .args .values .now) _ _ _ _ (c .before .before .before .lowest-waited .ensures) (a .pre .1 .1 .0) (c .before .if2 .taken))))
 
 push-requires : tie.Need-push-requires
 push-requires c κs = search needs
@@ -46,7 +46,7 @@ returns-3 : tie.Need-returns-3
 returns-3 c = by-hold _ _ _ _ _ _ _ _ _ _ (c .before .before .before .before .before .before .before .before .before .volume-of .ensures) (c .before .before .before .before .before .before .before .must-drop .ensures) _ (c .before .before .before .before .before .before .if1 .left) (c .before .before .before .before .lowest-waited .ensures) (c .before .before .if2 .left) (stands _ _ _ (c .before .before .before .before .before .before .before .before .before .volume-of .ensures .object) (c .if3 .taken))
 
 grant-requires : tie.Need-grant-requires
-grant-requires c κs = let p = c .before .before .before .before .before .before .before .before .before .before .before .before .pre in (p .0, (p .1 .0, ((omega (arith, c .before .before .before .before .before .before .before .before .before .before .before .before .pre .1 .1 .1 .0, ranged _ (c .before .before .before .before .before .before .before .before .before .before .before .before .pre .0) .clients)), p .1 .1 .1 .1)))
+grant-requires c κs = let p = c .before .before .before .before .before .before .before .before .before .before .before .before .pre in (p .0, (p .1 .0, ((omega (arith, c .before .before .before .before .before .before .before .before .before .before .before .before .pre .1 .1 .1 .0, ranges _ (c .before .before .before .before .before .before .before .before .before .before .before .before .pre .0) .clients .1)), p .1 .1 .1 .1)))
 
 returns-4 : tie.Need-returns-4
 returns-4 c = by-grant _ _ _ _ _ _ _ _ _ _ (c .before .before .before .before .before .before .before .before .before .before .before .before .volume-of .ensures) (c .before .before .before .before .before .before .before .before .before .before .must-drop .ensures) _ (c .before .before .before .before .before .before .before .before .before .if1 .left) (c .before .before .before .before .before .before .before .lowest-waited .ensures) _ _ (c .before .before .before .before .before .if2 .left) (rests _ _ _ (c .before .before .before .before .before .before .before .before .before .before .before .before .volume-of .ensures .object) (c .before .before .before .if3 .left)) (c .grant .ensures)

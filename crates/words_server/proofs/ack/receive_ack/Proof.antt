@@ -1,5 +1,5 @@
 use native.Mathlib.Omega.{arith}
-use Rattle.protocol.specs.SoundLaws.{ranged}
+use Rattle.protocol.specs.Ranges.{ranges}
 use Rattle.words_server.proofs.Acking.{grows-numbers, ack-version, ack-keeps, ack-yes, ack-no}
 use borrow.Author.Needs.{needs}
 use Rattle.words_server.proofs.ack.receive_ack.Statement.{statement}
@@ -21,7 +21,7 @@ mul-words-2 : tie.Need-mul-words-2
 mul-words-2 c = search needs
 
 element-write-words : tie.Need-element-write-words
-element-write-words c = omega (arith, c .before .before .before .pre .1 .1 .0, c .before .before .before .pre .1 .1 .1, ranged _ (c .before .before .before .pre .0) .clients, ranged _ (c .before .before .before .pre .0) .objects)
+element-write-words c = omega (arith, c .before .before .before .pre .1 .1 .0, c .before .before .before .pre .1 .1 .1, ranges _ (c .before .before .before .pre .0) .clients .1, ranges _ (c .before .before .before .pre .0) .objects .1)
 
 mul-words-3 : tie.Need-mul-words-3
 mul-words-3 c = search needs
@@ -36,13 +36,13 @@ mul-words-4 : tie.Need-mul-words-4
 mul-words-4 c = search needs
 
 element-write-words-2 : tie.Need-element-write-words-2
-element-write-words-2 c = omega (arith, c .before .before .before .pre .1 .1 .0, c .before .before .before .pre .1 .1 .1, ranged _ (c .before .before .before .pre .0) .clients, ranged _ (c .before .before .before .pre .0) .objects)
+element-write-words-2 c = omega (arith, c .before .before .before .pre .1 .1 .0, c .before .before .before .pre .1 .1 .1, ranges _ (c .before .before .before .pre .0) .clients .1, ranges _ (c .before .before .before .pre .0) .objects .1)
 
 settle-one-requires : tie.Need-settle-one-requires
-settle-one-requires c κs = let a = c .before .before .before .before .before in (a .pre .0, (a .pre .1 .1 .1, rw (ack-keeps (a .args .s) (a .args .words .now) (a .args .values .now) (a .args .client) (a .args .object) _ _ _ (c .before .before .before .ack-taken .ensures) (omega (arith, c .before .before .before .before .before .pre .1 .1 .0, ranged _ (c .before .before .before .before .before .pre .0) .clients)) (omega (arith, c .before .before .before .before .before .pre .1 .1 .1, ranged _ (c .before .before .before .before .before .pre .0) .objects))) (ack-version (a .args .s) (a .args .words .now) (a .args .values .now) (a .args .client) (a .args .object) _ _ _ (c .before .before .before .ack-taken .ensures) (a .pre .1 .0) (a .pre .1 .1 .1) (c .before .before .if1 .taken))))
+settle-one-requires c κs = let a = c .before .before .before .before .before in (a .pre .0, (a .pre .1 .1 .1, rw (ack-keeps (a .args .s) (a .args .words .now) (a .args .values .now) (a .args .client) (a .args .object) _ _ _ (c .before .before .before .ack-taken .ensures) (omega (arith, c .before .before .before .before .before .pre .1 .1 .0, ranges _ (c .before .before .before .before .before .pre .0) .clients .1)) (omega (arith, c .before .before .before .before .before .pre .1 .1 .1, ranges _ (c .before .before .before .before .before .pre .0) .objects .1))) (ack-version (a .args .s) (a .args .words .now) (a .args .values .now) (a .args .client) (a .args .object) _ _ _ (c .before .before .before .ack-taken .ensures) (a .pre .1 .0) (a .pre .1 .1 .1) (c .before .before .if1 .taken))))
 
 returns : tie.Need-returns
-returns c = ack-yes _ _ _ _ _ _ _ _ (c .before .before .before .before .ack-taken .ensures) (omega (arith, c .before .before .before .before .before .before .pre .1 .1 .0, ranged _ (c .before .before .before .before .before .before .pre .0) .clients)) (omega (arith, c .before .before .before .before .before .before .pre .1 .1 .1, ranged _ (c .before .before .before .before .before .before .pre .0) .objects)) _ _ _ (c .before .before .before .if1 .taken) (c .settle-one .ensures)
+returns c = ack-yes _ _ _ _ _ _ _ _ (c .before .before .before .before .ack-taken .ensures) (omega (arith, c .before .before .before .before .before .before .pre .1 .1 .0, ranges _ (c .before .before .before .before .before .before .pre .0) .clients .1)) (omega (arith, c .before .before .before .before .before .before .pre .1 .1 .1, ranges _ (c .before .before .before .before .before .before .pre .0) .objects .1)) _ _ _ (c .before .before .before .if1 .taken) (c .settle-one .ensures)
 
 returns-2 : tie.Need-returns-2
 returns-2 c = ack-no _ _ _ _ _ _ _ _ (c .before .ack-taken .ensures) (c .if1 .left)

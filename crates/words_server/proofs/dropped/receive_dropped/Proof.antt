@@ -1,12 +1,12 @@
 use native.Mathlib.Omega.{arith}
-use Rattle.protocol.specs.SoundLaws.{ranged}
+use Rattle.protocol.specs.Ranges.{ranges}
 use Rattle.words_server.proofs.Dropping.{drop-grows, drop-yes, drop-no}
 use borrow.Author.Needs.{needs}
 use Rattle.words_server.proofs.dropped.receive_dropped.Statement.{statement}
 use Rattle.words_server.proofs.dropped.receive_dropped.Tie as tie
 
 drop-taken-requires : tie.Need-drop-taken-requires
-drop-taken-requires c κs = ((omega (arith, c .before .pre .1 .1 .0, ranged _ (c .before .pre .0) .clients)), (omega (arith, c .before .pre .1 .1 .1, ranged _ (c .before .pre .0) .volumes)))
+drop-taken-requires c κs = ((omega (arith, c .before .pre .1 .1 .0, ranges _ (c .before .pre .0) .clients .1)), (omega (arith, c .before .pre .1 .1 .1, ranges _ (c .before .pre .0) .volumes .1)))
 
 mul-words : tie.Need-mul-words
 mul-words c = search needs
@@ -21,7 +21,7 @@ mul-words-2 : tie.Need-mul-words-2
 mul-words-2 c = search needs
 
 element-write-words : tie.Need-element-write-words
-element-write-words c = omega (arith, c .before .before .before .pre .1 .1 .0, c .before .before .before .pre .1 .1 .1, ranged _ (c .before .before .before .pre .0) .clients, ranged _ (c .before .before .before .pre .0) .volumes)
+element-write-words c = omega (arith, c .before .before .before .pre .1 .1 .0, c .before .before .before .pre .1 .1 .1, ranges _ (c .before .before .before .pre .0) .clients .1, ranges _ (c .before .before .before .pre .0) .volumes .1)
 
 mul-words-3 : tie.Need-mul-words-3
 mul-words-3 c = search needs
@@ -36,7 +36,7 @@ mul-words-4 : tie.Need-mul-words-4
 mul-words-4 c = search needs
 
 element-write-words-2 : tie.Need-element-write-words-2
-element-write-words-2 c = omega (arith, c .before .before .before .pre .1 .1 .0, c .before .before .before .pre .1 .1 .1, ranged _ (c .before .before .before .pre .0) .clients, ranged _ (c .before .before .before .pre .0) .volumes)
+element-write-words-2 c = omega (arith, c .before .before .before .pre .1 .1 .0, c .before .before .before .pre .1 .1 .1, ranges _ (c .before .before .before .pre .0) .clients .1, ranges _ (c .before .before .before .pre .0) .volumes .1)
 
 mul-words-5 : tie.Need-mul-words-5
 mul-words-5 c = search needs
@@ -51,7 +51,7 @@ mul-words-6 : tie.Need-mul-words-6
 mul-words-6 c = search needs
 
 element-write-words-3 : tie.Need-element-write-words-3
-element-write-words-3 c = omega (arith, c .before .before .before .pre .1 .1 .0, c .before .before .before .pre .1 .1 .1, ranged _ (c .before .before .before .pre .0) .clients, ranged _ (c .before .before .before .pre .0) .volumes)
+element-write-words-3 c = omega (arith, c .before .before .before .pre .1 .1 .0, c .before .before .before .pre .1 .1 .1, ranges _ (c .before .before .before .pre .0) .clients .1, ranges _ (c .before .before .before .pre .0) .volumes .1)
 
 clear-in-volume-requires : tie.Need-clear-in-volume-requires
 clear-in-volume-requires c κs = search needs
@@ -60,10 +60,10 @@ clear-in-volume-requires-2 : tie.Need-clear-in-volume-requires-2
 clear-in-volume-requires-2 c κs = search needs
 
 settle-requires : tie.Need-settle-requires
-settle-requires c κs = let a = c .before .before .before .before .before .before .before .before .before in (a .pre .0, drop-grows _ _ (a .args .values .now) _ _ _ _ (omega (arith, c .before .before .before .before .before .before .before .before .before .pre .1 .1 .0, ranged _ (c .before .before .before .before .before .before .before .before .before .pre .0) .clients)) (omega (arith, c .before .before .before .before .before .before .before .before .before .pre .1 .1 .1, ranged _ (c .before .before .before .before .before .before .before .before .before .pre .0) .volumes)) (ranged _ (a .pre .0) .objects) (c .before .before .before .before .clear-in-volume .ensures) (c .before .before .clear-in-volume2 .ensures) (a .pre .1 .0))
+settle-requires c κs = let a = c .before .before .before .before .before .before .before .before .before in (a .pre .0, drop-grows _ _ (a .args .values .now) _ _ _ _ (omega (arith, c .before .before .before .before .before .before .before .before .before .pre .1 .1 .0, ranges _ (c .before .before .before .before .before .before .before .before .before .pre .0) .clients .1)) (omega (arith, c .before .before .before .before .before .before .before .before .before .pre .1 .1 .1, ranges _ (c .before .before .before .before .before .before .before .before .before .pre .0) .volumes .1)) (ranges _ (a .pre .0) .objects .1) (c .before .before .before .before .clear-in-volume .ensures) (c .before .before .clear-in-volume2 .ensures) (a .pre .1 .0))
 
 returns : tie.Need-returns
-returns c = drop-yes _ _ _ _ _ _ _ (omega (arith, c .before .before .before .before .before .before .before .before .before .before .pre .1 .1 .0, ranged _ (c .before .before .before .before .before .before .before .before .before .before .pre .0) .clients)) (omega (arith, c .before .before .before .before .before .before .before .before .before .before .pre .1 .1 .1, ranged _ (c .before .before .before .before .before .before .before .before .before .before .pre .0) .volumes)) (ranged _ (c .before .before .before .before .before .before .before .before .before .before .pre .0) .objects) (c .before .before .before .before .before .clear-in-volume .ensures) (c .before .before .before .clear-in-volume2 .ensures) _ _ _ _ _ _ (c .before .before .before .before .before .before .before .before .drop-taken .ensures) (c .before .before .before .before .before .before .before .if1 .taken) (c .settle .ensures)
+returns c = drop-yes _ _ _ _ _ _ _ (omega (arith, c .before .before .before .before .before .before .before .before .before .before .pre .1 .1 .0, ranges _ (c .before .before .before .before .before .before .before .before .before .before .pre .0) .clients .1)) (omega (arith, c .before .before .before .before .before .before .before .before .before .before .pre .1 .1 .1, ranges _ (c .before .before .before .before .before .before .before .before .before .before .pre .0) .volumes .1)) (ranges _ (c .before .before .before .before .before .before .before .before .before .before .pre .0) .objects .1) (c .before .before .before .before .before .clear-in-volume .ensures) (c .before .before .before .clear-in-volume2 .ensures) _ _ _ _ _ _ (c .before .before .before .before .before .before .before .before .drop-taken .ensures) (c .before .before .before .before .before .before .before .if1 .taken) (c .settle .ensures)
 
 returns-2 : tie.Need-returns-2
 returns-2 c = drop-no _ _ _ _ _ _ _ _ (c .before .drop-taken .ensures) (c .if1 .left)

@@ -1,5 +1,5 @@
 use mathlib.Core.Path.{refl}
-use Rattle.protocol.specs.SoundLaws.{ranged}
+use Rattle.protocol.specs.Ranges.{ranges}
 use Rattle.words_server.proofs.Restarting.{epochs-numbers, restarts}
 use borrow.Author.Needs.{needs}
 use Rattle.words_server.proofs.restart.restart.Statement.{statement}
@@ -15,7 +15,7 @@ cast-grow-epochs : tie.Need-cast-grow-epochs
 cast-grow-epochs c = search needs
 
 grow-epochs-requires : tie.Need-grow-epochs-requires
-grow-epochs-requires c κs = let a = c .before .before .before .before .before .before .before .before in (ranged _ (a .pre .0) .volumes, epochs-numbers _ _ (a .args .values .now) (a .pre .1))
+grow-epochs-requires c κs = let a = c .before .before .before .before .before .before .before .before in (ranges _ (a .pre .0) .volumes .1, epochs-numbers _ _ (a .args .values .now) (a .pre .1))
 
 guard-expiries-requires : tie.Need-guard-expiries-requires
 guard-expiries-requires c κs = search needs
@@ -33,7 +33,7 @@ fill-values-requires : tie.Need-fill-values-requires
 fill-values-requires c κs = search needs
 
 returns : tie.Need-returns
-returns c = let a = c .before .before .before .before .before .before .before .before .before .before .before .before .before .before .before .before .before .before .before in restarts (a .args .s) _ _ _ _ _ _ _ _ _ (c .before .before .before .before .before .before .before .before .before .before .before .before .before .before .before .before .before .sized-arg2 .given .0) (c .before .before .before .before .before .before .before .before .before .before .before .before .before .before .sized-values-arg2 .given .0) refl (ranged _ (a .pre .0) .volumes) (c .before .before .before .before .before .before .before .before .before .before .grow-epochs .ensures) (c .before .before .before .before .before .before .before .before .guard-expiries .ensures) (c .before .before .before .before .before .before .clear-sessions .ensures) (c .before .before .before .before .clear-objects .ensures) (c .before .before .clear-holders .ensures) (c .fill-values .ensures)
+returns c = let a = c .before .before .before .before .before .before .before .before .before .before .before .before .before .before .before .before .before .before .before in restarts (a .args .s) _ _ _ _ _ _ _ _ _ (c .before .before .before .before .before .before .before .before .before .before .before .before .before .before .before .before .before .sized-arg2 .given .0) (c .before .before .before .before .before .before .before .before .before .before .before .before .before .before .sized-values-arg2 .given .0) refl (ranges _ (a .pre .0) .volumes .1) (c .before .before .before .before .before .before .before .before .before .before .grow-epochs .ensures) (c .before .before .before .before .before .before .before .before .guard-expiries .ensures) (c .before .before .before .before .before .before .clear-sessions .ensures) (c .before .before .before .before .clear-objects .ensures) (c .before .before .clear-holders .ensures) (c .fill-values .ensures)
 
 pub restart-spec : {M : Type 1} → statement M
 restart-spec =

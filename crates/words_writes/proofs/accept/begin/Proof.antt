@@ -1,6 +1,6 @@
 use native.Mathlib.Omega.{arith}
 use mathlib.Core.Path.{refl}
-use Rattle.protocol.specs.SoundLaws.{ranged}
+use Rattle.protocol.specs.Ranges.{ranges}
 use Rattle.words.specs.Reads.{clock-word}
 use Rattle.words_writes.proofs.Accepting.{begins}
 use borrow.Author.Needs.{needs}
@@ -41,7 +41,7 @@ element-copy-out-latest-end-4 : tie.Need-element-copy-out-latest-end-4
 element-copy-out-latest-end-4 c = search needs
 
 latest-end-requires : tie.Need-latest-end-requires
-latest-end-requires c κs = let a = c .before .before .before .before .before in omega (arith, ranged _ (a .pre .0) .m, a .pre .1 .0, clock-word (a .args .words .now) (a .args .values .now))
+latest-end-requires c κs = let a = c .before .before .before .before .before in omega (arith, ranges _ (a .pre .0) .m .1, a .pre .1 .0, clock-word (a .args .words .now) (a .args .values .now))
 
 cast-await-clients : tie.Need-cast-await-clients
 cast-await-clients c = search needs

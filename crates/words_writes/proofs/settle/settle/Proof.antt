@@ -4,7 +4,8 @@ use mathlib.Core.Path.{_≡_, refl, _∙_}
 use Prim.Native.Nat.{_≤_, _-_}
 use Rattle.laws.specs.Loop.{foldFrom}
 use Rattle.protocol.specs.Writes.{completeIf, settled}
-use Rattle.protocol.specs.SoundLaws.{Growing, ranged}
+use Rattle.protocol.specs.Ranges.{ranges}
+use Rattle.protocol.specs.SoundLaws.{Growing}
 use Rattle.words.specs.View.{tablesOf, recordsOf}
 use Rattle.words_writes.specs.Triggers.{triggered}
 use Rattle.words_writes.proofs.Settling.{settle-version, settle-end, settle-again, settle-grows}
@@ -31,10 +32,10 @@ complete-requires : tie.Need-complete-requires Inv-loop μ-loop
 complete-requires c κs = let l = c .before .before .before .before .before .loop in (c .before .before .before .before .before .before .before .pre .0, (c .before .before .if1 .left, settle-version _ _ _ _ _ _ (l .inv .0) (c .before .before .before .next-triggered .ensures) (l .inv .1 .1 .0) (c .before .before .if1 .left)))
 
 add-count : tie.Need-add-count Inv-loop μ-loop
-add-count c = omega (arith, ranged _ (c .before .before .before .before .before .before .before .before .pre .0) .objects, c .before .before .before .before .before .before .loop .inv .1 .0, c .before .before .before .before .next-triggered .ensures .low, c .before .before .before .if1 .left)
+add-count c = omega (arith, ranges _ (c .before .before .before .before .before .before .before .before .pre .0) .objects .1, c .before .before .before .before .before .before .loop .inv .1 .0, c .before .before .before .before .next-triggered .ensures .low, c .before .before .before .if1 .left)
 
 add-from : tie.Need-add-from Inv-loop μ-loop
-add-from c = omega (arith, ranged _ (c .before .before .before .before .before .before .before .before .pre .0) .objects, c .before .before .before .if1 .left)
+add-from c = omega (arith, ranges _ (c .before .before .before .before .before .before .before .before .pre .0) .objects .1, c .before .before .before .if1 .left)
 
 loop-less : tie.Need-loop-less Inv-loop μ-loop
 loop-less c = omega (arith, c .before .before .before .before .next-triggered .ensures .low, c .before .before .before .if1 .left)

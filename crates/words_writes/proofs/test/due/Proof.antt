@@ -1,5 +1,5 @@
 use native.Mathlib.Omega.{arith}
-use Rattle.protocol.specs.SoundLaws.{ranged}
+use Rattle.protocol.specs.Ranges.{ranges}
 use Rattle.words_writes.proofs.Tests.{due-ready, due-over}
 use borrow.Author.Needs.{needs}
 use Rattle.words_writes.proofs.test.due.Statement.{statement}
@@ -21,7 +21,7 @@ mul-end-over : tie.Need-mul-end-over
 mul-end-over c = search needs
 
 element-copy-out-end-over-2 : tie.Need-element-copy-out-end-over-2
-element-copy-out-end-over-2 c = omega (arith, ranged _ (c .before .before .before .pre .0) .objects)
+element-copy-out-end-over-2 c = omega (arith, ranges _ (c .before .before .before .pre .0) .objects .1)
 
 end-over-requires : tie.Need-end-over-requires
 end-over-requires c κs = search needs
@@ -33,10 +33,10 @@ mul-result : tie.Need-mul-result
 mul-result c = search needs
 
 element-copy-out-result : tie.Need-element-copy-out-result
-element-copy-out-result c = omega (arith, ranged _ (c .before .before .before .before .before .pre .0) .objects)
+element-copy-out-result c = omega (arith, ranges _ (c .before .before .before .before .before .pre .0) .objects .1)
 
 returns-2 : tie.Need-returns-2
-returns-2 c = due-over _ _ _ _ (c .before .before .before .before .before .ready .ensures) _ (omega (arith, ranged _ (c .before .before .before .before .before .before .pre .0) .objects)) (c .before .before .before .before .if1 .left) (c .before .end-over .ensures)
+returns-2 c = due-over _ _ _ _ (c .before .before .before .before .before .ready .ensures) _ (omega (arith, ranges _ (c .before .before .before .before .before .before .pre .0) .objects .1)) (c .before .before .before .before .if1 .left) (c .before .end-over .ensures)
 
 pub due-spec : {M : Type 1} → statement M
 due-spec =
