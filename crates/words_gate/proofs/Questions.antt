@@ -1,4 +1,4 @@
--- Questions 2 to 6 by the words w: what each reads is what the tables say.
+-- Questions 2 to 6 of step x by the words w: what each reads is what the tables say. y are the values, which none reads; k is the number of a "no".
 use Prim.Native.Nat.{ℕ, _+_, _<_, _≤_}
 use native.Mathlib.Omega.{arith}
 use mathlib.Core.Bool.{Bool, true, false, not, _&&_, _||_}
@@ -65,17 +65,18 @@ unfolding tablesOf
 epoch-grows w v n h k = rw (part-at wordLengths w VOLUME-EPOCH v (omega arith))
 
 module _ (s : Setup) (w : List ℕ) (r : Request) (x : Step) where
-  pub growable-words : (v e : Bool) → v ≡ (not (isWrite x) || canGrow (versionAt (numbersOf w) (x .object))) → e ≡ allFrom (λ (v : ℕ). canGrow (epochAt (numbersOf w) v)) 0 (s .volumes)
-      → (v && (not (isRestartServer x) || e) && (not (isAsk x) || canGrow (r .next))) ≡ growable s (numbersOf w) r x
+  pub growable-words : (version epochs : Bool) → version ≡ (not (isWrite x) || canGrow (versionAt (numbersOf w) (x .object)))
+      → epochs ≡ allFrom (λ (v : ℕ). canGrow (epochAt (numbersOf w) v)) 0 (s .volumes)
+      → (version && (not (isRestartServer x) || epochs) && (not (isAsk x) || canGrow (r .next))) ≡ growable s (numbersOf w) r x
   unfolding growable
-  growable-words v e p q = rw (p, q)
+  growable-words version epochs e f = rw (e, f)
 
-  -- questions 2 to 6, put together: none reads a value
-  pub questioned : (y : List ℕ) (a b c d e : Bool) (k₆ k₅ k₄ k₃ k : ℕ) → a ≡ known x → b ≡ exists s (numbersOf w) x → c ≡ timely (numbersOf w) x → d ≡ vacant (numbersOf w) x
-      → e ≡ growable s (numbersOf w) r x → k₆ ≡ orRefuse e 6 0 → k₅ ≡ orRefuse d 5 k₆ → k₄ ≡ orRefuse c 4 k₅ → k₃ ≡ orRefuse b 3 k₄ → k ≡ orRefuse a 2 k₃
-      → k ≡ refusalOfStep s (tablesOf w y) r x
+  -- the answers q to questions 2 to 6, put together
+  pub questioned : (y : List ℕ) (q₂ q₃ q₄ q₅ q₆ : Bool) (k₆ k₅ k₄ k₃ k : ℕ) → q₂ ≡ known x → q₃ ≡ exists s (numbersOf w) x → q₄ ≡ timely (numbersOf w) x
+      → q₅ ≡ vacant (numbersOf w) x → q₆ ≡ growable s (numbersOf w) r x → k₆ ≡ orRefuse q₆ 6 0 → k₅ ≡ orRefuse q₅ 5 k₆ → k₄ ≡ orRefuse q₄ 4 k₅ → k₃ ≡ orRefuse q₃ 3 k₄
+      → k ≡ orRefuse q₂ 2 k₃ → k ≡ refusalOfStep s (tablesOf w y) r x
   unfolding refusalOfStep exists timely vacant growable tablesOf
-  questioned y a b c d e k₆ k₅ k₄ k₃ k p q u i g e₆ e₅ e₄ e₃ f = rw (f, e₃, e₄, e₅, e₆, p, q, u, i, g)
+  questioned y q₂ q₃ q₄ q₅ q₆ k₆ k₅ k₄ k₃ k a₂ a₃ a₄ a₅ a₆ e₆ e₅ e₄ e₃ e₂ = rw (e₂, e₃, e₄, e₅, e₆, a₂, a₃, a₄, a₅, a₆)
 
   module _ (y : List ℕ) (records : Bool) (i : Bool) (p : i ≡ inRange s) where
     pub refusal-ranges : (a : Bool) (n k : ℕ) → i ≡ true → a ≡ tablesSound s (tablesOf w y) → n ≡ refusalOfStep s (tablesOf w y) r x → k ≡ orRefuse (records && a) 1 n → k ≡ refusal s (tablesOf w y) records r x

@@ -1,4 +1,4 @@
--- Question 1 by the words w: what each pass reads of an item is what the tables say of it.
+-- Question 1 by the words w and values x: what each pass reads of an item is what the tables say of it.
 use Prim.Native.Nat.{ℕ, _+_, _-_, _<_, _≤_}
 use native.Mathlib.Omega.{arith}
 use mathlib.Core.Bool.{Bool, true, false, not, _&&_, _||_}

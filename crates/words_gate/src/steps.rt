@@ -78,7 +78,7 @@ fn growable(s: Setup, words: &Words, r: Request, x: Step) -> bool
     version & ((x.kind != 8) | epochs) & ((x.kind != 3) | (r.next < 4294967295))
 }
 
-// Questions 2 ("Is the kind 1 to 9?") to 6: the number of the first "no".
+// Questions 2 ("Is the kind 1 to 9?") to 6: the number of the first "no". The values are lent for the contract alone, which speaks of whole tables.
 pub fn refusal_of_step(s: Setup, words: &Words, values: &Values, r: Request, x: Step) -> u8
     requires { ⌜ inRange s ≡ true ⌝ }
     ensures { λ k. ⌜ k ≡ refusalOfStep s (tablesOf (now (words .entry)) (now (values .entry))) r x ⌝ }
