@@ -1,4 +1,6 @@
 -- 01, "Steps" and "Messages received": one step decided, on the tables, the one copy and the one request that it can touch.
+-- Letters: s setup, t tables, c the copy, r the request, d client, o object, v volume, i a place in the message list, m a message, n its number, e epoch, w
+-- version, x and y a GRANT's volume and object expiry, p its payload; g a change or what is received, a an answer, k a refusal; of a step, x is the step.
 use Prim.Native.Nat.{ℕ}
 use mathlib.Core.Bool.{Bool, cond}
 use lib.Dec.{eqb}

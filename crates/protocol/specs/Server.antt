@@ -1,4 +1,5 @@
 -- 01, "Messages received" by the server, and its restart.
+-- Letters: s setup, t tables, d client, o object, v volume; of a message m, n number, e epoch, w version.
 use Prim.Native.Nat.{ℕ, _+_}
 use mathlib.Core.Bool.{Bool, false, cond, not, _&&_, _||_}
 use lib.Dec.{ltb, leb, eqb}

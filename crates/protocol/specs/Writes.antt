@@ -1,4 +1,6 @@
 -- 01, "Steps": accepting a write, completing it, and which writes a step completes.
+-- Letters: s setup, t and u tables, o and j objects, d client, v volume, x a value, q the message list, l a list of marks, g what is staged, c tables with a
+-- count, n how many.
 use Prim.Native.Nat.{ℕ, zero, suc, _+_, min, max}
 use mathlib.Core.Bool.{Bool, true, false, cond, not, _&&_, _||_}
 use mathlib.Core.List.{List, [], _∷_}
