@@ -14,6 +14,7 @@ use Rattle.protocol.specs.declared.tables.Tables.{Tables}
 use Rattle.protocol.specs.Setup.{volumeOf}
 use Rattle.protocol.specs.Tables.{byVolume, epochAt, valueAt, versionAt, viewEpochAt, viewExpiryAt, withViews}
 use Rattle.protocol.specs.Client.{ended, viewed}
+use Rattle.protocol.specs.Updates.{withViewEpoch, withViewExpiry}
 use Rattle.protocol.specs.World.{World}
 use Rattle.protocol.specs.Soundness.Shape.{WorldShape}
 use Rattle.protocol.specs.Safety.View.{Stands, copyAt, requestAt, viewOf, viewAt}
@@ -31,7 +32,7 @@ names-same held held′ ver (Value x) e a = tt
 -- ---- in all volumes
 
 abbrev pub seeing : World → List ℕ → List ℕ → List Copy → World
-seeing w known expiry copies = record { tables = withViews (w .tables) (record { epoch = known; expiry = expiry }); copies = copies; requests = w .requests }
+seeing w known expiry copies = record { tables = withViews (w .tables) (withViewExpiry (withViewEpoch (w .tables .views) known) expiry); copies = copies; requests = w .requests }
 
 -- the other clients' views and copies stay
 pub record Others (s : Setup) (t : Tables) (d : ℕ) (known₁ expiry₁ : List ℕ) (copies₀ copies₁ : List Copy) : Type 0 where
@@ -115,7 +116,7 @@ module _ (s : Setup) (range : Ranges s) (w : World) (inv : Inv s w) (d : ℕ) (i
 module _ (s : Setup) (range : Ranges s) (w : World) (inv : Inv s w) (shape : WorldShape s w) (d : ℕ) (hd : d < s .clients) where
   -- .. and the request ends
   pub taken : (known expiry : List ℕ) (copies : List Copy) → Others s (w .tables) d known expiry (w .copies) copies → Own s (w .tables) d known expiry copies → Inv s (record {
-    tables = withViews (w .tables) (record { epoch = known; expiry = expiry });
+    tables = withViews (w .tables) (withViewExpiry (withViewEpoch (w .tables .views) known) expiry);
     copies = copies;
     requests = set (w .requests) d (ended (requestAt (w .requests) d));
   })
