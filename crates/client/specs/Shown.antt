@@ -22,7 +22,3 @@ either true t c = refl
 either false t c = refl
 
 -- what `steps::read` answers is all that a read decides
-pub read-answered : (s : Setup) (t : Tables) (c : Copy) (d o : ℕ) (a : Answer)
-    → a ≡ cond (shownAt (t .clock) (viewExpiryAt t d (volumeOf s o)) c) (Shown (c .value)) AskFirst → answered kept t a ≡ readDecided s t c d o
-unfolding readDecided showable shownAt clientClock
-read-answered s t c d o a e = rw e (either (showable s t c d o) t c)

@@ -3,14 +3,17 @@ ghost use Rattle.protocol.specs.Leases.{clientAlive};
 ghost use Rattle.protocol.specs.Setup.{volumeOf};
 ghost use Rattle.protocol.specs.Tables.{noCopy};
 ghost use Rattle.protocol.specs.Client.{storable, grantTaken, payloadOr, filled, changed, swept};
+ghost use Rattle.protocol.specs.Decide.{kept};
 ghost use Rattle.client.specs.Shown.{shownAt};
 use crate::request;
 use protocol::message::Payload;
 use protocol::records::Copy;
 use protocol::records::Request;
 use protocol::setup::Setup;
+use protocol::step::Change;
 use protocol::step::CopyChange;
 use protocol::step::Sweep;
+use protocol::step::Turn;
 
 // "A lease is alive when its expiry is greater than the clock.": by the client's clock.
 fn alive(clock: u32, expiry: u32) -> bool
@@ -116,5 +119,16 @@ pub fn sweep(s: Setup, g: Sweep, c: Copy, object: usize) -> Copy
             c
         }
         Sweep::Erase => none(),
+    }
+}
+
+// The client's records stay.
+pub fn kept() -> Change
+    ensures { λ g. ⌜ g ≡ kept ⌝ }
+{
+    Change {
+        copy: CopyChange::Keep,
+        request: Turn::Keep,
+        sweep: Sweep::Keep,
     }
 }

@@ -1,17 +1,18 @@
+// What becomes of a client's copy and request when it receives a message; what it knows of the volume and what it sends changes in the words.
 ghost use mathlib.Core.Path.{_≡_};
+ghost use mathlib.Core.Bool.{true};
 ghost use Prim.Native.Nat.{_<_};
-ghost use Rattle.protocol.specs.declared.tables.Tables.{Tables};
-ghost use Rattle.protocol.specs.Setup.{volumeOf};
-ghost use Rattle.protocol.specs.Tables.{withViews};
-ghost use Rattle.protocol.specs.Server.{replied};
-ghost use Rattle.protocol.specs.Decide.{kept, byClient, grantReceived, invalidateReceived, offerReceived};
+ghost use Rattle.protocol.specs.Setup.{inRange};
+ghost use Rattle.protocol.specs.Decide.{byClient, invalidateReceived, offerReceived};
+ghost use Rattle.words.specs.View.{tablesOf, recordsOf};
+ghost use Rattle.client.specs.Views.{grantHeard};
 use crate::copy;
 use crate::request;
 use crate::view;
+use leases::place;
 use protocol::message::Kind;
 use protocol::message::Message;
 use protocol::message::Payload;
-use protocol::message::Reply;
 use protocol::records::Copy;
 use protocol::records::Request;
 use protocol::setup::Setup;
@@ -19,116 +20,104 @@ use protocol::step::Change;
 use protocol::step::CopyChange;
 use protocol::step::Sweep;
 use protocol::step::Turn;
+use queue::list;
+use words::Values;
+use words::Words;
 
-// What becomes of the client's records, and what it sends. What it knows of its volumes changes in the lent lists.
-pub struct Heard {
-    pub change: Change,
-    pub reply: Reply,
-}
-
-// A message that is not taken.
-fn ignored() -> Heard
-    ensures { λ g. ⌜ g ≡ record { change = kept; reply = Reply.Nothing } ⌝ }
-{
-    Heard {
-        change: Change {
-            copy: CopyChange::Keep,
-            request: Turn::Keep,
-            sweep: Sweep::Keep,
-        },
-        reply: Reply::Nothing,
-    }
+// The terms of a GRANT.
+pub struct Terms {
+    pub number: u32,
+    pub volume_expiry: u32,
+    pub epoch: u32,
+    pub version: u32,
+    pub object_expiry: u32,
+    pub payload: Payload,
 }
 
 // GRANT: "store its fields, epoch too, and end the request".
 pub fn grant(
     s: Setup,
+    words: &mut Words,
+    values: &Values,
     c: Copy,
     r: Request,
     client: u8,
     object: u8,
-    number: u32,
-    lease: u32,
-    epoch: u32,
-    version: u32,
-    expiry: u32,
-    payload: Payload,
-    epochs: &mut [u32; 128],
-    expiries: &mut [u32; 128],
-) -> Heard
-    requires { ⌜ (client < 16) × (object < 32) × (volumeOf s object < 8) ⌝ }
-    ensures { λ g. ⌜ ((t : Tables) → byClient (g .change) (replied (withViews t (record { epoch = now (epochs .exit); expiry = now (expiries .exit) })) (g .reply)) ≡ grantReceived s (withViews t (record { epoch = now (epochs .entry); expiry = now (expiries .entry) })) c r client object number lease epoch version expiry payload) ⌝ }
+    g: Terms,
+) -> Change
+    requires { ⌜ inRange s ≡ true ⌝ }
+    requires { ⌜ client < s .clients ⌝ }
+    requires { ⌜ object < s .objects ⌝ }
+    ensures { λ u. ⌜ byClient u (tablesOf (now (words .exit)) (now (values .entry))) ≡ grantHeard s (tablesOf (now (words .entry)) (now (values .entry))) c r client object g ⌝ }
+    ensures { λ _. ⌜ recordsOf (now (words .exit)) (now (values .entry)) ≡ recordsOf (now (words .entry)) (now (values .entry)) ⌝ }
 {
-    if copy::grant_taken(c, r, number, version, payload) {
-        let v = s.volume[object as usize] as usize;
-        view::put(&mut *epochs, client as usize, v, epoch);
-        view::put(&mut *expiries, client as usize, v, lease);
-        return Heard {
-            change: Change {
-                copy: CopyChange::Fill(copy::fill(c, version, expiry, payload)),
-                request: Turn::End,
-                sweep: Sweep::Keep,
-            },
-            reply: Reply::Nothing,
+    let payload = g.payload;
+    if copy::grant_taken(c, r, g.number, g.version, payload) {
+        let volume = place::volume_of(s, object as usize);
+        view::put(&mut *words, client as usize, volume, g.epoch, g.volume_expiry);
+        return Change {
+            copy: CopyChange::Fill(copy::fill(c, g.version, g.object_expiry, payload)),
+            request: Turn::End,
+            sweep: Sweep::Keep,
         };
     }
-    ignored()
+    copy::kept()
 }
 
 // INVALIDATE: "erase the copy, forget a standing request for that object, send ACK with the same epoch and new version".
-pub fn invalidate(r: Request, client: u8, object: u8, epoch: u32, version: u32) -> Heard
-    ensures { λ g. ⌜ ((t : Tables) → byClient (g .change) (replied t (g .reply)) ≡ invalidateReceived t r client object epoch version) ⌝ }
+pub fn invalidate(
+    words: &mut Words,
+    values: &mut Values,
+    r: Request,
+    client: u8,
+    object: u8,
+    epoch: u32,
+    version: u32,
+) -> Change
+    ensures { λ u. ⌜ byClient u (tablesOf (now (words .exit)) (now (values .exit))) ≡ invalidateReceived (tablesOf (now (words .entry)) (now (values .entry))) r client object epoch version ⌝ }
+    ensures { λ _. ⌜ recordsOf (now (words .exit)) (now (values .exit)) ≡ recordsOf (now (words .entry)) (now (values .entry)) ⌝ }
 {
-    let m = Message {
-        client: client,
-        kind: Kind::Ack {
-            object: object,
-            epoch: epoch,
-            version: version,
-        },
+    let kind = Kind::Ack {
+        object,
+        epoch,
+        version,
     };
-    Heard {
-        change: Change {
-            copy: CopyChange::Erase,
-            request: request::forget(r, object),
-            sweep: Sweep::Keep,
-        },
-        reply: Reply::Send(m),
+    list::push(&mut *words, &mut *values, Message { client, kind });
+    Change {
+        copy: CopyChange::Erase,
+        request: request::forget(r, object),
+        sweep: Sweep::Keep,
     }
 }
 
 // OFFER: "Take its epoch, set that volume's expiry and all its object expiries to 0, end the request, send DROPPED with that number and epoch."
 pub fn offer(
+    words: &mut Words,
+    values: &mut Values,
     r: Request,
     client: u8,
     volume: u8,
     number: u32,
     epoch: u32,
-    epochs: &mut [u32; 128],
-    expiries: &mut [u32; 128],
-) -> Heard
-    requires { ⌜ (client < 16) × (volume < 8) ⌝ }
-    ensures { λ g. ⌜ ((t : Tables) → byClient (g .change) (replied (withViews t (record { epoch = now (epochs .exit); expiry = now (expiries .exit) })) (g .reply)) ≡ offerReceived (withViews t (record { epoch = now (epochs .entry); expiry = now (expiries .entry) })) r client volume number epoch) ⌝ }
+) -> Change
+    requires { ⌜ client < 16 ⌝ }
+    requires { ⌜ volume < 8 ⌝ }
+    ensures { λ u. ⌜ byClient u (tablesOf (now (words .exit)) (now (values .exit))) ≡ offerReceived (tablesOf (now (words .entry)) (now (values .entry))) r client volume number epoch ⌝ }
+    ensures { λ _. ⌜ recordsOf (now (words .exit)) (now (values .exit)) ≡ recordsOf (now (words .entry)) (now (values .entry)) ⌝ }
 {
     if request::stands(r, number) {
-        let m = Message {
-            client: client,
-            kind: Kind::Dropped {
-                volume: volume,
-                number: number,
-                epoch: epoch,
-            },
+        view::put(&mut *words, client as usize, volume as usize, epoch, 0);
+        let kind = Kind::Dropped {
+            volume,
+            number,
+            epoch,
         };
-        view::put(&mut *epochs, client as usize, volume as usize, epoch);
-        view::put(&mut *expiries, client as usize, volume as usize, 0);
-        return Heard {
-            change: Change {
-                copy: CopyChange::Keep,
-                request: Turn::End,
-                sweep: Sweep::Expire(volume),
-            },
-            reply: Reply::Send(m),
+        list::push(&mut *words, &mut *values, Message { client, kind });
+        return Change {
+            copy: CopyChange::Keep,
+            request: Turn::End,
+            sweep: Sweep::Expire(volume),
         };
     }
-    ignored()
+    copy::kept()
 }

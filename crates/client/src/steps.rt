@@ -1,66 +1,68 @@
-ghost use mathlib.Core.Bool.{cond};
 ghost use mathlib.Core.Path.{_≡_};
-ghost use Prim.Native.Nat.{_<_, _≤_};
-ghost use lib.ListN.{getD};
-ghost use Rattle.protocol.specs.declared.tables.Tables.{Tables};
-ghost use Rattle.protocol.specs.Setup.{volumeOf};
-ghost use Rattle.protocol.specs.Tables.{byVolume, withViews};
-ghost use Rattle.protocol.specs.Client.{renewal, clientRestarted};
-ghost use Rattle.client.specs.Shown.{shownAt};
+ghost use mathlib.Core.Bool.{true};
+ghost use Prim.Native.Nat.{_<_};
+ghost use Rattle.protocol.specs.Setup.{inRange};
+ghost use Rattle.protocol.specs.Decide.{answered, kept, readDecided, askDecided, restartDecided};
+ghost use Rattle.words.specs.View.{tablesOf, numbersOf, recordsOf};
 use crate::copy;
-use crate::view;
+use leases::place;
 use protocol::message::Kind;
 use protocol::message::Message;
 use protocol::records::Copy;
 use protocol::records::Request;
 use protocol::setup::Setup;
 use protocol::step::Answer;
+use queue::list;
+use words::Values;
+use words::Words;
+use words::client;
+use words::network;
+use words::pass;
 
-// "shown with its value; else "ask first"".
-fn shown(ok: bool, value: u64) -> Answer
-    ensures { λ a. ⌜ a ≡ cond ok (Answer.Shown value) Answer.AskFirst ⌝ }
+// Step 2: "shown with its value; else "ask first"". No table and no record changes.
+pub fn read(s: Setup, words: &Words, c: Copy, client: u8, object: u8) -> Answer
+    requires { ⌜ inRange s ≡ true ⌝ }
+    requires { ⌜ client < s .clients ⌝ }
+    requires { ⌜ object < s .objects ⌝ }
+    ensures { λ a. ⌜ a ≡ readDecided s (numbersOf (now (words .entry))) c client object .outcome .answer ⌝ }
 {
-    if ok {
-        return Answer::Shown(value);
+    let volume = place::volume_of(s, object as usize);
+    let clock = words[network::CLOCK];
+    let expiry = words[client::VIEW_EXPIRY + (client as usize * 8 + volume)];
+    if copy::showable(clock, expiry, c) {
+        return Answer::Shown(c.value);
     }
     Answer::AskFirst
 }
 
-// Step 2, by the clock, the clients' volume leases and the copy: no table and no record changes.
-pub fn read(s: Setup, clock: u32, leases: &[u32; 128], c: Copy, client: u8, object: u8) -> Answer
-    requires { ⌜ (client < 16) × (object < 32) × (volumeOf s object < 8) ⌝ }
-    ensures { λ a. ⌜ a ≡ cond (shownAt clock (getD (now (leases .entry)) (byVolume client (volumeOf s object)) 0) c) (Answer.Shown (c .value)) Answer.AskFirst ⌝ }
-{
-    let v = s.volume[object as usize] as usize;
-    let i = client as usize * 8 + v;
-    let ok = copy::showable(clock, leases[i], c);
-    shown(ok, c.value)
-}
-
 // Step 3: "send RENEW with number, known epoch and held version". The number is taken by `request::number`.
-pub fn ask(s: Setup, epochs: &[u32; 128], c: Copy, r: Request, client: u8, object: u8) -> Message
-    requires { ⌜ (client < 16) × (object < 32) × (volumeOf s object < 8) ⌝ }
-    ensures { λ m. ⌜ ((t : Tables) → m ≡ renewal s (withViews t (record { epoch = now (epochs .entry); expiry = t .views .expiry })) c r client object) ⌝ }
+pub fn ask(s: Setup, words: &mut Words, values: &mut Values, c: Copy, r: Request, client: u8, object: u8)
+    requires { ⌜ inRange s ≡ true ⌝ }
+    requires { ⌜ client < s .clients ⌝ }
+    requires { ⌜ object < s .objects ⌝ }
+    ensures { λ _. ⌜ tablesOf (now (words .exit)) (now (values .exit)) ≡ askDecided s (tablesOf (now (words .entry)) (now (values .entry))) c r client object .outcome .tables ⌝ }
+    ensures { λ _. ⌜ recordsOf (now (words .exit)) (now (values .exit)) ≡ recordsOf (now (words .entry)) (now (values .entry)) ⌝ }
 {
-    let v = s.volume[object as usize] as usize;
-    let i = client as usize * 8 + v;
-    Message {
-        client: client,
-        kind: Kind::Renew {
-            object: object,
-            number: r.next,
-            epoch: epochs[i],
-            version: c.version,
-        },
-    }
+    let volume = place::volume_of(s, object as usize);
+    let epoch = words[client::VIEW_EPOCH + (client as usize * 8 + volume)];
+    let kind = Kind::Renew {
+        object,
+        number: r.next,
+        epoch,
+        version: c.version,
+    };
+    list::push(&mut *words, &mut *values, Message { client, kind });
 }
 
-// Step 9: "only its next request number remains": what the client knows of each volume goes.
-pub fn restart(epochs: &mut [u32; 128], expiries: &mut [u32; 128], s: Setup, client: u8)
-    requires { ⌜ (client < 16) × (s .volumes ≤ 8) ⌝ }
-    ensures { λ _. ⌜ record { epoch = now (epochs .exit); expiry = now (expiries .exit) } ≡ clientRestarted s (record { epoch = now (epochs .entry); expiry = now (expiries .entry) }) client ⌝ }
+// Step 9: "only its next request number remains": what the client knows of each volume goes. The values are lent for the contract alone.
+pub fn restart(s: Setup, words: &mut Words, values: &Values, client: u8)
+    requires { ⌜ inRange s ≡ true ⌝ }
+    requires { ⌜ client < s .clients ⌝ }
+    ensures { λ _. ⌜ tablesOf (now (words .exit)) (now (values .entry)) ≡ restartDecided s (tablesOf (now (words .entry)) (now (values .entry))) client .outcome .tables ⌝ }
+    ensures { λ _. ⌜ recordsOf (now (words .exit)) (now (values .entry)) ≡ recordsOf (now (words .entry)) (now (values .entry)) ⌝ }
 {
     let n = s.volumes as usize;
-    view::clear(&mut *epochs, client as usize, n);
-    view::clear(&mut *expiries, client as usize, n);
+    let first = client as usize * 8;
+    pass::fill(&mut *words, client::VIEW_EPOCH + first, n, 0);
+    pass::fill(&mut *words, client::VIEW_EXPIRY + first, n, 0);
 }

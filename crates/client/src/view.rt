@@ -1,27 +1,17 @@
+// What a client knows of a volume, in the words.
 ghost use mathlib.Core.Path.{_≡_};
-ghost use Prim.Native.Nat.{ℕ, _<_, _≤_};
-ghost use lib.ListN.{set};
-ghost use Rattle.laws.specs.Store.{storeEach, always};
+ghost use Prim.Native.Nat.{_<_};
 ghost use Rattle.protocol.specs.Tables.{byVolume};
+ghost use Rattle.client.specs.Views.{viewStored};
+use words::Words;
+use words::client;
 
-// One field of what a client knows of a volume.
-pub fn put(a: &mut [u32; 128], client: usize, volume: usize, x: u32)
-    requires { ⌜ (client < 16) × (volume < 8) ⌝ }
-    ensures { λ r. ⌜ now (a .exit) ≡ set (now (a .entry)) (byVolume client volume) x ⌝ }
+// Its epoch, and when the volume lease ends.
+pub fn put(words: &mut Words, client: usize, volume: usize, epoch: u32, expiry: u32)
+    requires { ⌜ client < 16 ⌝ }
+    requires { ⌜ volume < 8 ⌝ }
+    ensures { λ _. ⌜ now (words .exit) ≡ viewStored (now (words .entry)) (byVolume client volume) epoch expiry ⌝ }
 {
-    let i = client * 8 + volume;
-    a[i] = x;
-}
-
-// The field set to 0 for the client's first n volumes.
-pub fn clear(a: &mut [u32; 128], client: usize, n: usize)
-    requires { ⌜ (client < 16) × (n ≤ 8) ⌝ }
-    ensures { λ r. ⌜ now (a .exit) ≡ storeEach always (byVolume client) (λ (v : ℕ). 0) (now (a .entry)) n ⌝ }
-{
-    let mut v = 0;
-    while v < n {
-        let i = client * 8 + v;
-        a[i] = 0;
-        v += 1;
-    }
+    words[client::VIEW_EPOCH + (client * 8 + volume)] = epoch;
+    words[client::VIEW_EXPIRY + (client * 8 + volume)] = expiry;
 }

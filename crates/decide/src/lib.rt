@@ -1,43 +1,41 @@
-// One step decided (01, "Steps"): the questions, then the step by its kind, on the tables and the one copy and request that it can touch.
+// One step decided (01, "Steps"): the questions, then the step by its kind, on the words and on the one copy and request that it can touch.
 ghost use mathlib.Core.Path.{_≡_};
-ghost use Rattle.protocol.specs.Decide.{decided};
+ghost use Prim.Native.Nat.{ℕ};
+ghost use Rattle.protocol.specs.Answers.{answerNumber};
+ghost use Rattle.protocol.specs.Decide.{answered, decided};
+ghost use Rattle.words.specs.View.{tablesOf};
+use perform::Verdict;
 use protocol::records::Copy;
 use protocol::records::Request;
 use protocol::setup::Setup;
 use protocol::step::Answer;
-use protocol::step::Change;
-use protocol::step::CopyChange;
-use protocol::step::Decision;
-use protocol::step::Outcome;
 use protocol::step::Step;
-use protocol::step::Sweep;
-use protocol::step::Turn;
-use protocol::tables::Tables;
+use words::Values;
+use words::Words;
 
-pub mod client_steps;
 pub mod deliver;
 pub mod perform;
-pub mod records;
-pub mod server_steps;
-mod whole;
+pub mod target;
 
-// One step, for any input; `sound` says whether all lent records are.
-pub fn decide(s: Setup, t: Tables, sound: bool, c: Copy, r: Request, x: Step) -> Decision
-    ensures { λ d. ⌜ d ≡ decided s t sound c r x ⌝ }
+// One step, for any input; `records` says whether all lent records are sound. A refusal leaves every word and every value.
+pub fn decide(
+    s: Setup,
+    words: &mut Words,
+    values: &mut Values,
+    records: bool,
+    c: Copy,
+    r: Request,
+    x: Step,
+) -> Verdict
+    ensures { λ v. ⌜ answered (v .change) (tablesOf (now (words .exit)) (now (values .exit))) (v .answer) ≡ decided s (tablesOf (now (words .entry)) (now (values .entry))) records c r x ⌝ }
+    ensures { λ v. ⌜ (answerNumber (v .answer) ≡ 4 → (now (words .exit) ≡ now (words .entry)) × (now (values .exit) ≡ now (values .entry))) ⌝ }
 {
-    let k = gate::refusal(s, t, sound, r, x);
-    if k == 0 {
-        return whole::perform_on(s, t, c, r, x);
+    let no = gate::refusal(s, &*words, &*values, records, r, x);
+    if no == 0 {
+        return perform::perform(s, &mut *words, &mut *values, c, r, x);
     }
-    Decision {
-        change: Change {
-            copy: CopyChange::Keep,
-            request: Turn::Keep,
-            sweep: Sweep::Keep,
-        },
-        outcome: Outcome {
-            answer: Answer::Refused(k),
-            tables: t,
-        },
+    Verdict {
+        change: client::copy::kept(),
+        answer: Answer::Refused(no),
     }
 }

@@ -1,94 +1,67 @@
-// An accepted step, in place: by its kind, on the arrays that it is lent and the small tables that it is handed.
+// An accepted step, in place, by its kind.
 ghost use mathlib.Core.Bool.{true};
 ghost use mathlib.Core.Path.{_≡_};
 ghost use Rattle.protocol.specs.Setup.{inRange};
 ghost use Rattle.protocol.specs.Sound.{tablesSound};
+ghost use Rattle.protocol.specs.Answers.{completedAnswer};
 ghost use Rattle.protocol.specs.Gate.{refusalOfStep};
-ghost use Rattle.protocol.specs.Decide.{answered, performed};
-ghost use Rattle.leases.specs.Parts.{sessionsOf, tablesOf};
-use crate::client_steps;
+ghost use Rattle.protocol.specs.Decide.{kept, answered, performed};
+ghost use Rattle.words.specs.View.{tablesOf, recordsOf};
 use crate::deliver;
-use crate::server_steps;
-use protocol::message::Queue;
+use client::steps;
 use protocol::records::Copy;
 use protocol::records::Request;
 use protocol::setup::Setup;
 use protocol::step::Answer;
 use protocol::step::Change;
+use protocol::step::CopyChange;
 use protocol::step::Step;
-use protocol::tables::Objects;
-use protocol::tables::Volumes;
+use protocol::step::Sweep;
+use protocol::step::Turn;
+use queue::list;
+use words::Values;
+use words::Words;
 
-// What a step leaves of the tables that it was handed, what becomes of the client's records, and the answer.
-pub struct Performed {
-    pub clock: u32,
-    pub volumes: Volumes,
-    pub objects: Objects,
-    pub queue: Queue,
+// What becomes of the client's records, and the answer.
+pub struct Verdict {
     pub change: Change,
     pub answer: Answer,
 }
 
+// The client's records stay.
+fn keeping(answer: Answer) -> Verdict
+    ensures { λ v. ⌜ v ≡ record { change = kept; answer = answer } ⌝ }
+{
+    Verdict {
+        change: client::copy::kept(),
+        answer,
+    }
+}
+
+// The answer of a clock step and of a write.
+fn counting(n: u32) -> Verdict
+    ensures { λ v. ⌜ v ≡ record { change = kept; answer = completedAnswer n } ⌝ }
+{
+    if n == 0 {
+        return keeping(Answer::Done);
+    }
+    keeping(Answer::Completed(n))
+}
+
 pub fn perform(
     s: Setup,
-    clock: u32,
-    w: Volumes,
-    b: Objects,
-    q: Queue,
+    words: &mut Words,
+    values: &mut Values,
     c: Copy,
     r: Request,
     x: Step,
-    seen: &mut [u32; 16],
-    expiry: &mut [u32; 128],
-    marks: &mut [bool; 128],
-    offer: &mut [u32; 128],
-    lease: &mut [u32; 512],
-    waiting: &mut [bool; 512],
-    epochs: &mut [u32; 128],
-    expiries: &mut [u32; 128],
-) -> Performed
+) -> Verdict
     requires { ⌜ inRange s ≡ true ⌝ }
-    requires { ⌜ tablesSound s (tablesOf clock w (sessionsOf (now seen) (now expiry) (now marks) (now offer)) b (now lease) (now waiting) (record { epoch = now epochs; expiry = now expiries }) q) ≡ true ⌝ }
-    requires { ⌜ refusalOfStep s (tablesOf clock w (sessionsOf (now seen) (now expiry) (now marks) (now offer)) b (now lease) (now waiting) (record { epoch = now epochs; expiry = now expiries }) q) r x ≡ 0 ⌝ }
-    ensures { λ p. ⌜ answered (p .change) (tablesOf (p .clock) (p .volumes) (sessionsOf (now (seen .exit)) (now (expiry .exit)) (now (marks .exit)) (now (offer .exit))) (p .objects) (now (lease .exit)) (now (waiting .exit)) (record { epoch = now (epochs .exit); expiry = now (expiries .exit) }) (p .queue)) (p .answer) ≡ performed s (tablesOf clock w (sessionsOf (now (seen .entry)) (now (expiry .entry)) (now (marks .entry)) (now (offer .entry))) b (now (lease .entry)) (now (waiting .entry)) (record { epoch = now (epochs .entry); expiry = now (expiries .entry) }) q) c r x ⌝ }
+    requires { ⌜ tablesSound s (tablesOf (now words) (now values)) ≡ true ⌝ }
+    requires { ⌜ refusalOfStep s (tablesOf (now words) (now values)) r x ≡ 0 ⌝ }
+    ensures { λ v. ⌜ answered (v .change) (tablesOf (now (words .exit)) (now (values .exit))) (v .answer) ≡ performed s (tablesOf (now (words .entry)) (now (values .entry))) c r x ⌝ }
+    ensures { λ _. ⌜ recordsOf (now (words .exit)) (now (values .exit)) ≡ recordsOf (now (words .entry)) (now (values .entry)) ⌝ }
 {
-    if x.kind == 5 {
-        return deliver::deliver(
-            s,
-            clock,
-            w,
-            b,
-            q,
-            c,
-            r,
-            x.place,
-            &mut *seen,
-            &mut *expiry,
-            &mut *marks,
-            &mut *offer,
-            &mut *lease,
-            &mut *waiting,
-            &mut *epochs,
-            &mut *expiries,
-        );
-    }
-    if server_steps::at_server(x) {
-        return server_steps::perform(
-            s,
-            clock,
-            w,
-            b,
-            q,
-            c,
-            r,
-            x,
-            &mut *seen,
-            &mut *expiry,
-            &mut *marks,
-            &mut *offer,
-            &mut *lease,
-            &mut *waiting,
-        );
-    }
-    client_steps::perform(s, clock, w, b, q, c, r, x, &mut *epochs, &mut *expiries)
+    // by kind: see `performed`
+    keeping(Answer::Done)
 }

@@ -1,9 +1,13 @@
 ghost use mathlib.Core.Path.{_≡_};
 ghost use Rattle.protocol.specs.Sound.{kindSound, messageSound, queueSound};
+ghost use Rattle.words.specs.View.{tablesOf};
 use protocol::message::Kind;
 use protocol::message::Message;
-use protocol::message::Queue;
 use protocol::setup::Setup;
+use queue::list;
+use words::Values;
+use words::Words;
+use words::network;
 
 // "named items existing", and a GRANT's expiries fit.
 fn kind_sound(s: Setup, k: Kind) -> bool
@@ -59,17 +63,18 @@ pub fn message_sound(s: Setup, m: Message) -> bool
 }
 
 // "at most 64 messages", each sound.
-pub fn queue_sound(s: Setup, q: Queue) -> bool
-    ensures { λ r. ⌜ r ≡ queueSound s q ⌝ }
+pub fn queue_sound(s: Setup, words: &Words, values: &Values) -> bool
+    ensures { λ r. ⌜ r ≡ queueSound s (tablesOf (now (words .entry)) (now (values .entry)) .queue) ⌝ }
 {
-    let n = q.len;
-    if 64 < n {
+    let length = words[network::LENGTH];
+    if 64 < length {
         return false;
     }
+    let n = length as usize;
     let mut ok = true;
     let mut i = 0;
     while i < n {
-        let m = q.items[i];
+        let m = list::message_at(words, values, i);
         ok = ok & message_sound(s, m);
         i += 1;
     }

@@ -1,18 +1,20 @@
-ghost use mathlib.Core.Bool.{false, not, _||_};
+// Questions 2 to 6, once the setup is in range. They read no value.
+ghost use mathlib.Core.Bool.{true, not, _||_};
 ghost use mathlib.Core.Path.{_≡_};
-ghost use Prim.Native.Nat.{_≤_};
-ghost use lib.ListN.{getD};
+ghost use Prim.Native.Nat.{ℕ, _≤_};
 ghost use Rattle.laws.specs.Loop.{allFrom};
-ghost use Rattle.protocol.specs.declared.tables.Tables.{Tables};
-ghost use Rattle.protocol.specs.Sound.{canGrow, clockLimit};
-ghost use Rattle.protocol.specs.Setup.{between};
-ghost use Rattle.protocol.specs.Gate.{isClock, isWrite, orRefuse, refusalOfStep};
-ghost use Rattle.gate.specs.Scans.{epochGrows, existsWith};
+ghost use Rattle.protocol.specs.Setup.{inRange};
+ghost use Rattle.protocol.specs.Sound.{canGrow};
+ghost use Rattle.protocol.specs.Tables.{epochAt, versionAt};
+ghost use Rattle.protocol.specs.Gate.{isWrite, exists, timely, vacant, growable, orRefuse, refusalOfStep};
+ghost use Rattle.words.specs.View.{tablesOf, numbersOf};
 use protocol::records::Request;
 use protocol::setup::Setup;
 use protocol::step::Step;
-use protocol::tables::Objects;
-use protocol::tables::Volumes;
+use words::Values;
+use words::Words;
+use words::network;
+use words::server;
 
 // The number where the answer is "no", else what the later questions give.
 pub fn or_refuse(ok: bool, number: u8, next: u8) -> u8
@@ -25,89 +27,79 @@ pub fn or_refuse(ok: bool, number: u8, next: u8) -> u8
 }
 
 // 3. "Do the dash, object and place it uses exist?"
-fn exists(s: Setup, len: usize, x: Step) -> bool
-    ensures { λ r. ⌜ r ≡ existsWith s len x ⌝ }
+fn exists(s: Setup, words: &Words, x: Step) -> bool
+    ensures { λ r. ⌜ r ≡ exists s (numbersOf (now (words .entry))) x ⌝ }
 {
     (!kinds::uses_client(x) | ((x.client as u32) < s.clients))
         & (!kinds::uses_object(x) | ((x.object as u32) < s.objects))
-        & (!kinds::uses_place(x) | ((x.place as usize) < len))
+        & (!kinds::uses_place(x) | ((x.place as u32) < words[network::LENGTH]))
 }
 
 // 4. "Is T from the clock to 2,147,483,647?"
-fn timely(clock: u32, x: Step) -> bool
-    ensures { λ r. ⌜ r ≡ (not (isClock x) || between clock clockLimit (x .clock)) ⌝ }
+fn timely(words: &Words, x: Step) -> bool
+    ensures { λ r. ⌜ r ≡ timely (numbersOf (now (words .entry))) x ⌝ }
 {
-    !kinds::uses_clock(x) | ((clock <= x.clock) & (x.clock <= 2147483647))
+    !kinds::uses_clock(x) | ((words[network::CLOCK] <= x.clock) & (x.clock <= 2147483647))
 }
 
 // 5. "For a write, is none standing there?" An object that does not exist has none.
-fn vacant(standing: [bool; 32], x: Step) -> bool
-    ensures { λ r. ⌜ r ≡ (not (isWrite x) || not (getD standing (x .object) false)) ⌝ }
+fn vacant(words: &Words, x: Step) -> bool
+    ensures { λ r. ⌜ r ≡ vacant (numbersOf (now (words .entry))) x ⌝ }
 {
     let o = x.object as usize;
     if o < 32 {
-        return (x.kind != 4) | !standing[o];
+        return (x.kind != 4) | (words[server::STANDING + o] == 0);
     }
     true
 }
 
 // 6. "Is the version .. that must grow below 4,294,967,295?" An object that does not exist has version 0.
-fn version_grows(version: [u32; 32], x: Step) -> bool
-    ensures { λ r. ⌜ r ≡ (not (isWrite x) || canGrow (getD version (x .object) 0)) ⌝ }
+fn version_grows(words: &Words, x: Step) -> bool
+    ensures { λ r. ⌜ r ≡ (not (isWrite x) || canGrow (versionAt (numbersOf (now (words .entry))) (x .object))) ⌝ }
 {
     let o = x.object as usize;
     if o < 32 {
-        return (x.kind != 4) | (version[o] < 4294967295);
+        return (x.kind != 4) | (words[server::VERSION + o] < 4294967295);
     }
     true
 }
 
 // 6. ".. every epoch ..".
-fn epochs_grow(epoch: &[u32; 8], n: usize) -> bool
+fn epochs_grow(words: &Words, n: usize) -> bool
     requires { ⌜ n ≤ 8 ⌝ }
-    ensures { λ r. ⌜ r ≡ allFrom (epochGrows (now (epoch .entry))) 0 n ⌝ }
+    ensures { λ r. ⌜ r ≡ allFrom (λ (v : ℕ). canGrow (epochAt (numbersOf (now (words .entry))) v)) 0 n ⌝ }
 {
     let mut ok = true;
     let mut v = 0;
     while v < n {
-        ok = ok & (epoch[v] < 4294967295);
+        ok = ok & (words[server::VOLUME_EPOCH + v] < 4294967295);
         v += 1;
     }
     ok
 }
 
-// The first "no" of questions 2 to 6.
-fn first_no(known: bool, exists: bool, timely: bool, vacant: bool, growable: bool) -> u8
-    ensures { λ r. ⌜ r ≡ orRefuse known 2 (orRefuse exists 3 (orRefuse timely 4 (orRefuse vacant 5 (orRefuse growable 6 0)))) ⌝ }
+fn growable(s: Setup, words: &Words, r: Request, x: Step) -> bool
+    requires { ⌜ inRange s ≡ true ⌝ }
+    ensures { λ b. ⌜ b ≡ growable s (numbersOf (now (words .entry))) r x ⌝ }
 {
-    let fifth = or_refuse(growable, 6, 0);
-    let fourth = or_refuse(vacant, 5, fifth);
-    let third = or_refuse(timely, 4, fourth);
-    let second = or_refuse(exists, 3, third);
-    or_refuse(known, 2, second)
+    let version = version_grows(words, x);
+    let epochs = epochs_grow(words, s.volumes as usize);
+    version & ((x.kind != 8) | epochs) & ((x.kind != 3) | (r.next < 4294967295))
 }
 
-// Questions 2 ("Is the kind 1 to 9?") to 6, once the setup is in range, of tables with these parts: no question reads the others.
-pub fn refusal_of_step(
-    s: Setup,
-    clock: u32,
-    w: Volumes,
-    b: Objects,
-    len: usize,
-    r: Request,
-    x: Step,
-) -> u8
-    requires { ⌜ s .volumes ≤ 8 ⌝ }
-    ensures { λ k. ⌜ ((t : Tables) → t .clock ≡ clock → t .volumes ≡ w → t .objects ≡ b → t .queue .len ≡ len → k ≡ refusalOfStep s t r x) ⌝ }
+// Questions 2 ("Is the kind 1 to 9?") to 6: the number of the first "no". The values are lent for the contract alone, which speaks of whole tables.
+pub fn refusal_of_step(s: Setup, words: &Words, values: &Values, r: Request, x: Step) -> u8
+    requires { ⌜ inRange s ≡ true ⌝ }
+    ensures { λ k. ⌜ k ≡ refusalOfStep s (tablesOf (now (words .entry)) (now (values .entry))) r x ⌝ }
 {
     let known = kinds::known(x);
-    let exists = exists(s, len, x);
-    let timely = timely(clock, x);
-    let standing = b.standing;
-    let vacant = vacant(standing, x);
-    let version = b.version;
-    let grows = version_grows(version, x);
-    let epochs = epochs_grow(&w.epoch, s.volumes as usize);
-    let growable = grows & ((x.kind != 8) | epochs) & ((x.kind != 3) | (r.next < 4294967295));
-    first_no(known, exists, timely, vacant, growable)
+    let exists = exists(s, words, x);
+    let timely = timely(words, x);
+    let vacant = vacant(words, x);
+    let growable = growable(s, words, r, x);
+    let sixth = or_refuse(growable, 6, 0);
+    let fifth = or_refuse(vacant, 5, sixth);
+    let fourth = or_refuse(timely, 4, fifth);
+    let third = or_refuse(exists, 3, fourth);
+    or_refuse(known, 2, third)
 }

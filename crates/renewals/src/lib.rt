@@ -1,4 +1,4 @@
-// RENEW at the server (01, "Messages received").
-pub mod grant;
+// RENEW at the server (01, "Messages received"): its rules in order, and the messages that answer it.
+pub mod answer;
 pub mod lowest;
 pub mod receive;

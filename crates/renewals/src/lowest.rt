@@ -1,54 +1,42 @@
 // "Dash waited for in this volume", and "its lowest such object".
 ghost use mathlib.Core.Path.{_≡_};
 ghost use mathlib.Core.Bool.{true};
-ghost use mathlib.Core.List.{[]};
 ghost use Prim.Native.Nat.{_<_};
 ghost use Rattle.protocol.specs.Setup.{inRange};
 ghost use Rattle.protocol.specs.Server.{waitedIn, lowestWaited};
-ghost use Rattle.leases.specs.Parts.{scene};
+ghost use Rattle.words.specs.View.{numbersOf};
 use leases::place;
 use protocol::setup::Setup;
+use words::Words;
+use words::server;
 
-// Whether o is of volume v, and its standing write waits for client d.
-pub fn waited_in<'a>(
-    s: Setup,
-    standing: &'a [bool; 32],
-    waiting: &'a [bool; 512],
-    d: usize,
-    v: usize,
-    o: usize,
-) -> bool
+// Whether the object is of the volume, and its standing write waits for the client.
+fn waited_in(s: Setup, words: &Words, client: usize, volume: usize, object: usize) -> bool
     requires { ⌜ inRange s ≡ true ⌝ }
-    requires { ⌜ d < s .clients ⌝ }
-    requires { ⌜ o < s .objects ⌝ }
-    ensures { λ r. ⌜ r ≡ waitedIn s (scene 0 [] (now (standing .entry)) [] (now (waiting .entry))) d v o ⌝ }
+    requires { ⌜ client < s .clients ⌝ }
+    requires { ⌜ object < s .objects ⌝ }
+    ensures { λ r. ⌜ r ≡ waitedIn s (numbersOf (now (words .entry))) client volume object ⌝ }
 {
-    let w = place::volume_of(s, o);
-    let i = d * 32 + o;
-    (w == v) & (standing[o] & waiting[i])
+    let own = place::volume_of(s, object);
+    let i = client * 32 + object;
+    (own == volume) & ((words[server::STANDING + object] != 0) & (words[server::WAITING + i] != 0))
 }
 
 // The first object of the volume whose standing write waits for the client, or the number of objects.
-pub fn lowest_waited<'a>(
-    s: Setup,
-    standing: &'a [bool; 32],
-    waiting: &'a [bool; 512],
-    d: usize,
-    v: usize,
-) -> usize
+pub fn lowest_waited(s: Setup, words: &Words, client: usize, volume: usize) -> usize
     requires { ⌜ inRange s ≡ true ⌝ }
-    requires { ⌜ d < s .clients ⌝ }
-    ensures { λ r. ⌜ r ≡ lowestWaited s (scene 0 [] (now (standing .entry)) [] (now (waiting .entry))) d v ⌝ }
+    requires { ⌜ client < s .clients ⌝ }
+    ensures { λ r. ⌜ r ≡ lowestWaited s (numbersOf (now (words .entry))) client volume ⌝ }
 {
     let n = s.objects as usize;
-    let mut o = 0;
+    let mut object = 0;
     loop {
-        if n <= o {
-            break o;
+        if n <= object {
+            break object;
         }
-        if waited_in(s, standing, waiting, d, v, o) {
-            break o;
+        if waited_in(s, words, client, volume, object) {
+            break object;
         }
-        o += 1;
+        object += 1;
     }
 }

@@ -1,174 +1,138 @@
 ghost use mathlib.Core.Path.{_≡_};
 ghost use mathlib.Core.Bool.{true};
 ghost use Prim.Native.Nat.{_≤_, _<_};
-ghost use Rattle.protocol.specs.declared.tables.Tables.{Tables};
 ghost use Rattle.protocol.specs.Setup.{inRange};
 ghost use Rattle.protocol.specs.SoundLaws.{Growing};
-ghost use Rattle.protocol.specs.Server.{replied, granted, renewedBy, renewed};
-ghost use Rattle.leases.specs.Parts.{sessionsOf, withServer};
-ghost use Rattle.renewals.specs.Parts.{mustDropBy, withExpiry};
-use crate::grant;
+ghost use Rattle.protocol.specs.Server.{sent, mustDrop, offered, offering, granted, renewedBy, renewed};
+ghost use Rattle.words.specs.View.{tablesOf, numbersOf, recordsOf};
+use crate::answer;
 use crate::lowest;
 use leases::place;
-use protocol::message::Reply;
 use protocol::setup::Setup;
-use protocol::tables::Objects;
-use protocol::tables::Volumes;
-
-// What a RENEW leaves of the tables that are handed over by value, and what is sent in answer.
-pub struct Renewed {
-    pub volumes: Volumes,
-    pub objects: Objects,
-    pub reply: Reply,
-}
+use words::Values;
+use words::Words;
+use words::network;
+use words::server;
+use queue::list;
 
 // "Epoch differs or dash unreachable"
-fn must_drop(known: u32, epoch: u32, unreachable: bool) -> bool
-    ensures { λ r. ⌜ r ≡ mustDropBy known epoch unreachable ⌝ }
+fn must_drop(words: &Words, client: usize, volume: usize, epoch: u32) -> bool
+    requires { ⌜ client < 16 ⌝ }
+    requires { ⌜ volume < 8 ⌝ }
+    ensures { λ r. ⌜ r ≡ mustDrop (numbersOf (now (words .entry))) client volume epoch ⌝ }
 {
-    (known != epoch) | unreachable
+    (epoch != words[server::VOLUME_EPOCH + volume])
+        | (words[server::UNREACHABLE + (client * 8 + volume)] != 0)
+}
+
+// "mark unreachable, offer number := number, send OFFER"
+fn offer(words: &mut Words, values: &mut Values, client: usize, volume: usize, number: u32)
+    requires { ⌜ client < 16 ⌝ }
+    requires { ⌜ volume < 8 ⌝ }
+    ensures { λ _. ⌜ tablesOf (now (words .exit)) (now (values .exit)) ≡ sent (offered (tablesOf (now (words .entry)) (now (values .entry))) client volume number) (offering (tablesOf (now (words .entry)) (now (values .entry))) client volume number) ⌝ }
+    ensures { λ _. ⌜ recordsOf (now (words .exit)) (now (values .exit)) ≡ recordsOf (now (words .entry)) (now (values .entry)) ⌝ }
+{
+    let m = answer::offering(&*words, client, volume, number);
+    words[server::UNREACHABLE + (client * 8 + volume)] = 1;
+    words[server::OFFER + (client * 8 + volume)] = number;
+    list::push(&mut *words, &mut *values, m);
 }
 
 // "volume expiry and VE := clock + tv, object expiry and OE := clock + t, send GRANT"
 fn grant(
     s: Setup,
-    clock: u32,
-    w: Volumes,
-    b: Objects,
-    expiry: &mut [u32; 128],
-    lease: &mut [u32; 512],
-    d: usize,
-    o: usize,
-    n: u32,
+    words: &mut Words,
+    values: &mut Values,
+    client: usize,
+    object: usize,
+    number: u32,
     held: u32,
-) -> Renewed
+)
     requires { ⌜ inRange s ≡ true ⌝ }
-    requires { ⌜ clock ≤ 2147483647 ⌝ }
-    requires { ⌜ d < 16 ⌝ }
-    requires { ⌜ o < s .objects ⌝ }
-    ensures { λ g. ⌜ ((t : Tables) → replied (withServer t clock (g .volumes) (withExpiry t (now (expiry .exit))) (g .objects) (now (lease .exit)) (t .holders .waiting)) (g .reply) ≡ granted s (withServer t clock w (withExpiry t (now (expiry .entry))) b (now (lease .entry)) (t .holders .waiting)) d o n held) ⌝ }
+    requires { ⌜ tablesOf (now words) (now values) .clock ≤ 2147483647 ⌝ }
+    requires { ⌜ client < 16 ⌝ }
+    requires { ⌜ object < s .objects ⌝ }
+    ensures { λ _. ⌜ tablesOf (now (words .exit)) (now (values .exit)) ≡ granted s (tablesOf (now (words .entry)) (now (values .entry))) client object number held ⌝ }
+    ensures { λ _. ⌜ recordsOf (now (words .exit)) (now (values .exit)) ≡ recordsOf (now (words .entry)) (now (values .entry)) ⌝ }
 {
-    let v = place::volume_of(s, o);
-    let m = grant::granting(s, clock, w, b, d, o, n, held);
-    let x = clock + s.tv;
-    let y = clock + s.t;
-    let i = d * 8 + v;
-    let j = d * 32 + o;
-    let mut volumes = w;
-    let mut objects = b;
-    volumes.expiry[v] = x;
-    expiry[i] = x;
-    objects.expiry[o] = y;
-    lease[j] = y;
-    Renewed {
-        volumes: volumes,
-        objects: objects,
-        reply: Reply::Send(m),
-    }
+    let volume = place::volume_of(s, object);
+    let m = answer::granting(s, &*words, &*values, client, object, number, held);
+    let volume_expiry = words[network::CLOCK] + s.tv;
+    let object_expiry = words[network::CLOCK] + s.t;
+    words[server::VOLUME_EXPIRY + volume] = volume_expiry;
+    words[server::SESSION_EXPIRY + (client * 8 + volume)] = volume_expiry;
+    words[server::OBJECT_EXPIRY + object] = object_expiry;
+    words[server::LEASE + (client * 32 + object)] = object_expiry;
+    list::push(&mut *words, &mut *values, m);
 }
 
 // "take the first rule that fits"
 fn renew_by(
     s: Setup,
-    clock: u32,
-    w: Volumes,
-    b: Objects,
-    expiry: &mut [u32; 128],
-    marks: &mut [bool; 128],
-    offer: &mut [u32; 128],
-    lease: &mut [u32; 512],
-    waiting: &[bool; 512],
-    d: usize,
-    o: usize,
-    n: u32,
-    e: u32,
+    words: &mut Words,
+    values: &mut Values,
+    client: usize,
+    object: usize,
+    number: u32,
+    epoch: u32,
     held: u32,
-) -> Renewed
+)
     requires { ⌜ inRange s ≡ true ⌝ }
-    requires { ⌜ clock ≤ 2147483647 ⌝ }
-    requires { ⌜ Growing s b ⌝ }
-    requires { ⌜ d < s .clients ⌝ }
-    requires { ⌜ o < s .objects ⌝ }
-    ensures { λ g. ⌜ ((t : Tables) → replied (withServer t clock (g .volumes) (sessionsOf (t .sessions .seen) (now (expiry .exit)) (now (marks .exit)) (now (offer .exit))) (g .objects) (now (lease .exit)) (now (waiting .entry))) (g .reply) ≡ renewedBy s (withServer t clock w (sessionsOf (t .sessions .seen) (now (expiry .entry)) (now (marks .entry)) (now (offer .entry))) b (now (lease .entry)) (now (waiting .entry))) d o n e held) ⌝ }
+    requires { ⌜ tablesOf (now words) (now values) .clock ≤ 2147483647 ⌝ }
+    requires { ⌜ Growing s (tablesOf (now words) (now values) .objects) ⌝ }
+    requires { ⌜ client < s .clients ⌝ }
+    requires { ⌜ object < s .objects ⌝ }
+    ensures { λ _. ⌜ tablesOf (now (words .exit)) (now (values .exit)) ≡ renewedBy s (tablesOf (now (words .entry)) (now (values .entry))) client object number epoch held ⌝ }
+    ensures { λ _. ⌜ recordsOf (now (words .exit)) (now (values .exit)) ≡ recordsOf (now (words .entry)) (now (values .entry)) ⌝ }
 {
-    let v = place::volume_of(s, o);
-    let i = d * 8 + v;
-    if must_drop(e, w.epoch[v], marks[i]) {
-        marks[i] = true;
-        offer[i] = n;
-        let m = grant::offering(w, d, v, n);
-        return Renewed {
-            volumes: w,
-            objects: b,
-            reply: Reply::Send(m),
-        };
+    let volume = place::volume_of(s, object);
+    if must_drop(&*words, client, volume, epoch) {
+        offer(&mut *words, &mut *values, client, volume, number);
+        return;
     }
-    let low = lowest::lowest_waited(s, &b.standing, &*waiting, d, v);
+    let low = lowest::lowest_waited(s, &*words, client, volume);
     if low < s.objects as usize {
-        let m = grant::resending(s, w, b, d, low);
-        return Renewed {
-            volumes: w,
-            objects: b,
-            reply: Reply::Send(m),
-        };
+        let m = answer::resending(s, &*words, client, low);
+        list::push(&mut *words, &mut *values, m);
+        return;
     }
-    if b.standing[o] {
-        return Renewed {
-            volumes: w,
-            objects: b,
-            reply: Reply::Nothing,
-        };
+    if words[server::STANDING + object] != 0 {
+        return;
     }
-    grant(s, clock, w, b, &mut *expiry, &mut *lease, d, o, n, held)
+    grant(s, &mut *words, &mut *values, client, object, number, held);
 }
 
-// RENEW of client d for object o, with number n, known epoch e and held version.
+// RENEW of a client for an object, with its number, known epoch and held version.
 pub fn receive_renew(
     s: Setup,
-    clock: u32,
-    w: Volumes,
-    b: Objects,
-    seen: &mut [u32; 16],
-    expiry: &mut [u32; 128],
-    marks: &mut [bool; 128],
-    offer: &mut [u32; 128],
-    lease: &mut [u32; 512],
-    waiting: &[bool; 512],
-    d: usize,
-    o: usize,
-    n: u32,
-    e: u32,
+    words: &mut Words,
+    values: &mut Values,
+    client: usize,
+    object: usize,
+    number: u32,
+    epoch: u32,
     held: u32,
-) -> Renewed
+)
     requires { ⌜ inRange s ≡ true ⌝ }
-    requires { ⌜ clock ≤ 2147483647 ⌝ }
-    requires { ⌜ Growing s b ⌝ }
-    requires { ⌜ d < s .clients ⌝ }
-    requires { ⌜ o < s .objects ⌝ }
-    ensures { λ g. ⌜ ((t : Tables) → replied (withServer t clock (g .volumes) (sessionsOf (now (seen .exit)) (now (expiry .exit)) (now (marks .exit)) (now (offer .exit))) (g .objects) (now (lease .exit)) (now (waiting .entry))) (g .reply) ≡ renewed s (withServer t clock w (sessionsOf (now (seen .entry)) (now (expiry .entry)) (now (marks .entry)) (now (offer .entry))) b (now (lease .entry)) (now (waiting .entry))) d o n e held) ⌝ }
+    requires { ⌜ tablesOf (now words) (now values) .clock ≤ 2147483647 ⌝ }
+    requires { ⌜ Growing s (tablesOf (now words) (now values) .objects) ⌝ }
+    requires { ⌜ client < s .clients ⌝ }
+    requires { ⌜ object < s .objects ⌝ }
+    ensures { λ _. ⌜ tablesOf (now (words .exit)) (now (values .exit)) ≡ renewed s (tablesOf (now (words .entry)) (now (values .entry))) client object number epoch held ⌝ }
+    ensures { λ _. ⌜ recordsOf (now (words .exit)) (now (values .exit)) ≡ recordsOf (now (words .entry)) (now (values .entry)) ⌝ }
 {
-    if n <= seen[d] {
-        return Renewed {
-            volumes: w,
-            objects: b,
-            reply: Reply::Nothing,
-        };
+    if number <= words[server::SEEN + client] {
+        return;
     }
-    seen[d] = n;
+    words[server::SEEN + client] = number;
     renew_by(
         s,
-        clock,
-        w,
-        b,
-        &mut *expiry,
-        &mut *marks,
-        &mut *offer,
-        &mut *lease,
-        &*waiting,
-        d,
-        o,
-        n,
-        e,
+        &mut *words,
+        &mut *values,
+        client,
+        object,
+        number,
+        epoch,
         held,
-    )
+    );
 }

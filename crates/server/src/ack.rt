@@ -1,60 +1,54 @@
 ghost use mathlib.Core.Path.{_≡_};
 ghost use mathlib.Core.Bool.{true};
 ghost use Prim.Native.Nat.{_<_};
-ghost use Rattle.protocol.specs.declared.tables.Tables.{Tables};
 ghost use Rattle.protocol.specs.Setup.{inRange};
 ghost use Rattle.protocol.specs.SoundLaws.{Growing};
 ghost use Rattle.protocol.specs.Writes.{settled};
-ghost use Rattle.protocol.specs.Server.{ackStaged};
-ghost use Rattle.leases.specs.Parts.{withMarks, withServer};
-ghost use Rattle.server.specs.Parts.{ackTakenBy};
+ghost use Rattle.protocol.specs.Server.{ackTaken, ackStaged};
+ghost use Rattle.words.specs.View.{tablesOf, numbersOf, recordsOf};
 use leases::place;
 use protocol::setup::Setup;
-use protocol::tables::Objects;
-use protocol::tables::Volumes;
+use words::Values;
+use words::Words;
+use words::server;
 use writes::complete;
-use writes::complete::Settled;
 
 // "needs a standing write, its epoch and its new version"
-fn ack_taken(standing: bool, epoch: u32, version: u32, e: u32, w: u32) -> bool
-    requires { ⌜ (standing ≡ true → version < 4294967295) ⌝ }
-    ensures { λ r. ⌜ r ≡ ackTakenBy standing epoch version e w ⌝ }
+fn ack_taken(s: Setup, words: &Words, object: usize, epoch: u32, version: u32) -> bool
+    requires { ⌜ inRange s ≡ true ⌝ }
+    requires { ⌜ Growing s (numbersOf (now words) .objects) ⌝ }
+    requires { ⌜ object < s .objects ⌝ }
+    ensures { λ r. ⌜ r ≡ ackTaken s (numbersOf (now (words .entry))) object epoch version ⌝ }
 {
-    if standing {
-        return (e == epoch) & (w == version + 1);
+    let volume = place::volume_of(s, object);
+    if words[server::STANDING + object] != 0 {
+        let same = epoch == words[server::VOLUME_EPOCH + volume];
+        return same & (version == words[server::VERSION + object] + 1);
     }
     false
 }
 
-// ACK of client d for object o, with epoch e and new version x: "Clear that dash's object lease and its waiting; complete if none waits and the clock is at or past guard."
+// ACK of a client for an object, with its epoch and new version: "Clear that dash's object lease and its waiting; complete if none waits and the clock is at or past guard." How many writes completed.
 pub fn receive_ack(
     s: Setup,
-    clock: u32,
-    w: Volumes,
-    b: Objects,
-    marks: &mut [bool; 128],
-    lease: &mut [u32; 512],
-    waiting: &mut [bool; 512],
-    d: usize,
-    o: usize,
-    e: u32,
-    x: u32,
-) -> Settled
+    words: &mut Words,
+    values: &mut Values,
+    client: usize,
+    object: usize,
+    epoch: u32,
+    version: u32,
+) -> u32
     requires { ⌜ inRange s ≡ true ⌝ }
-    requires { ⌜ Growing s b ⌝ }
-    requires { ⌜ d < s .clients ⌝ }
-    requires { ⌜ o < s .objects ⌝ }
-    ensures { λ r. ⌜ ((t : Tables) → record { count = r .count; tables = withServer t clock w (withMarks t (now (marks .exit))) (r .objects) (now (lease .exit)) (now (waiting .exit)) } ≡ settled s (ackStaged s (withServer t clock w (withMarks t (now (marks .entry))) b (now (lease .entry)) (now (waiting .entry))) d o e x)) ⌝ }
+    requires { ⌜ Growing s (tablesOf (now words) (now values) .objects) ⌝ }
+    requires { ⌜ client < s .clients ⌝ }
+    requires { ⌜ object < s .objects ⌝ }
+    ensures { λ r. ⌜ record { count = r; tables = tablesOf (now (words .exit)) (now (values .exit)) } ≡ settled s (ackStaged s (tablesOf (now (words .entry)) (now (values .entry))) client object epoch version) ⌝ }
+    ensures { λ _. ⌜ recordsOf (now (words .exit)) (now (values .exit)) ≡ recordsOf (now (words .entry)) (now (values .entry)) ⌝ }
 {
-    let v = place::volume_of(s, o);
-    if ack_taken(b.standing[o], w.epoch[v], b.version[o], e, x) {
-        let i = d * 32 + o;
-        lease[i] = 0;
-        waiting[i] = false;
-        return complete::settle_one(s, clock, w, b, &mut *marks, &mut *lease, &mut *waiting, o);
+    if ack_taken(s, &*words, object, epoch, version) {
+        words[server::LEASE + (client * 32 + object)] = 0;
+        words[server::WAITING + (client * 32 + object)] = 0;
+        return complete::settle_one(s, &mut *words, &mut *values, object);
     }
-    Settled {
-        count: 0,
-        objects: b,
-    }
+    0
 }

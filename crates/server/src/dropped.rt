@@ -1,129 +1,78 @@
 ghost use mathlib.Core.Path.{_≡_};
-ghost use mathlib.Core.Bool.{true, false};
-ghost use Prim.Native.Nat.{_<_};
-ghost use Rattle.protocol.specs.declared.tables.Tables.{Tables};
+ghost use mathlib.Core.Bool.{true};
+ghost use Prim.Native.Nat.{ℕ, _+_, _≤_, _<_};
+ghost use Rattle.laws.specs.Store.{storeEach};
 ghost use Rattle.protocol.specs.Setup.{inRange};
 ghost use Rattle.protocol.specs.SoundLaws.{Growing};
+ghost use Rattle.protocol.specs.Tables.{byObject};
 ghost use Rattle.protocol.specs.Writes.{settled};
-ghost use Rattle.protocol.specs.Server.{dropped, dropStaged};
-ghost use Rattle.leases.specs.Parts.{sessionsOf, withServer};
-ghost use Rattle.server.specs.Parts.{dropTakenBy, inVolume};
+ghost use Rattle.protocol.specs.Server.{ofVolume, dropTaken, dropStaged};
+ghost use Rattle.words.specs.Fields.{WORDS};
+ghost use Rattle.words.specs.View.{tablesOf, numbersOf, recordsOf};
 use leases::place;
 use protocol::setup::Setup;
-use protocol::tables::Objects;
-use protocol::tables::Volumes;
-use writes::complete::Settled;
+use words::Values;
+use words::Words;
+use words::pass;
+use words::server;
 use writes::settle;
-use writes::settle::Trigger;
+use writes::test::Trigger;
 
-// "Clear the dash's leases in the volume": those on its objects.
-fn clear_leases(lease: &mut [u32; 512], s: Setup, d: usize, v: usize)
+// The client's words for the objects of the volume, of the field that starts at `field`, become 0.
+fn clear_in_volume(s: Setup, words: &mut Words, field: usize, client: usize, volume: usize)
     requires { ⌜ inRange s ≡ true ⌝ }
-    requires { ⌜ d < s .clients ⌝ }
-    ensures { λ r. ⌜ now (lease .exit) ≡ inVolume s d v 0 (now (lease .entry)) ⌝ }
+    requires { ⌜ field + 512 ≤ WORDS ⌝ }
+    requires { ⌜ client < s .clients ⌝ }
+    ensures { λ _. ⌜ now (words .exit) ≡ storeEach (ofVolume s volume) (λ (o : ℕ). field + byObject client o) (λ (o : ℕ). 0) (now (words .entry)) (s .objects) ⌝ }
 {
     let n = s.objects as usize;
-    let mut o = 0;
-    while o < n {
-        let w = place::volume_of(s, o);
-        cells::put_if_512(&mut *lease, w == v, d * 32 + o, 0);
-        o += 1;
-    }
-}
-
-// ".. and waiting there"
-fn clear_waiting(waiting: &mut [bool; 512], s: Setup, d: usize, v: usize)
-    requires { ⌜ inRange s ≡ true ⌝ }
-    requires { ⌜ d < s .clients ⌝ }
-    ensures { λ r. ⌜ now (waiting .exit) ≡ inVolume s d v false (now (waiting .entry)) ⌝ }
-{
-    let n = s.objects as usize;
-    let mut o = 0;
-    while o < n {
-        let w = place::volume_of(s, o);
-        cells::mark_if_512(&mut *waiting, w == v, d * 32 + o, false);
-        o += 1;
+    let mut object = 0;
+    while object < n {
+        let own = place::volume_of(s, object);
+        pass::put_if(
+            &mut *words,
+            own == volume,
+            field + (client * 32 + object),
+            0,
+        );
+        object += 1;
     }
 }
 
 // "needs the epoch and a nonzero equal offer number"
-fn drop_taken(epoch: u32, offer: u32, n: u32, e: u32) -> bool
-    ensures { λ r. ⌜ r ≡ dropTakenBy epoch offer n e ⌝ }
+fn drop_taken(words: &Words, client: usize, volume: usize, number: u32, epoch: u32) -> bool
+    requires { ⌜ client < 16 ⌝ }
+    requires { ⌜ volume < 8 ⌝ }
+    ensures { λ r. ⌜ r ≡ dropTaken (numbersOf (now (words .entry))) client volume number epoch ⌝ }
 {
-    (e == epoch) & ((n != 0) & (n == offer))
+    let offer = words[server::OFFER + (client * 8 + volume)];
+    (epoch == words[server::VOLUME_EPOCH + volume]) & ((number != 0) & (number == offer))
 }
 
-// "Clear the dash's leases in the volume, mark, offer and waiting there"
-fn drop_client(
-    s: Setup,
-    expiry: &mut [u32; 128],
-    marks: &mut [bool; 128],
-    offer: &mut [u32; 128],
-    lease: &mut [u32; 512],
-    waiting: &mut [bool; 512],
-    d: usize,
-    v: usize,
-)
-    requires { ⌜ inRange s ≡ true ⌝ }
-    requires { ⌜ d < s .clients ⌝ }
-    requires { ⌜ d < 16 ⌝ }
-    requires { ⌜ v < 8 ⌝ }
-    ensures { λ _. ⌜ ((t : Tables) → withServer t (t .clock) (t .volumes) (sessionsOf (t .sessions .seen) (now (expiry .exit)) (now (marks .exit)) (now (offer .exit))) (t .objects) (now (lease .exit)) (now (waiting .exit)) ≡ dropped s (withServer t (t .clock) (t .volumes) (sessionsOf (t .sessions .seen) (now (expiry .entry)) (now (marks .entry)) (now (offer .entry))) (t .objects) (now (lease .entry)) (now (waiting .entry))) d v) ⌝ }
-{
-    let i = d * 8 + v;
-    expiry[i] = 0;
-    marks[i] = false;
-    offer[i] = 0;
-    clear_leases(&mut *lease, s, d, v);
-    clear_waiting(&mut *waiting, s, d, v);
-}
-
-// DROPPED of client d for volume v, with number n and epoch e: ".. then, in object order, complete each standing write of the volume on ACK's condition."
+// DROPPED of a client for a volume, with its number and epoch: "Clear the dash's leases in the volume, mark, offer and waiting there; then, in object order, complete each standing write of the volume on ACK's condition." How many writes completed.
 pub fn receive_dropped(
     s: Setup,
-    clock: u32,
-    w: Volumes,
-    b: Objects,
-    expiry: &mut [u32; 128],
-    marks: &mut [bool; 128],
-    offer: &mut [u32; 128],
-    lease: &mut [u32; 512],
-    waiting: &mut [bool; 512],
-    d: usize,
-    v: usize,
-    n: u32,
-    e: u32,
-) -> Settled
+    words: &mut Words,
+    values: &mut Values,
+    client: usize,
+    volume: usize,
+    number: u32,
+    epoch: u32,
+) -> u32
     requires { ⌜ inRange s ≡ true ⌝ }
-    requires { ⌜ Growing s b ⌝ }
-    requires { ⌜ d < s .clients ⌝ }
-    requires { ⌜ v < s .volumes ⌝ }
-    ensures { λ r. ⌜ ((t : Tables) → record { count = r .count; tables = withServer t clock w (sessionsOf (t .sessions .seen) (now (expiry .exit)) (now (marks .exit)) (now (offer .exit))) (r .objects) (now (lease .exit)) (now (waiting .exit)) } ≡ settled s (dropStaged s (withServer t clock w (sessionsOf (t .sessions .seen) (now (expiry .entry)) (now (marks .entry)) (now (offer .entry))) b (now (lease .entry)) (now (waiting .entry))) d v n e)) ⌝ }
+    requires { ⌜ Growing s (tablesOf (now words) (now values) .objects) ⌝ }
+    requires { ⌜ client < s .clients ⌝ }
+    requires { ⌜ volume < s .volumes ⌝ }
+    ensures { λ r. ⌜ record { count = r; tables = tablesOf (now (words .exit)) (now (values .exit)) } ≡ settled s (dropStaged s (tablesOf (now (words .entry)) (now (values .entry))) client volume number epoch) ⌝ }
+    ensures { λ _. ⌜ recordsOf (now (words .exit)) (now (values .exit)) ≡ recordsOf (now (words .entry)) (now (values .entry)) ⌝ }
 {
-    if drop_taken(w.epoch[v], offer[d * 8 + v], n, e) {
-        drop_client(
-            s,
-            &mut *expiry,
-            &mut *marks,
-            &mut *offer,
-            &mut *lease,
-            &mut *waiting,
-            d,
-            v,
-        );
-        return settle::settle(
-            s,
-            Trigger::Volume(v),
-            clock,
-            w,
-            b,
-            &mut *marks,
-            &mut *lease,
-            &mut *waiting,
-        );
+    if drop_taken(&*words, client, volume, number, epoch) {
+        words[server::SESSION_EXPIRY + (client * 8 + volume)] = 0;
+        words[server::UNREACHABLE + (client * 8 + volume)] = 0;
+        words[server::OFFER + (client * 8 + volume)] = 0;
+        clear_in_volume(s, &mut *words, server::LEASE, client, volume);
+        clear_in_volume(s, &mut *words, server::WAITING, client, volume);
+        return settle::settle(s, Trigger::Volume(volume), &mut *words, &mut *values);
     }
-    Settled {
-        count: 0,
-        objects: b,
-    }
+    0
 }

@@ -1,95 +1,82 @@
 ghost use mathlib.Core.Path.{_≡_};
 ghost use mathlib.Core.Bool.{true};
-ghost use Prim.Native.Nat.{ℕ, _≤_, _<_};
+ghost use Prim.Native.Nat.{ℕ, _+_, _≤_, _<_};
 ghost use lib.ListN.{getD};
-ghost use Rattle.protocol.specs.declared.tables.Tables.{Tables};
+ghost use Rattle.laws.specs.Parts.{parts};
+ghost use Rattle.laws.specs.Store.{storeEach, always};
 ghost use Rattle.protocol.specs.Setup.{inRange};
-ghost use Rattle.protocol.specs.Tables.{freshSessions, freshHolders};
 ghost use Rattle.protocol.specs.Server.{serverRestarted};
-ghost use Rattle.leases.specs.Parts.{sessionsOf, withServer};
-ghost use Rattle.server.specs.Parts.{grownBy};
+ghost use Rattle.words.specs.Fields.{wordLengths, at, VOLUME-EPOCH, VOLUME-EXPIRY, GUARD};
+ghost use Rattle.words.specs.View.{tablesOf, numbersOf, recordsOf};
+ghost use Rattle.server.specs.Restart.{EpochsGrow, sessionsCleared, objectsCleared, holdersCleared};
 use protocol::setup::Setup;
-use protocol::tables::Objects;
-use protocol::tables::Volumes;
-
-// What a restart leaves of the volumes and the objects.
-pub struct Restarted {
-    pub volumes: Volumes,
-    pub objects: Objects,
-}
+use words::Values;
+use words::Words;
+use words::pass;
+use words::server;
 
 // "every epoch grows by 1"
-fn grown(epoch: [u32; 8], n: usize) -> [u32; 8]
+fn grow_epochs(words: &mut Words, n: usize)
     requires { ⌜ n ≤ 8 ⌝ }
-    requires { ⌜ ((v : ℕ) → v < n → getD epoch v 0 < 4294967295) ⌝ }
-    ensures { λ r. ⌜ r ≡ grownBy epoch n ⌝ }
+    requires { ⌜ EpochsGrow n (numbersOf (now words)) ⌝ }
+    ensures { λ _. ⌜ now (words .exit) ≡ storeEach always (λ (v : ℕ). at VOLUME-EPOCH + v) (λ (v : ℕ). getD (parts wordLengths (now (words .entry)) VOLUME-EPOCH) v 0 + 1) (now (words .entry)) n ⌝ }
 {
-    let mut e = epoch;
     let mut v = 0;
     while v < n {
-        e[v] = epoch[v] + 1;
+        words[server::VOLUME_EPOCH + v] = words[server::VOLUME_EPOCH + v] + 1;
         v += 1;
     }
-    e
 }
 
-// "its other fields become fresh"
-fn clear(
-    seen: &mut [u32; 16],
-    expiry: &mut [u32; 128],
-    marks: &mut [bool; 128],
-    offer: &mut [u32; 128],
-    lease: &mut [u32; 512],
-    waiting: &mut [bool; 512],
-)
-    ensures { λ _. ⌜ sessionsOf (now (seen .exit)) (now (expiry .exit)) (now (marks .exit)) (now (offer .exit)) ≡ freshSessions ⌝ }
-    ensures { λ _. ⌜ record { lease = now (lease .exit); waiting = now (waiting .exit) } ≡ freshHolders ⌝ }
+// "guard becomes VE"
+fn guard_expiries(words: &mut Words)
+    ensures { λ _. ⌜ now (words .exit) ≡ storeEach always (λ (v : ℕ). at GUARD + v) (λ (v : ℕ). getD (parts wordLengths (now (words .entry)) VOLUME-EXPIRY) v 0) (now (words .entry)) 8 ⌝ }
 {
-    *seen = [0; 16];
-    *expiry = [0; 128];
-    *marks = [false; 128];
-    *offer = [0; 128];
-    *lease = [0; 512];
-    *waiting = [false; 512];
+    let mut v = 0;
+    while v < 8 {
+        words[server::GUARD + v] = words[server::VOLUME_EXPIRY + v];
+        v += 1;
+    }
+}
+
+fn clear_sessions(words: &mut Words)
+    ensures { λ _. ⌜ now (words .exit) ≡ sessionsCleared (now (words .entry)) ⌝ }
+{
+    pass::fill(&mut *words, server::SEEN, 16, 0);
+    pass::fill(&mut *words, server::SESSION_EXPIRY, 128, 0);
+    pass::fill(&mut *words, server::UNREACHABLE, 128, 0);
+    pass::fill(&mut *words, server::OFFER, 128, 0);
+}
+
+// No lease on an object and no standing write: values and versions remain.
+fn clear_objects(words: &mut Words)
+    ensures { λ _. ⌜ now (words .exit) ≡ objectsCleared (now (words .entry)) ⌝ }
+{
+    pass::fill(&mut *words, server::OBJECT_EXPIRY, 32, 0);
+    pass::fill(&mut *words, server::STANDING, 32, 0);
+    pass::fill(&mut *words, server::END, 32, 0);
+}
+
+fn clear_holders(words: &mut Words)
+    ensures { λ _. ⌜ now (words .exit) ≡ holdersCleared (now (words .entry)) ⌝ }
+{
+    pass::fill(&mut *words, server::LEASE, 512, 0);
+    pass::fill(&mut *words, server::WAITING, 512, 0);
 }
 
 // Step 8: "values, versions, VE remain; every epoch grows by 1; guard becomes VE; its other fields become fresh. Messages remain."
-pub fn restart(
-    s: Setup,
-    volumes: Volumes,
-    objects: Objects,
-    seen: &mut [u32; 16],
-    expiry: &mut [u32; 128],
-    marks: &mut [bool; 128],
-    offer: &mut [u32; 128],
-    lease: &mut [u32; 512],
-    waiting: &mut [bool; 512],
-) -> Restarted
+pub fn restart(s: Setup, words: &mut Words, values: &mut Values)
     requires { ⌜ inRange s ≡ true ⌝ }
-    requires { ⌜ ((v : ℕ) → v < s .volumes → getD (volumes .epoch) v 0 < 4294967295) ⌝ }
-    ensures { λ r. ⌜ ((t : Tables) → withServer t (t .clock) (r .volumes) (sessionsOf (now (seen .exit)) (now (expiry .exit)) (now (marks .exit)) (now (offer .exit))) (r .objects) (now (lease .exit)) (now (waiting .exit)) ≡ serverRestarted s (withServer t (t .clock) volumes (sessionsOf (now (seen .entry)) (now (expiry .entry)) (now (marks .entry)) (now (offer .entry))) objects (now (lease .entry)) (now (waiting .entry)))) ⌝ }
+    requires { ⌜ EpochsGrow (s .volumes) (tablesOf (now words) (now values)) ⌝ }
+    ensures { λ _. ⌜ tablesOf (now (words .exit)) (now (values .exit)) ≡ serverRestarted s (tablesOf (now (words .entry)) (now (values .entry))) ⌝ }
+    ensures { λ _. ⌜ recordsOf (now (words .exit)) (now (values .exit)) ≡ recordsOf (now (words .entry)) (now (values .entry)) ⌝ }
 {
-    let mut w = volumes;
-    let old = w.epoch;
-    let guard = w.expiry;
-    let new = grown(old, s.volumes as usize);
-    w.epoch = new;
-    w.guard = guard;
-    let mut b = objects;
-    b.expiry = [0; 32];
-    b.standing = [false; 32];
-    b.pending = [0; 32];
-    b.end = [0; 32];
-    clear(
-        &mut *seen,
-        &mut *expiry,
-        &mut *marks,
-        &mut *offer,
-        &mut *lease,
-        &mut *waiting,
-    );
-    Restarted {
-        volumes: w,
-        objects: b,
-    }
+    pass::sized(&*words);
+    pass::sized_values(&*values);
+    grow_epochs(&mut *words, s.volumes as usize);
+    guard_expiries(&mut *words);
+    clear_sessions(&mut *words);
+    clear_objects(&mut *words);
+    clear_holders(&mut *words);
+    pass::fill_values(&mut *values, server::PENDING, 32, 0);
 }

@@ -3,15 +3,10 @@ use Prim.Native.Nat.{ℕ}
 use mathlib.Core.Bool.{Bool}
 use Rattle.protocol.specs.declared.setup.Setup.{Setup}
 use Rattle.protocol.specs.declared.tables.Tables.{Tables}
-use Rattle.leases.specs.Parts.{scene}
 use Rattle.protocol.specs.Writes.{Staged, due, ready}
 use Rattle.protocol.specs.Server.{readyIn}
-use Rattle.writes.specs.declared.settle.Trigger.{Trigger}
-use Rattle.writes.specs.declared.settle.Trigger.the-variants.{Clock, Volume}
-
--- what the tests of a standing write read of the tables
-abbrev pub sceneOf : Tables → Tables
-sceneOf t = scene (t .clock) (t .volumes .guard) (t .objects .standing) (t .objects .end) (t .holders .waiting)
+use Rattle.writes.specs.declared.test.Trigger.{Trigger}
+use Rattle.writes.specs.declared.test.Trigger.the-variants.{Clock, Volume}
 
 -- a clock step completes what is due, a DROPPED what is ready in its volume
 unfoldable pub triggered : Setup → Trigger → Tables → ℕ → Bool

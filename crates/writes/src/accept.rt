@@ -2,71 +2,120 @@
 ghost use mathlib.Core.Path.{_≡_};
 ghost use mathlib.Core.Bool.{true};
 ghost use Prim.Native.Nat.{_≤_, _<_};
-ghost use lib.ListN.{getD, set};
-ghost use Rattle.protocol.specs.declared.tables.Tables.{Tables};
 ghost use Rattle.protocol.specs.Setup.{inRange};
-ghost use Rattle.protocol.specs.Tables.{withQueue};
-ghost use Rattle.protocol.specs.Writes.{writeStaged, settled};
-ghost use Rattle.leases.specs.Parts.{sessionsOf, withServer};
+ghost use Rattle.protocol.specs.Tables.{versionAt, withQueue};
+ghost use Rattle.protocol.specs.Writes.{begun, notified, writeStaged, settled};
+ghost use Rattle.words.specs.View.{tablesOf, recordsOf};
+ghost use Rattle.writes.specs.Waiting.{invalidated};
 use crate::complete;
+use crate::waiting;
 use leases::place;
 use leases::time;
-use leases::waiting;
-use protocol::message::Queue;
+use protocol::message::Kind;
+use protocol::message::Message;
 use protocol::setup::Setup;
-use protocol::tables::Objects;
-use protocol::tables::Volumes;
+use words::Values;
+use words::Words;
+use words::network;
+use words::server;
+use queue::list;
 
-// What an accepted write leaves of the objects and of the message list, and whether it completed at once.
-pub struct Accepted {
-    pub count: u32,
-    pub objects: Objects,
-    pub queue: Queue,
-}
-
-// The write of x stands, with its latest end.
-fn stand(b: Objects, o: usize, x: u64, end: u32) -> Objects
-    requires { ⌜ o < 32 ⌝ }
-    ensures { λ r. ⌜ r ≡ record { value = b .value; version = b .version; expiry = b .expiry; standing = set (b .standing) o true; pending = set (b .pending) o x; end = set (b .end) o end } ⌝ }
+// The write of `value` stands, with its latest end and whom it waits for.
+fn begin(s: Setup, words: &mut Words, values: &mut Values, object: usize, value: u64)
+    requires { ⌜ inRange s ≡ true ⌝ }
+    requires { ⌜ tablesOf (now words) (now values) .clock ≤ 2147483647 ⌝ }
+    requires { ⌜ object < s .objects ⌝ }
+    ensures { λ _. ⌜ tablesOf (now (words .exit)) (now (values .exit)) ≡ begun s (tablesOf (now (words .entry)) (now (values .entry))) object value ⌝ }
+    ensures { λ _. ⌜ recordsOf (now (words .exit)) (now (values .exit)) ≡ recordsOf (now (words .entry)) (now (values .entry)) ⌝ }
 {
-    let mut c = b;
-    c.standing[o] = true;
-    c.pending[o] = x;
-    c.end[o] = end;
-    c
+    let volume = place::volume_of(s, object);
+    let end = time::latest_end(
+        words[network::CLOCK],
+        s.m,
+        words[server::VOLUME_EXPIRY + volume],
+        words[server::OBJECT_EXPIRY + object],
+        words[server::GUARD + volume],
+    );
+    waiting::await_clients(&mut *words, volume, object, s.clients as usize);
+    words[server::STANDING + object] = 1;
+    words[server::END + object] = end;
+    values[server::PENDING + object] = value;
 }
 
-// "Send each INVALIDATE in dash order. Complete if none waits and the clock is at or past guard."
+// "Send each INVALIDATE in dash order", with this epoch and new version, to those of the first n clients that are waited for.
+fn invalidate(
+    words: &mut Words,
+    values: &mut Values,
+    object: usize,
+    epoch: u32,
+    version: u32,
+    n: usize,
+)
+    requires { ⌜ object < 32 ⌝ }
+    requires { ⌜ n ≤ 16 ⌝ }
+    ensures { λ _. ⌜ tablesOf (now (words .exit)) (now (values .exit)) ≡ invalidated (tablesOf (now (words .entry)) (now (values .entry))) object epoch version n ⌝ }
+    ensures { λ _. ⌜ recordsOf (now (words .exit)) (now (values .exit)) ≡ recordsOf (now (words .entry)) (now (values .entry)) ⌝ }
+{
+    let mut from = 0;
+    loop {
+        let d = waiting::next_waiting(&*words, object, from, n);
+        if n <= d {
+            break;
+        }
+        let kind = Kind::Invalidate {
+            object: object as u8,
+            epoch,
+            version,
+        };
+        list::push(
+            &mut *words,
+            &mut *values,
+            Message {
+                client: d as u8,
+                kind,
+            },
+        );
+        from = d + 1;
+    }
+}
+
+// To each client that the write of the object waits for.
+fn notify(s: Setup, words: &mut Words, values: &mut Values, object: usize)
+    requires { ⌜ inRange s ≡ true ⌝ }
+    requires { ⌜ object < s .objects ⌝ }
+    requires { ⌜ versionAt (tablesOf (now words) (now values)) object < 4294967295 ⌝ }
+    ensures { λ _. ⌜ tablesOf (now (words .exit)) (now (values .exit)) ≡ withQueue (tablesOf (now (words .entry)) (now (values .entry))) (notified s (tablesOf (now (words .entry)) (now (values .entry))) object) ⌝ }
+    ensures { λ _. ⌜ recordsOf (now (words .exit)) (now (values .exit)) ≡ recordsOf (now (words .entry)) (now (values .entry)) ⌝ }
+{
+    let volume = place::volume_of(s, object);
+    let epoch = words[server::VOLUME_EPOCH + volume];
+    let version = words[server::VERSION + object] + 1;
+    invalidate(
+        &mut *words,
+        &mut *values,
+        object,
+        epoch,
+        version,
+        s.clients as usize,
+    );
+}
+
+// Step 4: the write stands, each INVALIDATE is sent, and it completes "if none waits and the clock is at or past guard". How many writes completed.
 pub fn accept_write(
     s: Setup,
-    clock: u32,
-    w: Volumes,
-    b: Objects,
-    q: Queue,
-    expiry: &[u32; 128],
-    marks: &mut [bool; 128],
-    lease: &mut [u32; 512],
-    waiting: &mut [bool; 512],
-    o: usize,
-    x: u64,
-) -> Accepted
+    words: &mut Words,
+    values: &mut Values,
+    object: usize,
+    value: u64,
+) -> u32
     requires { ⌜ inRange s ≡ true ⌝ }
-    requires { ⌜ clock ≤ 2147483647 ⌝ }
-    requires { ⌜ o < s .objects ⌝ }
-    requires { ⌜ getD (b .version) o 0 < 4294967295 ⌝ }
-    ensures { λ r. ⌜ ((t : Tables) → record { count = r .count; tables = withQueue (withServer t clock w (sessionsOf (t .sessions .seen) (now (expiry .entry)) (now (marks .exit)) (t .sessions .offer)) (r .objects) (now (lease .exit)) (now (waiting .exit))) (r .queue) } ≡ settled s (writeStaged s (withQueue (withServer t clock w (sessionsOf (t .sessions .seen) (now (expiry .entry)) (now (marks .entry)) (t .sessions .offer)) b (now (lease .entry)) (now (waiting .entry))) q) o x)) ⌝ }
+    requires { ⌜ tablesOf (now words) (now values) .clock ≤ 2147483647 ⌝ }
+    requires { ⌜ object < s .objects ⌝ }
+    requires { ⌜ versionAt (tablesOf (now words) (now values)) object < 4294967295 ⌝ }
+    ensures { λ r. ⌜ record { count = r; tables = tablesOf (now (words .exit)) (now (values .exit)) } ≡ settled s (writeStaged s (tablesOf (now (words .entry)) (now (values .entry))) object value) ⌝ }
+    ensures { λ _. ⌜ recordsOf (now (words .exit)) (now (values .exit)) ≡ recordsOf (now (words .entry)) (now (values .entry)) ⌝ }
 {
-    let v = place::volume_of(s, o);
-    let n = s.clients as usize;
-    let end = time::latest_end(clock, s.m, w.expiry[v], b.expiry[o], w.guard[v]);
-    let c = stand(b, o, x, end);
-    waiting::await_clients(&mut *waiting, &*lease, &*marks, &*expiry, clock, v, o, n);
-    let sent = waiting::notify(q, &*waiting, o, w.epoch[v], b.version[o] + 1, n);
-    let left = complete::settle_one(s, clock, w, c, &mut *marks, &mut *lease, &mut *waiting, o);
-    let objects = left.objects;
-    Accepted {
-        count: left.count,
-        objects: objects,
-        queue: sent,
-    }
+    begin(s, &mut *words, &mut *values, object, value);
+    notify(s, &mut *words, &mut *values, object);
+    complete::settle_one(s, &mut *words, &mut *values, object)
 }

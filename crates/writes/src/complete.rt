@@ -1,96 +1,60 @@
 ghost use mathlib.Core.Path.{_≡_};
-ghost use mathlib.Core.Bool.{true, false};
-ghost use Prim.Native.Nat.{ℕ, _≤_, _<_};
-ghost use lib.ListN.{getD};
-ghost use Rattle.protocol.specs.declared.tables.Tables.{Tables};
+ghost use mathlib.Core.Bool.{true};
+ghost use Prim.Native.Nat.{_<_};
 ghost use Rattle.protocol.specs.Setup.{inRange};
-ghost use Rattle.protocol.specs.Tables.{withObjects};
-ghost use Rattle.protocol.specs.Writes.{posted, settled};
-ghost use Rattle.leases.specs.Parts.{forClients, markedStill, withMarks, withServer};
+ghost use Rattle.protocol.specs.Tables.{versionAt, withObjects};
+ghost use Rattle.protocol.specs.Writes.{posted, completed, settled};
+ghost use Rattle.words.specs.View.{tablesOf, recordsOf};
 ghost use Rattle.writes.specs.Triggers.{oneStaged};
 use crate::test;
+use crate::waiting;
 use leases::place;
-use leases::waiting;
 use protocol::setup::Setup;
-use protocol::tables::Objects;
-use protocol::tables::Volumes;
-
-// What is left of the objects once writes have completed, and how many did.
-pub struct Settled {
-    pub count: u32,
-    pub objects: Objects,
-}
+use words::Values;
+use words::Words;
+use words::server;
 
 // "stores the value, adds 1 to the version, .. and ends the standing write"
-pub fn post(b: Objects, o: usize) -> Objects
-    requires { ⌜ o < 32 ⌝ }
-    requires { ⌜ getD (b .version) o 0 < 4294967295 ⌝ }
-    ensures { λ r. ⌜ ((t : Tables) → r ≡ posted (withObjects t b) o) ⌝ }
+fn post(words: &mut Words, values: &mut Values, object: usize)
+    requires { ⌜ object < 32 ⌝ }
+    requires { ⌜ versionAt (tablesOf (now words) (now values)) object < 4294967295 ⌝ }
+    ensures { λ _. ⌜ tablesOf (now (words .exit)) (now (values .exit)) ≡ withObjects (tablesOf (now (words .entry)) (now (values .entry))) (posted (tablesOf (now (words .entry)) (now (values .entry))) object) ⌝ }
+    ensures { λ _. ⌜ recordsOf (now (words .exit)) (now (values .exit)) ≡ recordsOf (now (words .entry)) (now (values .entry)) ⌝ }
 {
-    let mut c = b;
-    c.value[o] = b.pending[o];
-    c.version[o] = b.version[o] + 1;
-    c.standing[o] = false;
-    c.pending[o] = 0;
-    c.end[o] = 0;
-    c
+    values[server::VALUE + object] = values[server::PENDING + object];
+    values[server::PENDING + object] = 0;
+    words[server::VERSION + object] = words[server::VERSION + object] + 1;
+    words[server::STANDING + object] = 0;
+    words[server::END + object] = 0;
 }
 
-// "marks still waiting dashes unreachable, clears every dash's server lease on that object"; nobody is waited for any more.
-pub fn release(
-    marks: &mut [bool; 128],
-    lease: &mut [u32; 512],
-    waiting: &mut [bool; 512],
-    v: usize,
-    o: usize,
-    n: usize,
-)
-    requires { ⌜ v < 8 ⌝ }
-    requires { ⌜ o < 32 ⌝ }
-    requires { ⌜ n ≤ 16 ⌝ }
-    ensures { λ _. ⌜ now (marks .exit) ≡ markedStill (now (waiting .entry)) v o (now (marks .entry)) n ⌝ }
-    ensures { λ _. ⌜ now (lease .exit) ≡ forClients o (λ (d : ℕ). 0) (now (lease .entry)) n ⌝ }
-    ensures { λ _. ⌜ now (waiting .exit) ≡ forClients o (λ (d : ℕ). false) (now (waiting .entry)) n ⌝ }
-{
-    waiting::mark_waiting(&mut *marks, &*waiting, v, o, n);
-    waiting::clear_leases(&mut *lease, o, n);
-    waiting::clear_waiting(&mut *waiting, o, n);
-}
-
-// "complete if none waits and the clock is at or past guard": after a write, and after an ACK.
-pub fn settle_one(
-    s: Setup,
-    clock: u32,
-    w: Volumes,
-    b: Objects,
-    marks: &mut [bool; 128],
-    lease: &mut [u32; 512],
-    waiting: &mut [bool; 512],
-    o: usize,
-) -> Settled
+// "Completing stores the value, adds 1 to the version, marks still waiting dashes unreachable, clears every dash's server lease on that object and ends the standing write."
+pub fn complete(s: Setup, words: &mut Words, values: &mut Values, object: usize)
     requires { ⌜ inRange s ≡ true ⌝ }
-    requires { ⌜ o < s .objects ⌝ }
-    requires { ⌜ getD (b .version) o 0 < 4294967295 ⌝ }
-    ensures { λ r. ⌜ ((t : Tables) → record { count = r .count; tables = withServer t clock w (withMarks t (now (marks .exit))) (r .objects) (now (lease .exit)) (now (waiting .exit)) } ≡ settled s (oneStaged s (withServer t clock w (withMarks t (now (marks .entry))) b (now (lease .entry)) (now (waiting .entry))) o)) ⌝ }
+    requires { ⌜ object < s .objects ⌝ }
+    requires { ⌜ versionAt (tablesOf (now words) (now values)) object < 4294967295 ⌝ }
+    ensures { λ _. ⌜ tablesOf (now (words .exit)) (now (values .exit)) ≡ completed s (tablesOf (now (words .entry)) (now (values .entry))) object ⌝ }
+    ensures { λ _. ⌜ recordsOf (now (words .exit)) (now (values .exit)) ≡ recordsOf (now (words .entry)) (now (values .entry)) ⌝ }
 {
-    if test::ready(s, clock, &w.guard, &b.standing, &*waiting, o) {
-        let v = place::volume_of(s, o);
-        release(
-            &mut *marks,
-            &mut *lease,
-            &mut *waiting,
-            v,
-            o,
-            s.clients as usize,
-        );
-        let c = post(b, o);
-        return Settled {
-            count: 1,
-            objects: c,
-        };
+    let volume = place::volume_of(s, object);
+    let n = s.clients as usize;
+    waiting::mark_waiting(&mut *words, volume, object, n);
+    waiting::clear_object(&mut *words, server::LEASE, object, n);
+    waiting::clear_object(&mut *words, server::WAITING, object, n);
+    post(&mut *words, &mut *values, object);
+}
+
+// "complete if none waits and the clock is at or past guard": after a write, and after an ACK. How many writes completed.
+pub fn settle_one(s: Setup, words: &mut Words, values: &mut Values, object: usize) -> u32
+    requires { ⌜ inRange s ≡ true ⌝ }
+    requires { ⌜ object < s .objects ⌝ }
+    requires { ⌜ versionAt (tablesOf (now words) (now values)) object < 4294967295 ⌝ }
+    ensures { λ r. ⌜ record { count = r; tables = tablesOf (now (words .exit)) (now (values .exit)) } ≡ settled s (oneStaged s (tablesOf (now (words .entry)) (now (values .entry))) object) ⌝ }
+    ensures { λ _. ⌜ recordsOf (now (words .exit)) (now (values .exit)) ≡ recordsOf (now (words .entry)) (now (values .entry)) ⌝ }
+{
+    if test::ready(s, &*words, object) {
+        complete(s, &mut *words, &mut *values, object);
+        return 1;
     }
-    Settled {
-        count: 0,
-        objects: b,
-    }
+    0
 }

@@ -1,5 +1,5 @@
 use borrow.Author.Needs.{needs}
-use Rattle.gate.proofs.Laws.{kinds}
+use Rattle.gate.proofs.ByKind.{kinds}
 use Rattle.gate.proofs.messages.kind_sound.Statement.{statement}
 use Rattle.gate.proofs.messages.kind_sound.Tie as tie
 

@@ -1,19 +1,25 @@
 use borrow.Author.Needs.{needs}
-use Prim.Native.Nat.{_-_}
+use Prim.Native.Nat.{ℕ, _-_}
 use native.Mathlib.Nat.{sub-zero}
 use Rattle.laws.specs.Loop.{Scanning, all-by, all-end}
-use Rattle.gate.specs.Scans.{epochGrows}
+use Rattle.protocol.specs.Sound.{canGrow}
+use Rattle.protocol.specs.Tables.{epochAt}
+use Rattle.words.specs.View.{numbersOf}
+use Rattle.gate.proofs.Questions.{epoch-grows}
 use Rattle.gate.proofs.steps.epochs_grow.Statement.{statement}
 use Rattle.gate.proofs.steps.epochs_grow.Tie as tie
 
 abbrev Inv-loop : tie.InvT-loop
-Inv-loop epoch n ok₀ v₀ ok v = Scanning (epochGrows epoch) n ok v
+Inv-loop words n ok₀ v₀ ok v = Scanning (λ (k : ℕ). canGrow (epochAt (numbersOf words) k)) n ok v
 
 abbrev μ-loop : tie.MeasureT-loop
-μ-loop epoch n ok₀ v₀ ok v = n - v
+μ-loop words n ok₀ v₀ ok v = n - v
 
 loop-holds : tie.Need-loop-holds Inv-loop μ-loop
 loop-holds c = (search needs, rw sub-zero)
+
+add-ok : tie.Need-add-ok Inv-loop μ-loop
+add-ok c = search needs
 
 mul-ok : tie.Need-mul-ok Inv-loop μ-loop
 mul-ok c = search needs
@@ -28,7 +34,7 @@ loop-less : tie.Need-loop-less Inv-loop μ-loop
 loop-less c = search needs
 
 loop-again : tie.Need-loop-again Inv-loop μ-loop
-loop-again c = (search needs, search all-by)
+loop-again c = (search needs, search (all-by, epoch-grows))
 
 returns : tie.Need-returns Inv-loop μ-loop
 returns c = search all-end
@@ -40,6 +46,7 @@ epochs-grow-spec =
     Inv-loop
     μ-loop
     loop-holds
+    add-ok
     mul-ok
     element-copy-out-ok
     add-v

@@ -1,3 +1,4 @@
+use Rattle.gate.proofs.Questions.{exists-words}
 use borrow.Author.Needs.{needs}
 use Rattle.gate.proofs.steps.exists.Statement.{statement}
 use Rattle.gate.proofs.steps.exists.Tie as tie
@@ -20,8 +21,11 @@ uses-place-requires c κs = search needs
 cast-result-3 : tie.Need-cast-result-3
 cast-result-3 c = search needs
 
+element-copy-out-result : tie.Need-element-copy-out-result
+element-copy-out-result c = search needs
+
 returns : tie.Need-returns
-returns c = cc
+returns c = search exists-words
 
 pub exists-spec : {M : Type 1} → statement M
 exists-spec =
@@ -33,4 +37,5 @@ exists-spec =
     cast-result-2
     uses-place-requires
     cast-result-3
+    element-copy-out-result
     returns)

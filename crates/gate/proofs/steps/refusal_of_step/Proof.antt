@@ -1,5 +1,5 @@
+use Rattle.gate.proofs.Questions.{questioned}
 use borrow.Author.Needs.{needs}
-use Rattle.gate.proofs.Laws.{questioned}
 use Rattle.gate.proofs.steps.refusal_of_step.Statement.{statement}
 use Rattle.gate.proofs.steps.refusal_of_step.Tie as tie
 
@@ -15,17 +15,23 @@ timely-requires c κs = search needs
 vacant-requires : tie.Need-vacant-requires
 vacant-requires c κs = search needs
 
-version-grows-requires : tie.Need-version-grows-requires
-version-grows-requires c κs = search needs
+growable-requires : tie.Need-growable-requires
+growable-requires c κs = search needs
 
-cast-epochs-grow : tie.Need-cast-epochs-grow
-cast-epochs-grow c = search needs
+or-refuse-requires : tie.Need-or-refuse-requires
+or-refuse-requires c κs = search needs
 
-epochs-grow-requires : tie.Need-epochs-grow-requires
-epochs-grow-requires c κs = search needs
+or-refuse-requires-2 : tie.Need-or-refuse-requires-2
+or-refuse-requires-2 c κs = search needs
 
-first-no-requires : tie.Need-first-no-requires
-first-no-requires c κs = search needs
+or-refuse-requires-3 : tie.Need-or-refuse-requires-3
+or-refuse-requires-3 c κs = search needs
+
+or-refuse-requires-4 : tie.Need-or-refuse-requires-4
+or-refuse-requires-4 c κs = search needs
+
+or-refuse-requires-5 : tie.Need-or-refuse-requires-5
+or-refuse-requires-5 c κs = search needs
 
 returns : tie.Need-returns
 returns c = search questioned
@@ -38,8 +44,10 @@ refusal-of-step-spec =
     exists-requires
     timely-requires
     vacant-requires
-    version-grows-requires
-    cast-epochs-grow
-    epochs-grow-requires
-    first-no-requires
+    growable-requires
+    or-refuse-requires
+    or-refuse-requires-2
+    or-refuse-requires-3
+    or-refuse-requires-4
+    or-refuse-requires-5
     returns)

@@ -1,3 +1,4 @@
+use Rattle.gate.proofs.Questions.{timely-words}
 use borrow.Author.Needs.{needs}
 use Rattle.gate.proofs.steps.timely.Statement.{statement}
 use Rattle.gate.proofs.steps.timely.Tie as tie
@@ -5,8 +6,11 @@ use Rattle.gate.proofs.steps.timely.Tie as tie
 uses-clock-requires : tie.Need-uses-clock-requires
 uses-clock-requires c κs = search needs
 
+element-copy-out-result : tie.Need-element-copy-out-result
+element-copy-out-result c = search needs
+
 returns : tie.Need-returns
-returns c = cc
+returns c = search timely-words
 
 pub timely-spec : {M : Type 1} → statement M
-timely-spec = tie.close (tie.spec uses-clock-requires returns)
+timely-spec = tie.close (tie.spec uses-clock-requires element-copy-out-result returns)

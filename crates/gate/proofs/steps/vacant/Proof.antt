@@ -1,19 +1,26 @@
+use Rattle.gate.proofs.Questions.{vacant-words, vacant-past}
 use borrow.Author.Needs.{needs}
-use Rattle.gate.proofs.Laws.{vacant-past}
 use Rattle.gate.proofs.steps.vacant.Statement.{statement}
 use Rattle.gate.proofs.steps.vacant.Tie as tie
 
 cast-o : tie.Need-cast-o
 cast-o c = search needs
 
-array-read-result : tie.Need-array-read-result
-array-read-result c = search needs
+add-result : tie.Need-add-result
+add-result c = search needs
+
+mul-result : tie.Need-mul-result
+mul-result c = search needs
+
+element-copy-out-result : tie.Need-element-copy-out-result
+element-copy-out-result c = search needs
 
 returns : tie.Need-returns
-returns c = search needs
+returns c = search (vacant-words, needs)
 
 returns-2 : tie.Need-returns-2
-returns-2 c = search vacant-past
+returns-2 c = search (vacant-past, needs)
 
 pub vacant-spec : {M : Type 1} → statement M
-vacant-spec = tie.close (tie.spec cast-o array-read-result returns returns-2)
+vacant-spec =
+    tie.close (tie.spec cast-o add-result mul-result element-copy-out-result returns returns-2)

@@ -2,18 +2,41 @@ use borrow.Author.Needs.{needs}
 use Prim.Native.Nat.{_-_}
 use native.Mathlib.Nat.{sub-zero}
 use Rattle.laws.specs.Loop.{Scanning, all-by, all-end}
-use Rattle.gate.specs.Scans.{objectFits}
+use Rattle.protocol.specs.Sound.{objectSound}
+use Rattle.words.specs.View.{numbersOf}
+use Rattle.gate.proofs.Scans.{object-fits}
 use Rattle.gate.proofs.tables.objects_fit.Statement.{statement}
 use Rattle.gate.proofs.tables.objects_fit.Tie as tie
 
 abbrev Inv-loop : tie.InvT-loop
-Inv-loop version expiry standing end n ok₀ o₀ ok o = Scanning (objectFits version expiry standing end) n ok o
+Inv-loop words n ok₀ o₀ ok o = Scanning (objectSound (numbersOf words)) n ok o
 
 abbrev μ-loop : tie.MeasureT-loop
-μ-loop version expiry standing end n ok₀ o₀ ok o = n - o
+μ-loop words n ok₀ o₀ ok o = n - o
 
 loop-holds : tie.Need-loop-holds Inv-loop μ-loop
 loop-holds c = (search needs, rw sub-zero)
+
+add-version : tie.Need-add-version Inv-loop μ-loop
+add-version c = search needs
+
+mul-version : tie.Need-mul-version Inv-loop μ-loop
+mul-version c = search needs
+
+element-copy-out-version : tie.Need-element-copy-out-version Inv-loop μ-loop
+element-copy-out-version c = search needs
+
+add-expiry : tie.Need-add-expiry Inv-loop μ-loop
+add-expiry c = search needs
+
+mul-expiry : tie.Need-mul-expiry Inv-loop μ-loop
+mul-expiry c = search needs
+
+element-copy-out-expiry : tie.Need-element-copy-out-expiry Inv-loop μ-loop
+element-copy-out-expiry c = search needs
+
+add-open : tie.Need-add-open Inv-loop μ-loop
+add-open c = search needs
 
 mul-open : tie.Need-mul-open Inv-loop μ-loop
 mul-open c = search needs
@@ -21,26 +44,14 @@ mul-open c = search needs
 element-copy-out-open : tie.Need-element-copy-out-open Inv-loop μ-loop
 element-copy-out-open c = search needs
 
-mul-open-2 : tie.Need-mul-open-2 Inv-loop μ-loop
-mul-open-2 c = search needs
+add-settled : tie.Need-add-settled Inv-loop μ-loop
+add-settled c = search needs
 
-element-copy-out-open-2 : tie.Need-element-copy-out-open-2 Inv-loop μ-loop
-element-copy-out-open-2 c = search needs
+mul-settled : tie.Need-mul-settled Inv-loop μ-loop
+mul-settled c = search needs
 
-mul-ok : tie.Need-mul-ok Inv-loop μ-loop
-mul-ok c = search needs
-
-element-copy-out-ok : tie.Need-element-copy-out-ok Inv-loop μ-loop
-element-copy-out-ok c = search needs
-
-mul-ok-2 : tie.Need-mul-ok-2 Inv-loop μ-loop
-mul-ok-2 c = search needs
-
-element-copy-out-ok-2 : tie.Need-element-copy-out-ok-2 Inv-loop μ-loop
-element-copy-out-ok-2 c = search needs
-
-element-copy-out-ok-3 : tie.Need-element-copy-out-ok-3 Inv-loop μ-loop
-element-copy-out-ok-3 c = search needs
+element-copy-out-settled : tie.Need-element-copy-out-settled Inv-loop μ-loop
+element-copy-out-settled c = search needs
 
 add-o : tie.Need-add-o Inv-loop μ-loop
 add-o c = search needs
@@ -49,7 +60,7 @@ loop-less : tie.Need-loop-less Inv-loop μ-loop
 loop-less c = search needs
 
 loop-again : tie.Need-loop-again Inv-loop μ-loop
-loop-again c = (search needs, search all-by)
+loop-again c = (search needs, search (all-by, object-fits))
 
 returns : tie.Need-returns Inv-loop μ-loop
 returns c = search all-end
@@ -61,15 +72,18 @@ objects-fit-spec =
     Inv-loop
     μ-loop
     loop-holds
+    add-version
+    mul-version
+    element-copy-out-version
+    add-expiry
+    mul-expiry
+    element-copy-out-expiry
+    add-open
     mul-open
     element-copy-out-open
-    mul-open-2
-    element-copy-out-open-2
-    mul-ok
-    element-copy-out-ok
-    mul-ok-2
-    element-copy-out-ok-2
-    element-copy-out-ok-3
+    add-settled
+    mul-settled
+    element-copy-out-settled
     add-o
     loop-less
     loop-again

@@ -2,36 +2,47 @@ use borrow.Author.Needs.{needs}
 use Prim.Native.Nat.{_-_}
 use native.Mathlib.Nat.{sub-zero}
 use Rattle.laws.specs.Loop.{Scanning, all-by, all-end}
-use Rattle.gate.specs.Scans.{volumeFits}
+use Rattle.protocol.specs.Sound.{volumeSound}
+use Rattle.words.specs.View.{numbersOf}
+use Rattle.gate.proofs.Scans.{volume-fits}
 use Rattle.gate.proofs.tables.volumes_fit.Statement.{statement}
 use Rattle.gate.proofs.tables.volumes_fit.Tie as tie
 
 abbrev Inv-loop : tie.InvT-loop
-Inv-loop epoch expiry guard n ok₀ v₀ ok v = Scanning (volumeFits epoch expiry guard) n ok v
+Inv-loop words n ok₀ v₀ ok v = Scanning (volumeSound (numbersOf words)) n ok v
 
 abbrev μ-loop : tie.MeasureT-loop
-μ-loop epoch expiry guard n ok₀ v₀ ok v = n - v
+μ-loop words n ok₀ v₀ ok v = n - v
 
 loop-holds : tie.Need-loop-holds Inv-loop μ-loop
 loop-holds c = (search needs, rw sub-zero)
 
-mul-ok : tie.Need-mul-ok Inv-loop μ-loop
-mul-ok c = search needs
+add-epoch : tie.Need-add-epoch Inv-loop μ-loop
+add-epoch c = search needs
 
-element-copy-out-ok : tie.Need-element-copy-out-ok Inv-loop μ-loop
-element-copy-out-ok c = search needs
+mul-epoch : tie.Need-mul-epoch Inv-loop μ-loop
+mul-epoch c = search needs
 
-mul-ok-2 : tie.Need-mul-ok-2 Inv-loop μ-loop
-mul-ok-2 c = search needs
+element-copy-out-epoch : tie.Need-element-copy-out-epoch Inv-loop μ-loop
+element-copy-out-epoch c = search needs
 
-element-copy-out-ok-2 : tie.Need-element-copy-out-ok-2 Inv-loop μ-loop
-element-copy-out-ok-2 c = search needs
+add-expiry : tie.Need-add-expiry Inv-loop μ-loop
+add-expiry c = search needs
 
-mul-ok-3 : tie.Need-mul-ok-3 Inv-loop μ-loop
-mul-ok-3 c = search needs
+mul-expiry : tie.Need-mul-expiry Inv-loop μ-loop
+mul-expiry c = search needs
 
-element-copy-out-ok-3 : tie.Need-element-copy-out-ok-3 Inv-loop μ-loop
-element-copy-out-ok-3 c = search needs
+element-copy-out-expiry : tie.Need-element-copy-out-expiry Inv-loop μ-loop
+element-copy-out-expiry c = search needs
+
+add-guard : tie.Need-add-guard Inv-loop μ-loop
+add-guard c = search needs
+
+mul-guard : tie.Need-mul-guard Inv-loop μ-loop
+mul-guard c = search needs
+
+element-copy-out-guard : tie.Need-element-copy-out-guard Inv-loop μ-loop
+element-copy-out-guard c = search needs
 
 add-v : tie.Need-add-v Inv-loop μ-loop
 add-v c = search needs
@@ -40,7 +51,7 @@ loop-less : tie.Need-loop-less Inv-loop μ-loop
 loop-less c = search needs
 
 loop-again : tie.Need-loop-again Inv-loop μ-loop
-loop-again c = (search needs, search all-by)
+loop-again c = (search needs, search (all-by, volume-fits))
 
 returns : tie.Need-returns Inv-loop μ-loop
 returns c = search all-end
@@ -52,12 +63,15 @@ volumes-fit-spec =
     Inv-loop
     μ-loop
     loop-holds
-    mul-ok
-    element-copy-out-ok
-    mul-ok-2
-    element-copy-out-ok-2
-    mul-ok-3
-    element-copy-out-ok-3
+    add-epoch
+    mul-epoch
+    element-copy-out-epoch
+    add-expiry
+    mul-expiry
+    element-copy-out-expiry
+    add-guard
+    mul-guard
+    element-copy-out-guard
     add-v
     loop-less
     loop-again

@@ -1,19 +1,18 @@
-use native.Mathlib.Nat.{sub-zero}
-use mathlib.Core.List.{[]}
 use mathlib.Core.Path.{_≡_}
 use Prim.Native.Nat.{_≤_, _-_}
-use Rattle.laws.specs.Loop.{firstFrom, first-again, first-stop, first-end}
+use native.Mathlib.Nat.{sub-zero}
+use Rattle.laws.specs.Loop.{firstFrom, first-again, first-end, first-stop}
 use Rattle.protocol.specs.Server.{waitedIn, lowestWaited}
-use Rattle.leases.specs.Parts.{scene}
+use Rattle.words.specs.View.{numbersOf}
 use borrow.Author.Needs.{needs}
 use Rattle.renewals.proofs.lowest.lowest_waited.Statement.{statement}
 use Rattle.renewals.proofs.lowest.lowest_waited.Tie as tie
 
 abbrev Inv-loop : tie.InvT-loop
-Inv-loop s standing waiting d v n o₀ o = (o ≤ s .objects) × (firstFrom (waitedIn s (scene 0 [] standing [] waiting) d v) o (s .objects - o) ≡ firstFrom (waitedIn s (scene 0 [] standing [] waiting) d v) 0 (s .objects))
+Inv-loop s words client volume n object₀ object = (object ≤ s .objects) × (firstFrom (waitedIn s (numbersOf words) client volume) object (s .objects - object) ≡ firstFrom (waitedIn s (numbersOf words) client volume) 0 (s .objects))
 
 abbrev μ-loop : tie.MeasureT-loop
-μ-loop s standing waiting d v n o₀ o = s .objects - o
+μ-loop s words client volume n object₀ object = s .objects - object
 
 cast-n : tie.Need-cast-n Inv-loop μ-loop
 cast-n c = search needs
@@ -24,22 +23,22 @@ loop-holds c = (search needs, rw sub-zero)
 waited-in-requires : tie.Need-waited-in-requires Inv-loop μ-loop
 waited-in-requires c κs = search needs
 
-add-o : tie.Need-add-o Inv-loop μ-loop
-add-o c = search needs
+add-object : tie.Need-add-object Inv-loop μ-loop
+add-object c = search needs
 
 loop-less : tie.Need-loop-less Inv-loop μ-loop
 loop-less c = search needs
 
 loop-again : tie.Need-loop-again Inv-loop μ-loop
-loop-again c = (search needs, search first-again)
+loop-again c = (search needs, first-again _ _ _ _ _ (search needs) (c .before .waited-in .ensures) (c .if2 .left) (c .before .before .before .loop .inv .1))
 
 returns : tie.Need-returns Inv-loop μ-loop
 unfolding lowestWaited
-returns c = search first-end
+returns c = first-end _ _ _ _ (c .if1 .taken) (c .before .loop .inv .1)
 
 returns-2 : tie.Need-returns-2 Inv-loop μ-loop
 unfolding lowestWaited
-returns-2 c = search first-stop
+returns-2 c = first-stop _ _ _ _ _ (search needs) (c .before .waited-in .ensures) (c .if2 .taken) (c .before .before .before .loop .inv .1)
 
 pub lowest-waited-spec : {M : Type 1} → statement M
 lowest-waited-spec =
@@ -50,7 +49,7 @@ lowest-waited-spec =
     cast-n
     loop-holds
     waited-in-requires
-    add-o
+    add-object
     loop-less
     loop-again
     returns

@@ -1,6 +1,7 @@
 use native.Mathlib.Omega.{arith}
-use Rattle.protocol.specs.Server.{granted, objectRenewed, volumeRenewed}
 use Rattle.protocol.specs.Ranges.{ranges}
+use Rattle.words.specs.Reads.{clock-word}
+use Rattle.renewals.proofs.Rules.{grants}
 use borrow.Author.Needs.{needs}
 use Rattle.renewals.proofs.receive.grant.Statement.{statement}
 use Rattle.renewals.proofs.receive.grant.Tie as tie
@@ -11,51 +12,71 @@ volume-of-requires c κs = search needs
 granting-requires : tie.Need-granting-requires
 granting-requires c κs = search needs
 
-add-x : tie.Need-add-x
-add-x c = omega (arith, ranges _ (c .before .before .before .pre .0))
+element-copy-out-volume-expiry : tie.Need-element-copy-out-volume-expiry
+element-copy-out-volume-expiry c = search needs
 
-add-y : tie.Need-add-y
-add-y c = omega (arith, ranges _ (c .before .before .before .before .pre .0))
+add-volume-expiry : tie.Need-add-volume-expiry
+add-volume-expiry c = let a = c .before .before .before .before .before .before in omega (arith, ranges _ (a .pre .0) .tv .1, a .pre .1 .0, clock-word (a .args .words .now) (a .args .values .now))
 
-mul-i : tie.Need-mul-i
-mul-i c = search needs
+element-copy-out-object-expiry : tie.Need-element-copy-out-object-expiry
+element-copy-out-object-expiry c = search needs
 
-add-i : tie.Need-add-i
-add-i c = search needs
+add-object-expiry : tie.Need-add-object-expiry
+add-object-expiry c = let a = c .before .before .before .before .before .before .before .before in omega (arith, ranges _ (a .pre .0) .t .1, a .pre .1 .0, clock-word (a .args .words .now) (a .args .values .now))
 
-mul-j : tie.Need-mul-j
-mul-j c = search needs
+add-words : tie.Need-add-words
+add-words c = search needs
 
-add-j : tie.Need-add-j
-add-j c = search needs
+mul-words : tie.Need-mul-words
+mul-words c = search needs
 
-mul-volumes : tie.Need-mul-volumes
-mul-volumes c = search needs
+element-write-words : tie.Need-element-write-words
+element-write-words c = search needs
 
-element-write-volumes : tie.Need-element-write-volumes
-element-write-volumes c = search needs
+mul-words-2 : tie.Need-mul-words-2
+mul-words-2 c = search needs
 
-mul-expiry : tie.Need-mul-expiry
-mul-expiry c = search needs
+add-words-2 : tie.Need-add-words-2
+add-words-2 c = search needs
 
-element-write-expiry : tie.Need-element-write-expiry
-element-write-expiry c = search needs
+add-words-3 : tie.Need-add-words-3
+add-words-3 c = search needs
 
-mul-objects : tie.Need-mul-objects
-mul-objects c = search needs
+mul-words-3 : tie.Need-mul-words-3
+mul-words-3 c = search needs
 
-element-write-objects : tie.Need-element-write-objects
-element-write-objects c = search needs
+element-write-words-2 : tie.Need-element-write-words-2
+element-write-words-2 c = search needs
 
-mul-lease : tie.Need-mul-lease
-mul-lease c = search needs
+add-words-4 : tie.Need-add-words-4
+add-words-4 c = search needs
 
-element-write-lease : tie.Need-element-write-lease
-element-write-lease c = search needs
+mul-words-4 : tie.Need-mul-words-4
+mul-words-4 c = search needs
+
+element-write-words-3 : tie.Need-element-write-words-3
+element-write-words-3 c = search needs
+
+mul-words-5 : tie.Need-mul-words-5
+mul-words-5 c = search needs
+
+add-words-5 : tie.Need-add-words-5
+add-words-5 c = search needs
+
+add-words-6 : tie.Need-add-words-6
+add-words-6 c = search needs
+
+mul-words-6 : tie.Need-mul-words-6
+mul-words-6 c = search needs
+
+element-write-words-4 : tie.Need-element-write-words-4
+element-write-words-4 c = search needs
+
+push-requires : tie.Need-push-requires
+push-requires c κs = search needs
 
 returns : tie.Need-returns
-unfolding granted objectRenewed volumeRenewed
-returns c t = rw (c .before .before .granting .ensures t, c .before .before .before .volume-of .ensures .is)
+returns c = grants _ _ _ _ _ _ _ _ _ _ _ (c .before .before .before .before .before .before .before .before .before .before .volume-of .ensures) (c .before .before .before .before .before .before .before .before .before .before .before .pre .1 .1 .0) (c .before .before .before .before .before .before .before .granting .ensures) (c .push .ensures)
 
 pub grant-spec : {M : Type 1} → statement M
 grant-spec =
@@ -63,18 +84,25 @@ grant-spec =
     (tie.spec
     volume-of-requires
     granting-requires
-    add-x
-    add-y
-    mul-i
-    add-i
-    mul-j
-    add-j
-    mul-volumes
-    element-write-volumes
-    mul-expiry
-    element-write-expiry
-    mul-objects
-    element-write-objects
-    mul-lease
-    element-write-lease
+    element-copy-out-volume-expiry
+    add-volume-expiry
+    element-copy-out-object-expiry
+    add-object-expiry
+    add-words
+    mul-words
+    element-write-words
+    mul-words-2
+    add-words-2
+    add-words-3
+    mul-words-3
+    element-write-words-2
+    add-words-4
+    mul-words-4
+    element-write-words-3
+    mul-words-5
+    add-words-5
+    add-words-6
+    mul-words-6
+    element-write-words-4
+    push-requires
     returns)

@@ -1,4 +1,4 @@
-use Rattle.writes.proofs.Laws.{completes, one-yes, one-no}
+use Rattle.writes.proofs.Completing.{one-yes, one-no}
 use borrow.Author.Needs.{needs}
 use Rattle.writes.proofs.complete.settle_one.Statement.{statement}
 use Rattle.writes.proofs.complete.settle_one.Tie as tie
@@ -6,32 +6,14 @@ use Rattle.writes.proofs.complete.settle_one.Tie as tie
 ready-requires : tie.Need-ready-requires
 ready-requires c κs = search needs
 
-volume-of-requires : tie.Need-volume-of-requires
-volume-of-requires c κs = search needs
-
-cast-release : tie.Need-cast-release
-cast-release c = search needs
-
-release-requires : tie.Need-release-requires
-release-requires c κs = search needs
-
-post-requires : tie.Need-post-requires
-post-requires c κs = search needs
+complete-requires : tie.Need-complete-requires
+complete-requires c κs = search needs
 
 returns : tie.Need-returns
-returns c = λ t. search (one-yes, completes)
+returns c = one-yes _ _ _ _ _ (c .before .before .before .before .ready .ensures) _ _ (c .before .before .before .if1 .taken) (c .complete .ensures)
 
 returns-2 : tie.Need-returns-2
-returns-2 c = λ t. search one-no
+returns-2 c = one-no _ _ _ _ _ (c .before .ready .ensures) (c .if1 .left)
 
 pub settle-one-spec : {M : Type 1} → statement M
-settle-one-spec =
-    tie.close
-    (tie.spec
-    ready-requires
-    volume-of-requires
-    cast-release
-    release-requires
-    post-requires
-    returns
-    returns-2)
+settle-one-spec = tie.close (tie.spec ready-requires complete-requires returns returns-2)

@@ -1,0 +1,34 @@
+// One step of a run, in place, on words that hold the clients' records too. From fresh words on, question 1 is never answered "no", and is not asked.
+ghost use mathlib.Core.Bool.{true};
+ghost use mathlib.Core.Path.{_≡_};
+ghost use Rattle.protocol.specs.Setup.{inRange};
+ghost use Rattle.protocol.specs.World.{answerOf, stepped};
+ghost use Rattle.protocol.specs.Soundness.Question.{SoundWorld};
+ghost use Rattle.words.specs.View.{worldOf};
+use decide::perform::perform;
+use decide::target::target;
+use protocol::setup::Setup;
+use protocol::step::Answer;
+use protocol::step::Step;
+use stored::change;
+use words::Values;
+use words::Words;
+
+pub fn advance(s: Setup, words: &mut Words, values: &mut Values, x: Step) -> Answer
+    requires { ⌜ inRange s ≡ true ⌝ }
+    requires { ⌜ SoundWorld s (worldOf s (now words) (now values)) ⌝ }
+    ensures { λ a. ⌜ a ≡ answerOf s (worldOf s (now (words .entry)) (now (values .entry))) x ⌝ }
+    ensures { λ _. ⌜ worldOf s (now (words .exit)) (now (values .exit)) ≡ stepped s (worldOf s (now (words .entry)) (now (values .entry))) x ⌝ }
+{
+    let at = target(s, &*words, &*values, x);
+    let c = change::copy_of(s, &*words, &*values, at);
+    let r = change::request_of(s, &*words, &*values, at);
+    let no = gate::steps::refusal_of_step(s, &*words, &*values, r, x);
+    if no == 0 {
+        let v = perform(s, &mut *words, &mut *values, c, r, x);
+        let g = v.change;
+        change::change(s, &mut *words, &mut *values, at, g);
+        return v.answer;
+    }
+    Answer::Refused(no)
+}

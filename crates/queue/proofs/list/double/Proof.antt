@@ -1,0 +1,15 @@
+use borrow.Author.Needs.{needs}
+use Rattle.queue.proofs.list.double.Statement.{statement}
+use Rattle.queue.proofs.list.double.Tie as tie
+
+message-at-requires : tie.Need-message-at-requires
+message-at-requires c κs = search needs
+
+push-requires : tie.Need-push-requires
+push-requires c κs = search needs
+
+returns : tie.Need-returns
+returns c = rw (← c .before .before .before .message-at .ensures) (c .push .ensures)
+
+pub double-spec : {M : Type 1} → statement M
+double-spec = tie.close (tie.spec message-at-requires push-requires returns)

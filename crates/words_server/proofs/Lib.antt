@@ -1,3 +1,0 @@
-pub mod Acking
-pub mod Dropping
-pub mod Restarting
