@@ -101,6 +101,25 @@ pub fn kinds() -> Vec<(&'static str, Vec<u8>)> {
     ]
 }
 
+/// What a run grows by, its sizes, and a run of each size: messages that are
+/// delivered in time between more and more clients, and about more and more
+/// objects; and an ask and a loss at the front in turn, with more and more
+/// messages under way.
+pub fn growing() -> Vec<(&'static str, Vec<(usize, Vec<u8>)>)> {
+    let delivered = |setup| timed("", spread(setup), in_time).file;
+    let clients = [1, 4, 16].map(|n| (n.into(), delivered(sized(n, 8, 32))));
+    let objects = [1, 8, 32].map(|n| (n.into(), delivered(sized(16, n.min(8), n))));
+    let messages = [0, 16, 63].map(|n| (n, under_way(n)));
+    vec![("clients", clients.into()), ("objects", objects.into()), ("messages under way", messages.into())]
+}
+
+fn under_way(messages: usize) -> Vec<u8> {
+    let ask = Step::ask(0, 0);
+    let turns = [ask, Step::lose(0)].into_iter().cycle();
+    let steps: Vec<Step> = std::iter::repeat(ask).take(messages).chain(turns).take(STEPS).collect();
+    write(&[], &spread(sized(16, 8, 32)), &steps)
+}
+
 /// The same file but for its last step, where a field that the kind does not
 /// use is not 0: read to its end, and refused.
 pub fn refused_at_its_end(file: &[u8]) -> Vec<u8> {
@@ -123,7 +142,10 @@ mod tests {
 
     #[test]
     fn every_file_is_accepted_and_has_the_most_steps() {
-        let files = runs().into_iter().map(|run| (run.name, run.file)).chain(kinds());
+        let grown = growing()
+            .into_iter()
+            .flat_map(|(name, sizes)| sizes.into_iter().map(move |(_, file)| (name, file)));
+        let files = runs().into_iter().map(|run| (run.name, run.file)).chain(kinds()).chain(grown);
         for (name, file) in files {
             assert_eq!(read(&file).map(|run| run.len()), Ok(STEPS), "{name}");
         }

@@ -1,6 +1,6 @@
 //! The proved library beside the model, on the same files in one process:
-//! time per step, time to read a file, and peak memory. With `--brief` it
-//! prints the same table of a few repetitions.
+//! time per step, how it grows, time to read a file, peak memory and stack.
+//! With `--brief` it prints the same tables of a few repetitions.
 
 mod files;
 mod memory;
@@ -8,7 +8,7 @@ mod timing;
 
 use std::{env, io};
 
-use files::{kinds, refused_at_its_end, runs};
+use files::{growing, kinds, refused_at_its_end, runs};
 use gevtsomi::LISTING_BYTES;
 use model::limits::STEPS;
 use model::listing::{listing, listing_trusting};
@@ -68,12 +68,20 @@ fn report(effort: Effort) -> io::Result<()> {
         );
     }
     by_kind(effort);
+    growth(effort);
     reading(effort);
     println!("peak memory of a process that lists the first file once");
     for subject in ["nothing", "proved", "asking"] {
         println!("  {subject:10} {:6} KiB", memory::of(&[subject])?);
     }
+    println!("stack that a listing of the first file takes: {} KiB", stack_of_a_listing()?);
     Ok(())
+}
+
+fn stack_of_a_listing() -> io::Result<u64> {
+    let file = &runs()[0].file;
+    let mut output = vec![0; LISTING_BYTES];
+    memory::stack(|| drop(gevtsomi::list(file, &mut output)))
 }
 
 fn by_kind(effort: Effort) {
@@ -84,6 +92,18 @@ fn by_kind(effort: Effort) {
         let [proved, asking, trusting] = times[..] else { unreachable!() };
         let per_step = |time: f64| time / STEPS as f64;
         println!("  {name:18} {:6.0} {:6.0} {:6.0}", per_step(proved), per_step(asking), per_step(trusting));
+    }
+}
+
+fn growth(effort: Effort) {
+    println!("growing: ns a step of library and other model");
+    for (name, sizes) in growing() {
+        for (size, file) in sizes {
+            same(&file);
+            let times = medians(effort, &file, &[&proved, &trusting]);
+            let per_step = |time: f64| time / STEPS as f64;
+            println!("  {name:18} {size:3} {:6.0} {:6.0}", per_step(times[0]), per_step(times[1]));
+        }
     }
 }
 

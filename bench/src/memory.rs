@@ -1,7 +1,8 @@
-//! Peak memory of a process that does one thing.
+//! Peak memory of a process that does one thing, and the stack that a call
+//! takes.
 
 use std::process::Command;
-use std::{env, fs, io};
+use std::{env, fs, io, thread};
 
 /// Runs this program again with these words and gives the peak that it
 /// reports of itself, in KiB.
@@ -17,4 +18,50 @@ pub fn peak() -> io::Result<u64> {
     let line = status.lines().find_map(|line| line.strip_prefix("VmHWM:"));
     let number = line.and_then(|rest| rest.split_whitespace().next()).and_then(|number| number.parse().ok());
     number.ok_or_else(|| io::Error::other("no VmHWM in /proc/self/status"))
+}
+
+/// The stack that a call takes, in KiB: what it brings into memory of the
+/// stack of a new thread, in whole pages.
+pub fn stack(call: impl FnOnce() + Send) -> io::Result<u64> {
+    let measured = || {
+        let before = resident()?;
+        call();
+        Ok(resident()? - before)
+    };
+    thread::scope(|scope| {
+        let started = thread::Builder::new().stack_size(4 << 20).spawn_scoped(scope, measured)?;
+        started.join().map_err(|_| io::Error::other("the call panicked"))?
+    })
+}
+
+/// How many KiB of this thread's stack are in memory.
+fn resident() -> io::Result<u64> {
+    let local = 0_u8;
+    let here = std::ptr::addr_of!(local) as u64;
+    let maps = fs::read_to_string("/proc/self/smaps")?;
+    let mut lines = maps.lines().skip_while(|line| !holds(line, here));
+    let number = lines.find_map(|line| line.strip_prefix("Rss:")?.split_whitespace().next()?.parse().ok());
+    number.ok_or_else(|| io::Error::other("no mapping of the stack in /proc/self/smaps"))
+}
+
+/// Whether the line begins a mapping that holds the address.
+fn holds(line: &str, address: u64) -> bool {
+    let bound = |text| u64::from_str_radix(text, 16).ok();
+    let range = line.split(' ').next().and_then(|range| range.split_once('-'));
+    let ends = range.and_then(|(start, end)| Some((bound(start)?, bound(end)?)));
+    ends.is_some_and(|(start, end)| (start..end).contains(&address))
+}
+
+#[cfg(test)]
+mod tests {
+    use super::*;
+    use std::hint::black_box;
+
+    #[test]
+    fn a_buffer_on_the_stack_is_counted() {
+        let measured = stack(|| {
+            black_box([1_u8; 256 << 10]);
+        });
+        assert!((256..300).contains(&measured.unwrap()));
+    }
 }
