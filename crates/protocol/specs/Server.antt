@@ -6,8 +6,6 @@ use lib.Dec.{ltb, leb, eqb}
 use Rattle.laws.specs.Loop.{firstFrom}
 use Rattle.laws.specs.Store.{storeEach, always}
 use Rattle.protocol.specs.declared.message.Message.{Message}
-use Rattle.protocol.specs.declared.message.Reply.{Reply}
-use Rattle.protocol.specs.declared.message.Reply.the-variants.{Nothing, Send}
 use Rattle.protocol.specs.declared.message.Payload.{Payload}
 use Rattle.protocol.specs.declared.message.Payload.the-variants.{Same, Value}
 use Rattle.protocol.specs.declared.message.Kind.the-variants.{Grant, Offer}
@@ -25,11 +23,6 @@ use Rattle.protocol.specs.Writes.{Staged, unstaged, invalidation, ready,
 -- one message sent
 abbrev pub sent : Tables → Message → Tables
 sent t m = withQueue t (pushed (t .queue) m)
-
--- what the receiver of a message sends in answer, if anything
-abbrev pub replied : Tables → Reply → Tables
-replied t Nothing = t
-replied t (Send m) = sent t m
 
 -- ---- RENEW (object o, number n, known epoch e, held version w) of client d
 

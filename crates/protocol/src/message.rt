@@ -49,12 +49,6 @@ pub struct Message {
     pub kind: Kind,
 }
 
-// What the receiver of a message sends in answer, if anything.
-pub enum Reply {
-    Nothing,
-    Send(Message),
-}
-
 // The message list: at most 64 in sending order, the first `len` of `items`. The places past `len` are free; in a run from fresh tables each holds
 // the blank message.
 pub struct Queue {
