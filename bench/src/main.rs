@@ -81,7 +81,9 @@ fn report(effort: Effort) -> io::Result<()> {
 fn stack_of_a_listing() -> io::Result<u64> {
     let file = &runs()[0].file;
     let mut output = vec![0; LISTING_BYTES];
-    memory::stack(|| drop(gevtsomi::list(file, &mut output)))
+    memory::stack(|| {
+        gevtsomi::list(file, &mut output).expect("room for any listing");
+    })
 }
 
 fn by_kind(effort: Effort) {
