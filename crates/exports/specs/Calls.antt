@@ -26,7 +26,7 @@ pub record EncodesFields (f : Fields) (before after : List ℕ) (r : ℕ) : Type
 -- the ten fields as numbers, in the frame's order
 abbrev pub numbersOf : Fields → List ℕ
 numbersOf f =
-    f .kind ∷ f .client ∷ f .object ∷ f .present ∷ f .number ∷ f .lease ∷ f .epoch ∷ f .version ∷ f .expiry ∷ f .value ∷ []
+    f .kind ∷ f .client ∷ f .object ∷ f .present ∷ f .number ∷ f .«volume_expiry» ∷ f .epoch ∷ f .version ∷ f .«object_expiry» ∷ f .value ∷ []
 
 abbrev pub fieldsStored : List ℕ → Decoded → List ℕ
 fieldsStored l (Accepted m) = sets l 0 (numbersOf (fieldsOf m))

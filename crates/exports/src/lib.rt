@@ -33,14 +33,14 @@ pub extern "C" fn gevtsomi_encode(
     object: u8,
     present: u8,
     number: u32,
-    lease: u32,
+    volume_expiry: u32,
     epoch: u32,
     version: u32,
-    expiry: u32,
+    object_expiry: u32,
     value: u64,
     out: &mut [u8],
 ) -> u8
-    ensures { λ r. ⌜ EncodesFields (row kind client object present number lease epoch version expiry value) (now (out .entry)) (now (out .exit)) r ⌝ }
+    ensures { λ r. ⌜ EncodesFields (row kind client object present number «volume_expiry» epoch version «object_expiry» value) (now (out .entry)) (now (out .exit)) r ⌝ }
 {
     let f = Fields {
         kind,
@@ -48,10 +48,10 @@ pub extern "C" fn gevtsomi_encode(
         object,
         present,
         number,
-        lease,
+        volume_expiry,
         epoch,
         version,
-        expiry,
+        object_expiry,
         value,
     };
     let m = frame::fields::message_in(f);
@@ -73,10 +73,10 @@ fn store(out: &mut [u64], f: Fields)
     out[2] = f.object as u64;
     out[3] = f.present as u64;
     out[4] = f.number as u64;
-    out[5] = f.lease as u64;
+    out[5] = f.volume_expiry as u64;
     out[6] = f.epoch as u64;
     out[7] = f.version as u64;
-    out[8] = f.expiry as u64;
+    out[8] = f.object_expiry as u64;
     out[9] = f.value;
 }
 

@@ -28,10 +28,10 @@ pub fn words_of(f: Fields) -> Row
         f.object as u32,
         f.present as u32,
         f.number,
-        f.lease,
+        f.volume_expiry,
         f.epoch,
         f.version,
-        f.expiry,
+        f.object_expiry,
     ]
 }
 
@@ -64,10 +64,10 @@ pub fn load(words: &Words, values: &Values, place: usize) -> Fields
         object: low(word(words, place, 2)),
         present: low(word(words, place, 3)),
         number: word(words, place, 4),
-        lease: word(words, place, 5),
+        volume_expiry: word(words, place, 5),
         epoch: word(words, place, 6),
         version: word(words, place, 7),
-        expiry: word(words, place, 8),
+        object_expiry: word(words, place, 8),
         value: values[network::MESSAGE_VALUE + place],
     }
 }
