@@ -4,8 +4,7 @@ ghost use Prim.Native.Nat.{_≤_};
 ghost use mathlib.Core.Path.{_≡_};
 ghost use lib.ListN.{length};
 ghost use lib.Seq.{sets};
-ghost use Rattle.frame.specs.Frame.{row};
-ghost use Rattle.exports.specs.Calls.{Lists, EncodesFields, numbersOf, DecodesFields};
+ghost use Rattle.exports.specs.Calls.{Lists, fieldsFrom, EncodesFields, numbersOf, DecodesFields};
 use frame::Decoded;
 use frame::Encoded;
 use frame::fields::Fields;
@@ -28,30 +27,23 @@ pub extern "C" fn gevtsomi_list(file: &[u8], out: &mut [u8], written: &mut usize
 // The frame of a message whose fields these are, in the frame's order; those that its kind lacks are 0.
 #[no_mangle]
 pub extern "C" fn gevtsomi_encode(
-    kind: u8,
-    client: u8,
-    object: u8,
-    present: u8,
-    number: u32,
-    volume_expiry: u32,
-    epoch: u32,
-    version: u32,
-    object_expiry: u32,
+    head: &[u8; 4],
+    numbers: &[u32; 5],
     value: u64,
     out: &mut [u8],
 ) -> u8
-    ensures { λ r. ⌜ EncodesFields (row kind client object present number «volume_expiry» epoch version «object_expiry» value) (now (out .entry)) (now (out .exit)) r ⌝ }
+    ensures { λ r. ⌜ EncodesFields (fieldsFrom (now (head .entry)) (now (numbers .entry)) value) (now (out .entry)) (now (out .exit)) r ⌝ }
 {
     let f = Fields {
-        kind,
-        client,
-        object,
-        present,
-        number,
-        volume_expiry,
-        epoch,
-        version,
-        object_expiry,
+        kind: head[0],
+        client: head[1],
+        object: head[2],
+        present: head[3],
+        number: numbers[0],
+        volume_expiry: numbers[1],
+        epoch: numbers[2],
+        version: numbers[3],
+        object_expiry: numbers[4],
         value,
     };
     let m = frame::fields::message_in(f);

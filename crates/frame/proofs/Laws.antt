@@ -61,9 +61,10 @@ module _ (f : Fields) where
   pub with-payload : (f .present ≡ 0 → ⊥) → Value (f .value) ≡ payloadIn f
   with-payload e = rw (ne-eqb _ _ e)
 
-  pub kind-2 : (p : Payload) → f .kind ≡ 2 → p ≡ payloadIn f → Grant (f .object) (f .number) (f .«volume_expiry») (f .epoch) (f .version) (f .«object_expiry») p ≡ kindIn f
+  pub kind-2 : (k : Kind) → f .kind ≡ 2 → k ≡ Grant (f .object) (f .number) (f .«volume_expiry») (f .epoch) (f .version) (f .«object_expiry») (payloadIn f)
+      → k ≡ kindIn f
   unfolding kindIn
-  kind-2 p e g = rw (e, g)
+  kind-2 k e g = rw e g
 
   pub kind-3 : f .kind ≡ 3 → Invalidate (f .object) (f .epoch) (f .version) ≡ kindIn f
   unfolding kindIn

@@ -133,19 +133,25 @@ fn payload_in(f: Fields) -> Payload
     Payload::Value(f.value)
 }
 
+fn grant_in(f: Fields) -> Kind
+    ensures { λ r. ⌜ r ≡ Grant (f .object) (f .number) (f .«volume_expiry») (f .epoch) (f .version) (f .«object_expiry») (payloadIn f) ⌝ }
+{
+    Kind::Grant {
+        object: f.object,
+        number: f.number,
+        volume_expiry: f.volume_expiry,
+        epoch: f.epoch,
+        version: f.version,
+        object_expiry: f.object_expiry,
+        payload: payload_in(f),
+    }
+}
+
 fn kind_in(f: Fields) -> Kind
     ensures { λ r. ⌜ r ≡ kindIn f ⌝ }
 {
     if f.kind == 2 {
-        return Kind::Grant {
-            object: f.object,
-            number: f.number,
-            volume_expiry: f.volume_expiry,
-            epoch: f.epoch,
-            version: f.version,
-            object_expiry: f.object_expiry,
-            payload: payload_in(f),
-        };
+        return grant_in(f);
     }
     if f.kind == 3 {
         return Kind::Invalidate {
