@@ -117,11 +117,11 @@ fn kind_fields(client: u8, kind: Kind) -> Fields
     }
 }
 
-pub fn fields_of(m: Message) -> Fields
-    ensures { λ r. ⌜ r ≡ fieldsOf m ⌝ }
+pub fn fields_of(message: Message) -> Fields
+    ensures { λ r. ⌜ r ≡ fieldsOf message ⌝ }
 {
-    let kind = m.kind;
-    kind_fields(m.client, kind)
+    let kind = message.kind;
+    kind_fields(message.client, kind)
 }
 
 fn payload_in(f: Fields) -> Payload

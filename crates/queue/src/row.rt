@@ -19,19 +19,19 @@ fn low(n: u32) -> u8
     (n % 256) as u8
 }
 
-pub fn words_of(f: Fields) -> Row
-    ensures { λ r. ⌜ (r ≡ wordsOf f) × Narrow f ⌝ }
+pub fn words_of(fields: Fields) -> Row
+    ensures { λ r. ⌜ (r ≡ wordsOf fields) × Narrow fields ⌝ }
 {
     [
-        f.kind as u32,
-        f.client as u32,
-        f.object as u32,
-        f.present as u32,
-        f.number,
-        f.volume_expiry,
-        f.epoch,
-        f.version,
-        f.object_expiry,
+        fields.kind as u32,
+        fields.client as u32,
+        fields.object as u32,
+        fields.present as u32,
+        fields.number,
+        fields.volume_expiry,
+        fields.epoch,
+        fields.version,
+        fields.object_expiry,
     ]
 }
 
