@@ -19,15 +19,8 @@ mod ffi {
         ) -> u8;
 
         pub fn gevtsomi_encode(
-            kind: u8,
-            client: u8,
-            item: u8,
-            present: u8,
-            number: u32,
-            volume_expiry: u32,
-            epoch: u32,
-            version: u32,
-            object_expiry: u32,
+            head: *const [u8; 4],
+            numbers: *const [u32; 5],
             value: u64,
             output: *mut u8,
             output_len: usize,
@@ -56,22 +49,12 @@ pub fn list(file: &[u8], output: &mut [u8]) -> Result<usize, Refused> {
 }
 
 pub fn encode(fields: &Fields, output: &mut [u8]) -> Result<(), Refused> {
-    // SAFETY: the slice is valid for its length while the call lasts.
+    let head = [fields.kind, fields.client, fields.item, fields.present];
+    let numbers = [fields.number, fields.volume_expiry, fields.epoch, fields.version, fields.object_expiry];
+    // SAFETY: the slice is valid for its length while the call lasts; the
+    // two arrays are locals.
     accepted(unsafe {
-        ffi::gevtsomi_encode(
-            fields.kind,
-            fields.client,
-            fields.item,
-            fields.present,
-            fields.number,
-            fields.volume_expiry,
-            fields.epoch,
-            fields.version,
-            fields.object_expiry,
-            fields.value,
-            output.as_mut_ptr(),
-            output.len(),
-        )
+        ffi::gevtsomi_encode(&head, &numbers, fields.value, output.as_mut_ptr(), output.len())
     })
 }
 

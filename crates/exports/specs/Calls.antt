@@ -4,12 +4,12 @@ use mathlib.Core.Bool.{Bool, cond, _&&_}
 use mathlib.Core.List.{List, [], _∷_}
 use mathlib.Core.Path.{_≡_}
 use lib.Dec.{leb, eqb}
-use lib.ListN.{length}
+use lib.ListN.{length, getD}
 use lib.Seq.{sets}
 use Rattle.frame.specs.declared.fields.Fields.{Fields}
 use Rattle.frame.specs.declared.Decoded.{Decoded}
 use Rattle.frame.specs.declared.Decoded.the-variants.{Accepted, Refused}
-use Rattle.frame.specs.Frame.{fieldsOf, messageIn, sound, isFrame, messageOf, fits, framed, refusal}
+use Rattle.frame.specs.Frame.{row, fieldsOf, messageIn, sound, isFrame, messageOf, fits, framed, refusal}
 use Rattle.run.specs.Listed.{fileListing, listRefusal, listedBytes}
 
 -- a listing and its length; a call that is refused leaves both as they were
@@ -18,7 +18,13 @@ pub record Lists (file before after : List ℕ) (n m r : ℕ) : Type 0 where
   pub written : m ≡ cond (eqb (listRefusal file (length before)) 0) (length (fileListing file)) n
   pub bytes : after ≡ sets before 0 (listedBytes file (length before))
 
--- the fields of a frame, encoded where they are right
+-- the fields of a frame: the four bytes of its head, its five numbers and its value
+abbrev pub fieldsFrom : List ℕ → List ℕ → ℕ → Fields
+fieldsFrom head numbers value =
+    row (getD head 0 0) (getD head 1 0) (getD head 2 0) (getD head 3 0)
+    (getD numbers 0 0) (getD numbers 1 0) (getD numbers 2 0) (getD numbers 3 0) (getD numbers 4 0) value
+
+-- .. encoded where they are right
 pub record EncodesFields (f : Fields) (before after : List ℕ) (r : ℕ) : Type 0 where
   pub number : r ≡ refusal (sound f && fits before)
   pub bytes : after ≡ cond (sound f) (framed (messageIn f) before) before
@@ -26,7 +32,7 @@ pub record EncodesFields (f : Fields) (before after : List ℕ) (r : ℕ) : Type
 -- the ten fields as numbers, in the frame's order
 abbrev pub numbersOf : Fields → List ℕ
 numbersOf f =
-    f .kind ∷ f .client ∷ f .object ∷ f .present ∷ f .number ∷ f .lease ∷ f .epoch ∷ f .version ∷ f .expiry ∷ f .value ∷ []
+    f .kind ∷ f .client ∷ f .object ∷ f .present ∷ f .number ∷ f .«volume_expiry» ∷ f .epoch ∷ f .version ∷ f .«object_expiry» ∷ f .value ∷ []
 
 abbrev pub fieldsStored : List ℕ → Decoded → List ℕ
 fieldsStored l (Accepted m) = sets l 0 (numbersOf (fieldsOf m))

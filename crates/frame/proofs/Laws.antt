@@ -23,13 +23,9 @@ module _ (d : ℕ) (k : Kind) (r : Fields) where
   unfolding kindFields
   by-renew o n e w h g = rw h g
 
-  pub by-value : (o n x e w y v : ℕ) (p : Payload) → k ≡ Grant o n x e w y p → p ≡ Value v → r ≡ row 2 d o 1 n x e w y v → r ≡ kindFields d k
-  unfolding kindFields
-  by-value o n x e w y v p h f g = rw (h, f) g
-
-  pub by-none : (o n x e w y : ℕ) (p : Payload) → k ≡ Grant o n x e w y p → p ≡ Same → r ≡ row 2 d o 0 n x e w y 0 → r ≡ kindFields d k
-  unfolding kindFields
-  by-none o n x e w y p h f g = rw (h, f) g
+  pub by-grant : (o n x e w y : ℕ) (p : Payload) (f : Fields) → k ≡ Grant o n x e w y p → f ≡ row 2 d o 0 n 0 e w 0 0
+      → r ≡ kindFields (f .client) (Grant (f .object) (f .number) x (f .epoch) (f .version) y p) → r ≡ kindFields d k
+  by-grant o n x e w y p f h i g = rw h (rw i at g)
 
   pub by-invalidate : (o e w : ℕ) → k ≡ Invalidate o e w → r ≡ row 3 d o 0 0 0 e w 0 0 → r ≡ kindFields d k
   unfolding kindFields
@@ -47,6 +43,17 @@ module _ (d : ℕ) (k : Kind) (r : Fields) where
   unfolding kindFields
   by-dropped v n e h g = rw h g
 
+module _ (f : Fields) (x y : ℕ) (p : Payload) where
+  pub with-value : (v : ℕ) → p ≡ Value v
+      → row 2 (f .client) (f .object) 1 (f .number) x (f .epoch) (f .version) y v ≡ kindFields (f .client) (Grant (f .object) (f .number) x (f .epoch) (f .version) y p)
+  unfolding kindFields
+  with-value v e = rw e
+
+  pub with-none : p ≡ Same
+      → row 2 (f .client) (f .object) 0 (f .number) x (f .epoch) (f .version) y 0 ≡ kindFields (f .client) (Grant (f .object) (f .number) x (f .epoch) (f .version) y p)
+  unfolding kindFields
+  with-none e = rw e
+
 module _ (f : Fields) where
   pub same-payload : f .present ≡ 0 → Same ≡ payloadIn f
   same-payload e = rw e
@@ -54,9 +61,10 @@ module _ (f : Fields) where
   pub with-payload : (f .present ≡ 0 → ⊥) → Value (f .value) ≡ payloadIn f
   with-payload e = rw (ne-eqb _ _ e)
 
-  pub kind-2 : (p : Payload) → f .kind ≡ 2 → p ≡ payloadIn f → Grant (f .object) (f .number) (f .lease) (f .epoch) (f .version) (f .expiry) p ≡ kindIn f
+  pub kind-2 : (k : Kind) → f .kind ≡ 2 → k ≡ Grant (f .object) (f .number) (f .«volume_expiry») (f .epoch) (f .version) (f .«object_expiry») (payloadIn f)
+      → k ≡ kindIn f
   unfolding kindIn
-  kind-2 p e g = rw (e, g)
+  kind-2 k e g = rw e g
 
   pub kind-3 : f .kind ≡ 3 → Invalidate (f .object) (f .epoch) (f .version) ≡ kindIn f
   unfolding kindIn
@@ -106,8 +114,8 @@ module _ (l : List ℕ) where
   decode-no e = record { message = rw (ne-eqb _ _ e); number = rw (ne-eqb _ _ e) }
 
 -- the five numbers, stored one after the other
-pub numbers-stored : (f : Fields) (l a b c d r : List ℕ) → Stored l a 4 (bytesOf 4 (f .number)) → Stored a b 8 (bytesOf 4 (f .lease))
-    → Stored b c 12 (bytesOf 4 (f .epoch)) → Stored c d 16 (bytesOf 4 (f .version)) → Stored d r 20 (bytesOf 4 (f .expiry)) → Stored l r 4 (numbers f)
+pub numbers-stored : (f : Fields) (l a b c d r : List ℕ) → Stored l a 4 (bytesOf 4 (f .number)) → Stored a b 8 (bytesOf 4 (f .«volume_expiry»))
+    → Stored b c 12 (bytesOf 4 (f .epoch)) → Stored c d 16 (bytesOf 4 (f .version)) → Stored d r 20 (bytesOf 4 (f .«object_expiry»)) → Stored l r 4 (numbers f)
 unfolding numbers
 numbers-stored f l a b c d r g h i j k =
     number-stored l a r 4 4 _ _ g (number-stored a b r 8 4 _ _ h (number-stored b c r 12 4 _ _ i (number-stored c d r 16 4 _ _ j k)))

@@ -19,7 +19,7 @@ use Rattle.frame.specs.declared.Encoded.the-variants as encoded
 
 -- the ten fields, in the frame's order
 abbrev pub row : ℕ → ℕ → ℕ → ℕ → ℕ → ℕ → ℕ → ℕ → ℕ → ℕ → Fields
-row k d o p n x e w y v = record { kind = k; client = d; object = o; present = p; number = n; lease = x; epoch = e; version = w; expiry = y; value = v }
+row k d o p n x e w y v = record { kind = k; client = d; object = o; present = p; number = n; «volume_expiry» = x; epoch = e; version = w; «object_expiry» = y; value = v }
 
 -- "RENEW has object, number, epoch and version; GRANT every field; INVALIDATE and ACK object, epoch and version; OFFER and DROPPED volume, number and epoch.
 -- Fields a kind lacks are 0. A GRANT without value has value 0."
@@ -42,7 +42,7 @@ head f = f .kind ∷ (f .client ∷ (f .object ∷ (f .present ∷ [])))
 
 -- number, volume expiry, epoch, version, object expiry;
 unfoldable pub numbers : Fields → List ℕ
-numbers f = bytesOf 4 (f .number) ++ (bytesOf 4 (f .lease) ++ (bytesOf 4 (f .epoch) ++ (bytesOf 4 (f .version) ++ bytesOf 4 (f .expiry))))
+numbers f = bytesOf 4 (f .number) ++ (bytesOf 4 (f .«volume_expiry») ++ (bytesOf 4 (f .epoch) ++ (bytesOf 4 (f .version) ++ bytesOf 4 (f .«object_expiry»))))
 
 -- value in 8 bytes."
 unfoldable pub laid : Fields → List ℕ
@@ -63,7 +63,7 @@ payloadIn f = cond (eqb (f .present) 0) Same (Value (f .value))
 
 unfoldable pub kindIn : Fields → Kind
 kindIn f =
-    cond (eqb (f .kind) 2) (Grant (f .object) (f .number) (f .lease) (f .epoch) (f .version) (f .expiry) (payloadIn f))
+    cond (eqb (f .kind) 2) (Grant (f .object) (f .number) (f .«volume_expiry») (f .epoch) (f .version) (f .«object_expiry») (payloadIn f))
     (cond (eqb (f .kind) 3) (Invalidate (f .object) (f .epoch) (f .version))
     (cond (eqb (f .kind) 4) (Ack (f .object) (f .epoch) (f .version))
     (cond (eqb (f .kind) 5) (Offer (f .object) (f .number) (f .epoch))
@@ -79,10 +79,10 @@ same a b =
     && eqb (a .object) (b .object)
     && eqb (a .present) (b .present)
     && eqb (a .number) (b .number)
-    && eqb (a .lease) (b .lease)
+    && eqb (a .«volume_expiry») (b .«volume_expiry»)
     && eqb (a .epoch) (b .epoch)
     && eqb (a .version) (b .version)
-    && eqb (a .expiry) (b .expiry)
+    && eqb (a .«object_expiry») (b .«object_expiry»)
     && eqb (a .value) (b .value)
 
 -- Kind, value present and zero fields are right exactly where that message has these fields; `Questions` writes that out, kind by kind, and `Round` shows what follows from it

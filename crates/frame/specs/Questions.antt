@@ -17,10 +17,10 @@ none n = eqb 0 n
 -- what each kind lacks is 0; a GRANT's value is marked by 1, or it is 0 and the mark too; there is no other kind
 unfoldable pub right : Fields → Bool
 right f =
-    cond (eqb (f .kind) 1) (none (f .present) && none (f .lease) && none (f .expiry) && none (f .value))
+    cond (eqb (f .kind) 1) (none (f .present) && none (f .«volume_expiry») && none (f .«object_expiry») && none (f .value))
     (cond (eqb (f .kind) 2) (cond (eqb (f .present) 0) (none (f .value)) (eqb 1 (f .present)))
-    (cond (eqb (f .kind) 3 || eqb (f .kind) 4) (none (f .present) && none (f .number) && none (f .lease) && none (f .expiry) && none (f .value))
-    (cond (eqb (f .kind) 5 || eqb (f .kind) 6) (none (f .present) && none (f .lease) && none (f .version) && none (f .expiry) && none (f .value)) false)))
+    (cond (eqb (f .kind) 3 || eqb (f .kind) 4) (none (f .present) && none (f .number) && none (f .«volume_expiry») && none (f .«object_expiry») && none (f .value))
+    (cond (eqb (f .kind) 5 || eqb (f .kind) 6) (none (f .present) && none (f .«volume_expiry») && none (f .version) && none (f .«object_expiry») && none (f .value)) false)))
 
 self : (n : ℕ) → eqb n n ≡ true
 self n = eq-eqb n n refl
@@ -88,4 +88,4 @@ module _ (d o p n x e w y v : ℕ) where
 
 -- So a frame is accepted exactly where its fields are right.
 pub asked : (f : Fields) → sound f ≡ right f
-asked f = each (f .client) (f .object) (f .present) (f .number) (f .lease) (f .epoch) (f .version) (f .expiry) (f .value) (f .kind)
+asked f = each (f .client) (f .object) (f .present) (f .number) (f .«volume_expiry») (f .epoch) (f .version) (f .«object_expiry») (f .value) (f .kind)

@@ -24,10 +24,10 @@ pub record FieldsFit (f : Fields) : Type 0 where
   pub client : f .client < 256
   pub object : f .object < 256
   pub number : f .number < limit 4
-  pub lease : f .lease < limit 4
+  pub volume-expiry : f .«volume_expiry» < limit 4
   pub epoch : f .epoch < limit 4
   pub version : f .version < limit 4
-  pub expiry : f .expiry < limit 4
+  pub object-expiry : f .«object_expiry» < limit 4
   pub value : f .value < limit 8
 
 abbrev pub Fits : Message → Type 0
@@ -37,7 +37,7 @@ Fits m = FieldsFit (fieldsOf m)
 fields-back : (f : Fields) → FieldsFit f → fieldsIn (laid f) ≡ f
 unfolding fieldsIn laid numbers littleEndian bytesOf bytesAt
 fields-back f h =
-    rw (read-back 4 (f .number) (h .number), read-back 4 (f .lease) (h .lease), read-back 4 (f .epoch) (h .epoch), read-back 4 (f .version) (h .version), read-back 4 (f .expiry) (h .expiry), read-back 8 (f .value) (h .value))
+    rw (read-back 4 (f .number) (h .number), read-back 4 (f .«volume_expiry») (h .volume-expiry), read-back 4 (f .epoch) (h .epoch), read-back 4 (f .version) (h .version), read-back 4 (f .«object_expiry») (h .object-expiry), read-back 8 (f .value) (h .value))
 
 -- a message's fields are those of no other message
 kind-back : (d : ℕ) (k : Kind) → kindIn (kindFields d k) ≡ k
@@ -66,7 +66,7 @@ message-back m = rw (kind-back, client-back)
 same-self : (f : Fields) → same f f ≡ true
 unfolding same
 same-self f =
-    rw (eq-eqb (f .kind) _ refl, eq-eqb (f .client) _ refl, eq-eqb (f .object) _ refl, eq-eqb (f .present) _ refl, eq-eqb (f .number) _ refl, eq-eqb (f .lease) _ refl, eq-eqb (f .epoch) _ refl, eq-eqb (f .version) _ refl, eq-eqb (f .expiry) _ refl, eq-eqb (f .value) _ refl)
+    rw (eq-eqb (f .kind) _ refl, eq-eqb (f .client) _ refl, eq-eqb (f .object) _ refl, eq-eqb (f .present) _ refl, eq-eqb (f .number) _ refl, eq-eqb (f .«volume_expiry») _ refl, eq-eqb (f .epoch) _ refl, eq-eqb (f .version) _ refl, eq-eqb (f .«object_expiry») _ refl, eq-eqb (f .value) _ refl)
 
 accepted-own : (m : Message) → accepted (fieldsOf m) ≡ Accepted m
 unfolding accepted
@@ -96,9 +96,9 @@ same-true f g e =
     rebuilt (eqb-true _ _ (y .0)) (eqb-true _ _ (y .1)) (eqb-true _ _ (z .1)) (eqb-true _ _ (a .1)) (eqb-true _ _ (b .1)) (eqb-true _ _ (c .1)) (eqb-true _ _ (d .1)) (eqb-true _ _ (h .1)) (eqb-true _ _ (i .1)) (eqb-true _ _ (j .1))
   where
     rebuilt : f .kind ≡ g .kind → f .client ≡ g .client → f .object ≡ g .object → f .present ≡ g .present → f .number ≡ g .number
-        → f .lease ≡ g .lease → f .epoch ≡ g .epoch → f .version ≡ g .version → f .expiry ≡ g .expiry → f .value ≡ g .value
-        → row (f .kind) (f .client) (f .object) (f .present) (f .number) (f .lease) (f .epoch) (f .version) (f .expiry) (f .value)
-        ≡ row (g .kind) (g .client) (g .object) (g .present) (g .number) (g .lease) (g .epoch) (g .version) (g .expiry) (g .value)
+        → f .«volume_expiry» ≡ g .«volume_expiry» → f .epoch ≡ g .epoch → f .version ≡ g .version → f .«object_expiry» ≡ g .«object_expiry» → f .value ≡ g .value
+        → row (f .kind) (f .client) (f .object) (f .present) (f .number) (f .«volume_expiry») (f .epoch) (f .version) (f .«object_expiry») (f .value)
+        ≡ row (g .kind) (g .client) (g .object) (g .present) (g .number) (g .«volume_expiry») (g .epoch) (g .version) (g .«object_expiry») (g .value)
     rebuilt a b c d e f′ g′ h i j = cc
 
 -- a frame: read and laid out again
@@ -146,10 +146,10 @@ module _ (l : List ℕ) (b : Bytes l) (m : Message) (e : messageOf l ≡ Accepte
     client = b 1;
     object = b 2;
     number = number-below l b 4 4;
-    lease = number-below l b 8 4;
+    volume-expiry = number-below l b 8 4;
     epoch = number-below l b 12 4;
     version = number-below l b 16 4;
-    expiry = number-below l b 20 4;
+    object-expiry = number-below l b 20 4;
     value = number-below l b 24 8;
   })
 

@@ -1,5 +1,6 @@
 // A frame's fields as numbers, and the message that they are.
 ghost use mathlib.Core.Path.{_≡_};
+ghost use Rattle.protocol.specs.declared.message.Kind.the-variants.{Grant};
 ghost use Rattle.frame.specs.Frame.{row, kindFields, fieldsOf, payloadIn, kindIn, messageIn, same};
 use protocol::message::Kind;
 use protocol::message::Message;
@@ -14,40 +15,60 @@ pub struct Fields {
     // whether a GRANT has a value
     pub present: u8,
     pub number: u32,
-    // a GRANT's volume expiry
-    pub lease: u32,
+    pub volume_expiry: u32,
     pub epoch: u32,
     pub version: u32,
-    // a GRANT's object expiry
-    pub expiry: u32,
+    pub object_expiry: u32,
     pub value: u64,
 }
 
-fn row(
-    kind: u8,
-    client: u8,
-    object: u8,
-    present: u8,
-    number: u32,
-    lease: u32,
-    epoch: u32,
-    version: u32,
-    expiry: u32,
-    value: u64,
-) -> Fields
-    ensures { λ r. ⌜ r ≡ row kind client object present number lease epoch version expiry value ⌝ }
+// "Fields a kind lacks are 0": the other four are a GRANT's.
+fn without_lease(kind: u8, client: u8, object: u8, number: u32, epoch: u32, version: u32) -> Fields
+    ensures { λ r. ⌜ r ≡ row kind client object 0 number 0 epoch version 0 0 ⌝ }
 {
     Fields {
         kind,
         client,
         object,
-        present,
+        present: 0,
         number,
-        lease,
+        volume_expiry: 0,
         epoch,
         version,
-        expiry,
-        value,
+        object_expiry: 0,
+        value: 0,
+    }
+}
+
+// The GRANT with these four too: "A GRANT without value has value 0."
+fn with_lease(f: Fields, volume_expiry: u32, object_expiry: u32, payload: Payload) -> Fields
+    ensures { λ r. ⌜ r ≡ kindFields (f .client) (Grant (f .object) (f .number) «volume_expiry» (f .epoch) (f .version) «object_expiry» payload) ⌝ }
+{
+    match payload {
+        Payload::Value(value) => Fields {
+            kind: 2,
+            client: f.client,
+            object: f.object,
+            present: 1,
+            number: f.number,
+            volume_expiry,
+            epoch: f.epoch,
+            version: f.version,
+            object_expiry,
+            value,
+        },
+        Payload::Same => Fields {
+            kind: 2,
+            client: f.client,
+            object: f.object,
+            present: 0,
+            number: f.number,
+            volume_expiry,
+            epoch: f.epoch,
+            version: f.version,
+            object_expiry,
+            value: 0,
+        },
     }
 }
 
@@ -60,7 +81,7 @@ fn kind_fields(client: u8, kind: Kind) -> Fields
             number,
             epoch,
             version,
-        } => row(1, client, object, 0, number, 0, epoch, version, 0, 0),
+        } => without_lease(1, client, object, number, epoch, version),
         Kind::Grant {
             object,
             number,
@@ -69,60 +90,38 @@ fn kind_fields(client: u8, kind: Kind) -> Fields
             version,
             object_expiry,
             payload,
-        } => match payload {
-            Payload::Value(value) => row(
-                2,
-                client,
-                object,
-                1,
-                number,
-                volume_expiry,
-                epoch,
-                version,
-                object_expiry,
-                value,
-            ),
-            Payload::Same => row(
-                2,
-                client,
-                object,
-                0,
-                number,
-                volume_expiry,
-                epoch,
-                version,
-                object_expiry,
-                0,
-            ),
-        },
+        } => {
+            let f = without_lease(2, client, object, number, epoch, version);
+            with_lease(f, volume_expiry, object_expiry, payload)
+        }
         Kind::Invalidate {
             object,
             epoch,
             version,
-        } => row(3, client, object, 0, 0, 0, epoch, version, 0, 0),
+        } => without_lease(3, client, object, 0, epoch, version),
         Kind::Ack {
             object,
             epoch,
             version,
-        } => row(4, client, object, 0, 0, 0, epoch, version, 0, 0),
+        } => without_lease(4, client, object, 0, epoch, version),
         Kind::Offer {
             volume,
             number,
             epoch,
-        } => row(5, client, volume, 0, number, 0, epoch, 0, 0, 0),
+        } => without_lease(5, client, volume, number, epoch, 0),
         Kind::Dropped {
             volume,
             number,
             epoch,
-        } => row(6, client, volume, 0, number, 0, epoch, 0, 0, 0),
+        } => without_lease(6, client, volume, number, epoch, 0),
     }
 }
 
-pub fn fields_of(m: Message) -> Fields
-    ensures { λ r. ⌜ r ≡ fieldsOf m ⌝ }
+pub fn fields_of(message: Message) -> Fields
+    ensures { λ r. ⌜ r ≡ fieldsOf message ⌝ }
 {
-    let kind = m.kind;
-    kind_fields(m.client, kind)
+    let kind = message.kind;
+    kind_fields(message.client, kind)
 }
 
 fn payload_in(f: Fields) -> Payload
@@ -134,19 +133,25 @@ fn payload_in(f: Fields) -> Payload
     Payload::Value(f.value)
 }
 
+fn grant_in(f: Fields) -> Kind
+    ensures { λ r. ⌜ r ≡ Grant (f .object) (f .number) (f .«volume_expiry») (f .epoch) (f .version) (f .«object_expiry») (payloadIn f) ⌝ }
+{
+    Kind::Grant {
+        object: f.object,
+        number: f.number,
+        volume_expiry: f.volume_expiry,
+        epoch: f.epoch,
+        version: f.version,
+        object_expiry: f.object_expiry,
+        payload: payload_in(f),
+    }
+}
+
 fn kind_in(f: Fields) -> Kind
     ensures { λ r. ⌜ r ≡ kindIn f ⌝ }
 {
     if f.kind == 2 {
-        return Kind::Grant {
-            object: f.object,
-            number: f.number,
-            volume_expiry: f.lease,
-            epoch: f.epoch,
-            version: f.version,
-            object_expiry: f.expiry,
-            payload: payload_in(f),
-        };
+        return grant_in(f);
     }
     if f.kind == 3 {
         return Kind::Invalidate {
@@ -201,6 +206,9 @@ pub fn same(a: Fields, b: Fields) -> bool
         & (a.client == b.client)
         & (a.object == b.object)
         & (a.present == b.present);
-    let times = head & (a.number == b.number) & (a.lease == b.lease) & (a.epoch == b.epoch);
-    times & (a.version == b.version) & (a.expiry == b.expiry) & (a.value == b.value)
+    let times = head
+        & (a.number == b.number)
+        & (a.volume_expiry == b.volume_expiry)
+        & (a.epoch == b.epoch);
+    times & (a.version == b.version) & (a.object_expiry == b.object_expiry) & (a.value == b.value)
 }

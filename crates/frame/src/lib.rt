@@ -23,29 +23,29 @@ pub enum Encoded {
 fn accept(f: Fields) -> Decoded
     ensures { λ r. ⌜ r ≡ accepted f ⌝ }
 {
-    let m = fields::message_in(f);
-    if fields::same(fields::fields_of(m), f) {
-        return Decoded::Accepted(m);
+    let message = fields::message_in(f);
+    if fields::same(fields::fields_of(message), f) {
+        return Decoded::Accepted(message);
     }
     Decoded::Refused
 }
 
 // The message of a frame, for any bytes.
-pub fn decode(s: &[u8]) -> Decoded
-    ensures { λ r. ⌜ Decodes (now (s .entry)) r ⌝ }
+pub fn decode(bytes: &[u8]) -> Decoded
+    ensures { λ r. ⌜ Decodes (now (bytes .entry)) r ⌝ }
 {
-    if s.len() == 32 {
-        return accept(place::read(s));
+    if bytes.len() == 32 {
+        return accept(place::read(bytes));
     }
     Decoded::Refused
 }
 
 // Writes the message's frame to the output's first 32 bytes, if it has so many. The others keep what they held.
-pub fn encode(m: Message, out: &mut [u8]) -> Encoded
-    ensures { λ r. ⌜ Encodes m (now (out .entry)) (now (out .exit)) r ⌝ }
+pub fn encode(message: Message, out: &mut [u8]) -> Encoded
+    ensures { λ r. ⌜ Encodes message (now (out .entry)) (now (out .exit)) r ⌝ }
 {
     if 32 <= out.len() {
-        place::write(out, fields::fields_of(m));
+        place::write(out, fields::fields_of(message));
         return Encoded::Written;
     }
     Encoded::Refused

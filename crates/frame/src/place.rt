@@ -6,21 +6,21 @@ ghost use Rattle.layout.specs.Number.{Stored};
 ghost use Rattle.frame.specs.Frame.{head, numbers, laid, fieldsIn};
 use crate::fields::Fields;
 
-pub fn read(s: &[u8]) -> Fields
-    requires { ⌜ 32 ≤ length (now s) ⌝ }
-    ensures { λ r. ⌜ r ≡ fieldsIn (now (s .entry)) ⌝ }
+pub fn read(bytes: &[u8]) -> Fields
+    requires { ⌜ 32 ≤ length (now bytes) ⌝ }
+    ensures { λ r. ⌜ r ≡ fieldsIn (now (bytes .entry)) ⌝ }
 {
     Fields {
-        kind: s[0],
-        client: s[1],
-        object: s[2],
-        present: s[3],
-        number: layout::read_u32(s, 4),
-        lease: layout::read_u32(s, 8),
-        epoch: layout::read_u32(s, 12),
-        version: layout::read_u32(s, 16),
-        expiry: layout::read_u32(s, 20),
-        value: layout::read_u64(s, 24),
+        kind: bytes[0],
+        client: bytes[1],
+        object: bytes[2],
+        present: bytes[3],
+        number: layout::read_u32(bytes, 4),
+        volume_expiry: layout::read_u32(bytes, 8),
+        epoch: layout::read_u32(bytes, 12),
+        version: layout::read_u32(bytes, 16),
+        object_expiry: layout::read_u32(bytes, 20),
+        value: layout::read_u64(bytes, 24),
     }
 }
 
@@ -39,10 +39,10 @@ fn write_numbers(out: &mut [u8], f: Fields)
     ensures { λ _. ⌜ Stored (now (out .entry)) (now (out .exit)) 4 (numbers f) ⌝ }
 {
     layout::write_u32(out, 4, f.number);
-    layout::write_u32(out, 8, f.lease);
+    layout::write_u32(out, 8, f.volume_expiry);
     layout::write_u32(out, 12, f.epoch);
     layout::write_u32(out, 16, f.version);
-    layout::write_u32(out, 20, f.expiry);
+    layout::write_u32(out, 20, f.object_expiry);
 }
 
 pub fn write(out: &mut [u8], f: Fields)

@@ -28,10 +28,10 @@ fn fields(f: Fields) {
     number(f.object as u64);
     number(f.present as u64);
     number(f.number as u64);
-    number(f.lease as u64);
+    number(f.volume_expiry as u64);
     number(f.epoch as u64);
     number(f.version as u64);
-    number(f.expiry as u64);
+    number(f.object_expiry as u64);
     number(f.value);
 }
 

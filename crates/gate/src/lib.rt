@@ -14,12 +14,19 @@ pub mod steps;
 pub mod tables;
 
 // All six questions, for any input; `records` says whether all records are sound.
-pub fn refusal(s: Setup, words: &Words, values: &Values, records: bool, r: Request, x: Step) -> u8
-    ensures { λ k. ⌜ k ≡ refusal s (tablesOf (now (words .entry)) (now (values .entry))) records r x ⌝ }
+pub fn refusal(
+    s: Setup,
+    words: &Words,
+    values: &Values,
+    records: bool,
+    request: Request,
+    step: Step,
+) -> u8
+    ensures { λ r. ⌜ r ≡ refusal s (tablesOf (now (words .entry)) (now (values .entry))) records request step ⌝ }
 {
     if setup::in_range(s) {
         let whole = records & tables::tables_sound(s, words, values);
-        let next = steps::refusal_of_step(s, words, values, r, x);
+        let next = steps::refusal_of_step(s, words, values, request, step);
         return steps::or_refuse(whole, 1, next);
     }
     1

@@ -10,10 +10,10 @@ use words::Words;
 use words::network;
 
 // "named items existing", and a GRANT's expiries fit.
-fn kind_sound(s: Setup, k: Kind) -> bool
-    ensures { λ r. ⌜ r ≡ kindSound s k ⌝ }
+fn kind_sound(s: Setup, kind: Kind) -> bool
+    ensures { λ r. ⌜ r ≡ kindSound s kind ⌝ }
 {
-    match k {
+    match kind {
         Kind::Renew {
             object,
             number: _,
@@ -54,12 +54,12 @@ fn kind_sound(s: Setup, k: Kind) -> bool
     }
 }
 
-pub fn message_sound(s: Setup, m: Message) -> bool
-    ensures { λ r. ⌜ r ≡ messageSound s m ⌝ }
+pub fn message_sound(s: Setup, message: Message) -> bool
+    ensures { λ r. ⌜ r ≡ messageSound s message ⌝ }
 {
-    let k = m.kind;
-    let named = (m.client as u32) < s.clients;
-    named & kind_sound(s, k)
+    let kind = message.kind;
+    let named = (message.client as u32) < s.clients;
+    named & kind_sound(s, kind)
 }
 
 // "at most 64 messages", each sound.
@@ -74,8 +74,8 @@ pub fn queue_sound(s: Setup, words: &Words, values: &Values) -> bool
     let mut ok = true;
     let mut i = 0;
     while i < n {
-        let m = list::message_at(words, values, i);
-        ok = ok & message_sound(s, m);
+        let message = list::message_at(words, values, i);
+        ok = ok & message_sound(s, message);
         i += 1;
     }
     ok

@@ -27,39 +27,39 @@ pub fn or_refuse(ok: bool, number: u8, next: u8) -> u8
 }
 
 // 3. "Do the dash, object and place it uses exist?"
-fn exists(s: Setup, words: &Words, x: Step) -> bool
-    ensures { λ r. ⌜ r ≡ exists s (numbersOf (now (words .entry))) x ⌝ }
+fn exists(s: Setup, words: &Words, step: Step) -> bool
+    ensures { λ r. ⌜ r ≡ exists s (numbersOf (now (words .entry))) step ⌝ }
 {
-    (!kinds::uses_client(x) | ((x.client as u32) < s.clients))
-        & (!kinds::uses_object(x) | ((x.object as u32) < s.objects))
-        & (!kinds::uses_place(x) | ((x.place as u32) < words[network::LENGTH]))
+    (!kinds::uses_client(step) | ((step.client as u32) < s.clients))
+        & (!kinds::uses_object(step) | ((step.object as u32) < s.objects))
+        & (!kinds::uses_place(step) | ((step.place as u32) < words[network::LENGTH]))
 }
 
 // 4. "Is T from the clock to 2,147,483,647?"
-fn timely(words: &Words, x: Step) -> bool
-    ensures { λ r. ⌜ r ≡ timely (numbersOf (now (words .entry))) x ⌝ }
+fn timely(words: &Words, step: Step) -> bool
+    ensures { λ r. ⌜ r ≡ timely (numbersOf (now (words .entry))) step ⌝ }
 {
-    !kinds::uses_clock(x) | ((words[network::CLOCK] <= x.clock) & (x.clock <= 2147483647))
+    !kinds::uses_clock(step) | ((words[network::CLOCK] <= step.clock) & (step.clock <= 2147483647))
 }
 
 // 5. "For a write, is none standing there?" An object that does not exist has none.
-fn vacant(words: &Words, x: Step) -> bool
-    ensures { λ r. ⌜ r ≡ vacant (numbersOf (now (words .entry))) x ⌝ }
+fn vacant(words: &Words, step: Step) -> bool
+    ensures { λ r. ⌜ r ≡ vacant (numbersOf (now (words .entry))) step ⌝ }
 {
-    let o = x.object as usize;
-    if o < 32 {
-        return (x.kind != 4) | (words[server::STANDING + o] == 0);
+    let object = step.object as usize;
+    if object < 32 {
+        return (step.kind != 4) | (words[server::STANDING + object] == 0);
     }
     true
 }
 
 // 6. "Is the version .. that must grow below 4,294,967,295?" An object that does not exist has version 0.
-fn version_grows(words: &Words, x: Step) -> bool
-    ensures { λ r. ⌜ r ≡ (not (isWrite x) || canGrow (versionAt (numbersOf (now (words .entry))) (x .object))) ⌝ }
+fn version_grows(words: &Words, step: Step) -> bool
+    ensures { λ r. ⌜ r ≡ (not (isWrite step) || canGrow (versionAt (numbersOf (now (words .entry))) (step .object))) ⌝ }
 {
-    let o = x.object as usize;
-    if o < 32 {
-        return (x.kind != 4) | (words[server::VERSION + o] < 4294967295);
+    let object = step.object as usize;
+    if object < 32 {
+        return (step.kind != 4) | (words[server::VERSION + object] < 4294967295);
     }
     true
 }
@@ -70,33 +70,33 @@ fn epochs_grow(words: &Words, n: usize) -> bool
     ensures { λ r. ⌜ r ≡ allFrom (λ (v : ℕ). canGrow (epochAt (numbersOf (now (words .entry))) v)) 0 n ⌝ }
 {
     let mut ok = true;
-    let mut v = 0;
-    while v < n {
-        ok = ok & (words[server::VOLUME_EPOCH + v] < 4294967295);
-        v += 1;
+    let mut volume = 0;
+    while volume < n {
+        ok = ok & (words[server::VOLUME_EPOCH + volume] < 4294967295);
+        volume += 1;
     }
     ok
 }
 
-fn growable(s: Setup, words: &Words, r: Request, x: Step) -> bool
+fn growable(s: Setup, words: &Words, request: Request, step: Step) -> bool
     requires { ⌜ inRange s ≡ true ⌝ }
-    ensures { λ b. ⌜ b ≡ growable s (numbersOf (now (words .entry))) r x ⌝ }
+    ensures { λ r. ⌜ r ≡ growable s (numbersOf (now (words .entry))) request step ⌝ }
 {
-    let version = version_grows(words, x);
+    let version = version_grows(words, step);
     let epochs = epochs_grow(words, s.volumes as usize);
-    version & ((x.kind != 8) | epochs) & ((x.kind != 3) | (r.next < 4294967295))
+    version & ((step.kind != 8) | epochs) & ((step.kind != 3) | (request.next < 4294967295))
 }
 
 // Questions 2 ("Is the kind 1 to 9?") to 6: the number of the first "no". The values are lent for the contract alone, which speaks of whole tables.
-pub fn refusal_of_step(s: Setup, words: &Words, values: &Values, r: Request, x: Step) -> u8
+pub fn refusal_of_step(s: Setup, words: &Words, values: &Values, request: Request, step: Step) -> u8
     requires { ⌜ inRange s ≡ true ⌝ }
-    ensures { λ k. ⌜ k ≡ refusalOfStep s (tablesOf (now (words .entry)) (now (values .entry))) r x ⌝ }
+    ensures { λ r. ⌜ r ≡ refusalOfStep s (tablesOf (now (words .entry)) (now (values .entry))) request step ⌝ }
 {
-    let known = kinds::known(x);
-    let exists = exists(s, words, x);
-    let timely = timely(words, x);
-    let vacant = vacant(words, x);
-    let growable = growable(s, words, r, x);
+    let known = kinds::known(step);
+    let exists = exists(s, words, step);
+    let timely = timely(words, step);
+    let vacant = vacant(words, step);
+    let growable = growable(s, words, request, step);
     let sixth = or_refuse(growable, 6, 0);
     let fifth = or_refuse(vacant, 5, sixth);
     let fourth = or_refuse(timely, 4, fifth);

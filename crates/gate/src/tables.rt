@@ -20,13 +20,13 @@ fn volumes_fit(words: &Words, n: usize) -> bool
     ensures { λ r. ⌜ r ≡ allFrom (volumeSound (numbersOf (now (words .entry)))) 0 n ⌝ }
 {
     let mut ok = true;
-    let mut v = 0;
-    while v < n {
-        let epoch = words[server::VOLUME_EPOCH + v];
-        let expiry = words[server::VOLUME_EXPIRY + v];
-        let guard = words[server::GUARD + v];
-        ok = ok & ((1 <= epoch) & (expiry <= 2148483647) & (guard <= 2148483647));
-        v += 1;
+    let mut volume = 0;
+    while volume < n {
+        let epoch = words[server::VOLUME_EPOCH + volume];
+        let volume_expiry = words[server::VOLUME_EXPIRY + volume];
+        let guard = words[server::GUARD + volume];
+        ok = ok & ((1 <= epoch) & (volume_expiry <= 2148483647) & (guard <= 2148483647));
+        volume += 1;
     }
     ok
 }
@@ -37,46 +37,46 @@ fn objects_fit(words: &Words, n: usize) -> bool
     ensures { λ r. ⌜ r ≡ allFrom (objectSound (numbersOf (now (words .entry)))) 0 n ⌝ }
 {
     let mut ok = true;
-    let mut o = 0;
-    while o < n {
-        let version = words[server::VERSION + o];
-        let expiry = words[server::OBJECT_EXPIRY + o];
-        let open = (words[server::END + o] <= 2148483647) & (version < 4294967295);
-        let settled = (words[server::STANDING + o] == 0) | open;
-        ok = ok & ((1 <= version) & (expiry <= 2148483647) & settled);
-        o += 1;
+    let mut object = 0;
+    while object < n {
+        let version = words[server::VERSION + object];
+        let object_expiry = words[server::OBJECT_EXPIRY + object];
+        let open = (words[server::END + object] <= 2148483647) & (version < 4294967295);
+        let settled = (words[server::STANDING + object] == 0) | open;
+        ok = ok & ((1 <= version) & (object_expiry <= 2148483647) & settled);
+        object += 1;
     }
     ok
 }
 
 // One client's volume leases, at the server and at the client.
-fn sessions_fit(words: &Words, d: usize, n: usize) -> bool
-    requires { ⌜ d < 16 ⌝ }
+fn sessions_fit(words: &Words, client: usize, n: usize) -> bool
+    requires { ⌜ client < 16 ⌝ }
     requires { ⌜ n ≤ 8 ⌝ }
-    ensures { λ r. ⌜ r ≡ allFrom (sessionSound (numbersOf (now (words .entry))) d) 0 n ⌝ }
+    ensures { λ r. ⌜ r ≡ allFrom (sessionSound (numbersOf (now (words .entry))) client) 0 n ⌝ }
 {
     let mut ok = true;
-    let mut v = 0;
-    while v < n {
-        let server = words[server::SESSION_EXPIRY + (d * 8 + v)];
-        let client = words[client::VIEW_EXPIRY + (d * 8 + v)];
-        ok = ok & ((server <= 2148483647) & (client <= 2148483647));
-        v += 1;
+    let mut volume = 0;
+    while volume < n {
+        let granted = words[server::SESSION_EXPIRY + (client * 8 + volume)];
+        let known = words[client::VIEW_EXPIRY + (client * 8 + volume)];
+        ok = ok & ((granted <= 2148483647) & (known <= 2148483647));
+        volume += 1;
     }
     ok
 }
 
 // One client's object leases at the server.
-fn holders_fit(words: &Words, d: usize, n: usize) -> bool
-    requires { ⌜ d < 16 ⌝ }
+fn holders_fit(words: &Words, client: usize, n: usize) -> bool
+    requires { ⌜ client < 16 ⌝ }
     requires { ⌜ n ≤ 32 ⌝ }
-    ensures { λ r. ⌜ r ≡ allFrom (holderSound (numbersOf (now (words .entry))) d) 0 n ⌝ }
+    ensures { λ r. ⌜ r ≡ allFrom (holderSound (numbersOf (now (words .entry))) client) 0 n ⌝ }
 {
     let mut ok = true;
-    let mut o = 0;
-    while o < n {
-        ok = ok & (words[server::LEASE + (d * 32 + o)] <= 2148483647);
-        o += 1;
+    let mut object = 0;
+    while object < n {
+        ok = ok & (words[server::LEASE + (client * 32 + object)] <= 2148483647);
+        object += 1;
     }
     ok
 }
@@ -87,10 +87,10 @@ fn all_sessions_fit(s: Setup, words: &Words) -> bool
 {
     let clients = s.clients as usize;
     let mut ok = true;
-    let mut d = 0;
-    while d < clients {
-        ok = ok & sessions_fit(words, d, s.volumes as usize);
-        d += 1;
+    let mut client = 0;
+    while client < clients {
+        ok = ok & sessions_fit(words, client, s.volumes as usize);
+        client += 1;
     }
     ok
 }
@@ -101,10 +101,10 @@ fn all_holders_fit(s: Setup, words: &Words) -> bool
 {
     let clients = s.clients as usize;
     let mut ok = true;
-    let mut d = 0;
-    while d < clients {
-        ok = ok & holders_fit(words, d, s.objects as usize);
-        d += 1;
+    let mut client = 0;
+    while client < clients {
+        ok = ok & holders_fit(words, client, s.objects as usize);
+        client += 1;
     }
     ok
 }

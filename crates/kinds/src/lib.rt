@@ -5,39 +5,39 @@ ghost use Rattle.protocol.specs.Gate.{isClock, isWrite, usesClient, usesObject,
 use protocol::step::Step;
 
 // "Is the kind 1 to 9?"
-pub fn known(x: Step) -> bool
-    ensures { λ r. ⌜ r ≡ known x ⌝ }
+pub fn known(step: Step) -> bool
+    ensures { λ r. ⌜ r ≡ known step ⌝ }
 {
-    (1 <= x.kind) & (x.kind <= 9)
+    (1 <= step.kind) & (step.kind <= 9)
 }
 
-pub fn uses_client(x: Step) -> bool
-    ensures { λ r. ⌜ r ≡ usesClient x ⌝ }
+pub fn uses_client(step: Step) -> bool
+    ensures { λ r. ⌜ r ≡ usesClient step ⌝ }
 {
-    (x.kind == 2) | (x.kind == 3) | (x.kind == 9)
+    (step.kind == 2) | (step.kind == 3) | (step.kind == 9)
 }
 
-pub fn uses_object(x: Step) -> bool
-    ensures { λ r. ⌜ r ≡ usesObject x ⌝ }
+pub fn uses_object(step: Step) -> bool
+    ensures { λ r. ⌜ r ≡ usesObject step ⌝ }
 {
-    (x.kind == 2) | (x.kind == 3) | (x.kind == 4)
+    (step.kind == 2) | (step.kind == 3) | (step.kind == 4)
 }
 
-pub fn uses_place(x: Step) -> bool
-    ensures { λ r. ⌜ r ≡ usesPlace x ⌝ }
+pub fn uses_place(step: Step) -> bool
+    ensures { λ r. ⌜ r ≡ usesPlace step ⌝ }
 {
-    (x.kind == 5) | (x.kind == 6) | (x.kind == 7)
+    (step.kind == 5) | (step.kind == 6) | (step.kind == 7)
 }
 
 // The clock is a clock step's alone, the value a write's.
-pub fn uses_clock(x: Step) -> bool
-    ensures { λ r. ⌜ r ≡ isClock x ⌝ }
+pub fn uses_clock(step: Step) -> bool
+    ensures { λ r. ⌜ r ≡ isClock step ⌝ }
 {
-    x.kind == 1
+    step.kind == 1
 }
 
-pub fn uses_value(x: Step) -> bool
-    ensures { λ r. ⌜ r ≡ isWrite x ⌝ }
+pub fn uses_value(step: Step) -> bool
+    ensures { λ r. ⌜ r ≡ isWrite step ⌝ }
 {
-    x.kind == 4
+    step.kind == 4
 }

@@ -7,10 +7,10 @@ ghost use Rattle.leases.specs.Parts.{Placed};
 use protocol::setup::Setup;
 
 // The volume of an object.
-pub fn volume_of(s: Setup, o: usize) -> usize
+pub fn volume_of(s: Setup, object: usize) -> usize
     requires { ⌜ inRange s ≡ true ⌝ }
-    requires { ⌜ o < s .objects ⌝ }
-    ensures { λ r. ⌜ Placed s o r ⌝ }
+    requires { ⌜ object < s .objects ⌝ }
+    ensures { λ r. ⌜ Placed s object r ⌝ }
 {
-    s.volume[o] as usize
+    s.volume[object] as usize
 }

@@ -27,11 +27,11 @@ pub fn end_over(clock: u32, end: u32) -> bool
 }
 
 // "object lease is alive and which either are not marked unreachable or have a live volume lease"
-pub fn waits(clock: u32, lease: u32, unreachable: bool, expiry: u32) -> bool
-    ensures { λ r. ⌜ r ≡ waitsBy clock lease unreachable expiry ⌝ }
+pub fn waits(clock: u32, object_lease: u32, unreachable: bool, volume_lease: u32) -> bool
+    ensures { λ r. ⌜ r ≡ waitsBy clock «object_lease» unreachable «volume_lease» ⌝ }
 {
-    let object = server_alive(clock, lease);
-    let volume = server_alive(clock, expiry);
+    let object = server_alive(clock, object_lease);
+    let volume = server_alive(clock, volume_lease);
     object & (!unreachable | volume)
 }
 
@@ -54,11 +54,11 @@ pub fn smaller(a: u32, b: u32) -> u32
 }
 
 // "the greatest of clock + m, the lesser of VE and OE, and guard"
-pub fn latest_end(clock: u32, m: u32, volume: u32, object: u32, guard: u32) -> u32
+pub fn latest_end(clock: u32, m: u32, volume_expiry: u32, object_expiry: u32, guard: u32) -> u32
     requires { ⌜ clock + m < 4294967296 ⌝ }
-    ensures { λ r. ⌜ r ≡ latestBy clock m volume object guard ⌝ }
+    ensures { λ r. ⌜ r ≡ latestBy clock m «volume_expiry» «object_expiry» guard ⌝ }
 {
-    let lease = smaller(volume, object);
+    let lease = smaller(volume_expiry, object_expiry);
     let reply = larger(clock + m, lease);
     larger(reply, guard)
 }

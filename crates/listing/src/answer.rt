@@ -12,10 +12,10 @@ fn done_or_completed(n: u32) -> u64
     3
 }
 
-pub fn number_of(a: Answer) -> u64
-    ensures { λ r. ⌜ r ≡ answerNumber a ⌝ }
+pub fn number_of(answer: Answer) -> u64
+    ensures { λ r. ⌜ r ≡ answerNumber answer ⌝ }
 {
-    match a {
+    match answer {
         Answer::Done => 0,
         Answer::Shown(_) => 1,
         Answer::AskFirst => 2,
@@ -25,12 +25,12 @@ pub fn number_of(a: Answer) -> u64
     }
 }
 
-pub fn value_of(a: Answer) -> u64
-    ensures { λ r. ⌜ r ≡ answerValue a ⌝ }
+pub fn value_of(answer: Answer) -> u64
+    ensures { λ r. ⌜ r ≡ answerValue answer ⌝ }
 {
-    match a {
+    match answer {
         Answer::Done => 0,
-        Answer::Shown(x) => x,
+        Answer::Shown(value) => value,
         Answer::AskFirst => 0,
         Answer::Completed(n) => n as u64,
         Answer::Delivered(_, n) => n as u64,

@@ -9,14 +9,14 @@ ghost use Rattle.listing.specs.Listing.{header, line, lineOf, refusedLis
 use protocol::step::Answer;
 
 // Any bytes.
-pub fn write_bytes(out: &mut [u8], at: usize, s: &[u8]) -> usize
-    requires { ⌜ at + length (now s) ≤ length (now out) ⌝ }
-    ensures { λ r. ⌜ Written (now (out .entry)) (now (out .exit)) at (now (s .entry)) r ⌝ }
+pub fn write_bytes(out: &mut [u8], at: usize, bytes: &[u8]) -> usize
+    requires { ⌜ at + length (now bytes) ≤ length (now out) ⌝ }
+    ensures { λ r. ⌜ Written (now (out .entry)) (now (out .exit)) at (now (bytes .entry)) r ⌝ }
 {
-    let n = s.len();
+    let n = bytes.len();
     let mut i = 0;
     while i < n {
-        out[at + i] = s[i];
+        out[at + i] = bytes[i];
         i += 1;
     }
     at + n
@@ -34,17 +34,23 @@ pub fn write_numbers(out: &mut [u8], at: usize, step: u64, number: u64, value: u
     requires { ⌜ at + 63 ≤ length (now out) ⌝ }
     ensures { λ r. ⌜ Written (now (out .entry)) (now (out .exit)) at (line step number value) r ⌝ }
 {
-    let a = number::write_field(out, at, step, 32);
-    let b = number::write_field(out, a, number, 32);
-    number::write_field(out, b, value, 10)
+    let second = number::write_field(out, at, step, 32);
+    let third = number::write_field(out, second, number, 32);
+    number::write_field(out, third, value, 10)
 }
 
 // The line of a step and its answer.
-pub fn write_line(out: &mut [u8], at: usize, step: u64, a: Answer) -> usize
+pub fn write_line(out: &mut [u8], at: usize, step: u64, answer: Answer) -> usize
     requires { ⌜ at + 63 ≤ length (now out) ⌝ }
-    ensures { λ r. ⌜ Written (now (out .entry)) (now (out .exit)) at (lineOf step a) r ⌝ }
+    ensures { λ r. ⌜ Written (now (out .entry)) (now (out .exit)) at (lineOf step answer) r ⌝ }
 {
-    write_numbers(out, at, step, answer::number_of(a), answer::value_of(a))
+    write_numbers(
+        out,
+        at,
+        step,
+        answer::number_of(answer),
+        answer::value_of(answer),
+    )
 }
 
 // What is printed of a run file that is refused.

@@ -7,50 +7,50 @@ ghost use Rattle.listing.specs.Listing.{field};
 ghost use Rattle.listing.specs.Written.{Written};
 
 // How many digits a number has.
-fn width(x: u64) -> usize
-    ensures { λ r. ⌜ r ≡ width x ⌝ }
+fn width(number: u64) -> usize
+    ensures { λ r. ⌜ r ≡ width number ⌝ }
 {
-    let mut y = x;
-    let mut w = 1;
-    while w < 20 {
-        if y < 10 {
-            return w;
+    let mut left = number;
+    let mut digits = 1;
+    while digits < 20 {
+        if left < 10 {
+            return digits;
         }
-        y = y / 10;
-        w += 1;
+        left = left / 10;
+        digits += 1;
     }
-    w
+    digits
 }
 
 // The last digit of a number.
-fn digit(x: u64) -> u8
-    ensures { λ r. ⌜ r ≡ digit x ⌝ }
+fn digit(number: u64) -> u8
+    ensures { λ r. ⌜ r ≡ digit number ⌝ }
 {
-    48 + (x % 10) as u8
+    48 + (number % 10) as u8
 }
 
 // From the last digit to the first.
-fn write_number(out: &mut [u8], at: usize, x: u64) -> usize
+fn write_number(out: &mut [u8], at: usize, number: u64) -> usize
     requires { ⌜ at + 20 ≤ length (now out) ⌝ }
-    ensures { λ r. ⌜ Written (now (out .entry)) (now (out .exit)) at (decimal x) r ⌝ }
+    ensures { λ r. ⌜ Written (now (out .entry)) (now (out .exit)) at (decimal number) r ⌝ }
 {
-    let n = width(x);
+    let n = width(number);
     let mut left = n;
-    let mut y = x;
+    let mut higher = number;
     while 0 < left {
         left -= 1;
-        out[at + left] = digit(y);
-        y = y / 10;
+        out[at + left] = digit(higher);
+        higher = higher / 10;
     }
     at + n
 }
 
 // A number and the byte that ends it.
-pub fn write_field(out: &mut [u8], at: usize, x: u64, mark: u8) -> usize
+pub fn write_field(out: &mut [u8], at: usize, number: u64, end: u8) -> usize
     requires { ⌜ at + 21 ≤ length (now out) ⌝ }
-    ensures { λ r. ⌜ Written (now (out .entry)) (now (out .exit)) at (field x mark) r ⌝ }
+    ensures { λ r. ⌜ Written (now (out .entry)) (now (out .exit)) at (field number end) r ⌝ }
 {
-    let next = write_number(out, at, x);
-    out[next] = mark;
+    let next = write_number(out, at, number);
+    out[next] = end;
     next + 1
 }

@@ -15,8 +15,8 @@ use words::network;
 use words::pass;
 
 // "A message sent to a full list is lost."
-pub fn push(words: &mut Words, values: &mut Values, m: Message)
-    ensures { λ _. ⌜ tablesOf (now (words .exit)) (now (values .exit)) ≡ sent (tablesOf (now (words .entry)) (now (values .entry))) m ⌝ }
+pub fn push(words: &mut Words, values: &mut Values, message: Message)
+    ensures { λ _. ⌜ tablesOf (now (words .exit)) (now (values .exit)) ≡ sent (tablesOf (now (words .entry)) (now (values .entry))) message ⌝ }
     ensures { λ _. ⌜ recordsOf (now (words .exit)) (now (values .exit)) ≡ recordsOf (now (words .entry)) (now (values .entry)) ⌝ }
 {
     pass::sized(&*words);
@@ -26,7 +26,7 @@ pub fn push(words: &mut Words, values: &mut Values, m: Message)
         return;
     }
     let place = n as usize;
-    let f = fields::fields_of(m);
+    let f = fields::fields_of(message);
     row::store(&mut *words, place, row::words_of(f));
     values[network::MESSAGE_VALUE + place] = f.value;
     words[network::LENGTH] = n + 1;
@@ -65,8 +65,8 @@ pub fn double(words: &mut Words, values: &mut Values, place: usize)
     ensures { λ _. ⌜ tablesOf (now (words .exit)) (now (values .exit)) ≡ withQueue (tablesOf (now (words .entry)) (now (values .entry))) (doubled (tablesOf (now (words .entry)) (now (values .entry)) .queue) place) ⌝ }
     ensures { λ _. ⌜ recordsOf (now (words .exit)) (now (values .exit)) ≡ recordsOf (now (words .entry)) (now (values .entry)) ⌝ }
 {
-    let m = message_at(&*words, &*values, place);
-    push(words, values, m);
+    let message = message_at(&*words, &*values, place);
+    push(words, values, message);
 }
 
 // "A removal closes the gap." The place that it frees is past the last, and so blank.

@@ -19,19 +19,19 @@ fn low(n: u32) -> u8
     (n % 256) as u8
 }
 
-pub fn words_of(f: Fields) -> Row
-    ensures { λ r. ⌜ (r ≡ wordsOf f) × Narrow f ⌝ }
+pub fn words_of(fields: Fields) -> Row
+    ensures { λ r. ⌜ (r ≡ wordsOf fields) × Narrow fields ⌝ }
 {
     [
-        f.kind as u32,
-        f.client as u32,
-        f.object as u32,
-        f.present as u32,
-        f.number,
-        f.lease,
-        f.epoch,
-        f.version,
-        f.expiry,
+        fields.kind as u32,
+        fields.client as u32,
+        fields.object as u32,
+        fields.present as u32,
+        fields.number,
+        fields.volume_expiry,
+        fields.epoch,
+        fields.version,
+        fields.object_expiry,
     ]
 }
 
@@ -64,10 +64,10 @@ pub fn load(words: &Words, values: &Values, place: usize) -> Fields
         object: low(word(words, place, 2)),
         present: low(word(words, place, 3)),
         number: word(words, place, 4),
-        lease: word(words, place, 5),
+        volume_expiry: word(words, place, 5),
         epoch: word(words, place, 6),
         version: word(words, place, 7),
-        expiry: word(words, place, 8),
+        object_expiry: word(words, place, 8),
         value: values[network::MESSAGE_VALUE + place],
     }
 }

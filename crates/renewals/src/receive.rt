@@ -32,10 +32,10 @@ fn offer(words: &mut Words, values: &mut Values, client: usize, volume: usize, n
     ensures { λ _. ⌜ tablesOf (now (words .exit)) (now (values .exit)) ≡ sent (offered (tablesOf (now (words .entry)) (now (values .entry))) client volume number) (offering (tablesOf (now (words .entry)) (now (values .entry))) client volume number) ⌝ }
     ensures { λ _. ⌜ recordsOf (now (words .exit)) (now (values .exit)) ≡ recordsOf (now (words .entry)) (now (values .entry)) ⌝ }
 {
-    let m = answer::offering(&*words, client, volume, number);
+    let message = answer::offering(&*words, client, volume, number);
     words[server::UNREACHABLE + (client * 8 + volume)] = 1;
     words[server::OFFER + (client * 8 + volume)] = number;
-    list::push(&mut *words, &mut *values, m);
+    list::push(&mut *words, &mut *values, message);
 }
 
 // "volume expiry and VE := clock + tv, object expiry and OE := clock + t, send GRANT"
@@ -56,14 +56,14 @@ fn grant(
     ensures { λ _. ⌜ recordsOf (now (words .exit)) (now (values .exit)) ≡ recordsOf (now (words .entry)) (now (values .entry)) ⌝ }
 {
     let volume = place::volume_of(s, object);
-    let m = answer::granting(s, &*words, &*values, client, object, number, held);
+    let message = answer::granting(s, &*words, &*values, client, object, number, held);
     let volume_expiry = words[network::CLOCK] + s.tv;
     let object_expiry = words[network::CLOCK] + s.t;
     words[server::VOLUME_EXPIRY + volume] = volume_expiry;
     words[server::SESSION_EXPIRY + (client * 8 + volume)] = volume_expiry;
     words[server::OBJECT_EXPIRY + object] = object_expiry;
     words[server::LEASE + (client * 32 + object)] = object_expiry;
-    list::push(&mut *words, &mut *values, m);
+    list::push(&mut *words, &mut *values, message);
 }
 
 // "take the first rule that fits"
@@ -92,8 +92,8 @@ fn renew_by(
     }
     let low = lowest::lowest_waited(s, &*words, client, volume);
     if low < s.objects as usize {
-        let m = answer::resending(s, &*words, client, low);
-        list::push(&mut *words, &mut *values, m);
+        let message = answer::resending(s, &*words, client, low);
+        list::push(&mut *words, &mut *values, message);
         return;
     }
     if words[server::STANDING + object] != 0 {

@@ -7,23 +7,23 @@ ghost use Rattle.runfile.specs.File.{setupIn, stepIn, noStep};
 use protocol::setup::Setup;
 use protocol::step::Step;
 
-fn wide(b: u8) -> u32
-    ensures { λ r. ⌜ r ≡ b ⌝ }
+fn wide(byte: u8) -> u32
+    ensures { λ r. ⌜ r ≡ byte ⌝ }
 {
-    b as u32
+    byte as u32
 }
 
 fn volumes_in(file: &[u8], at: usize) -> [u8; 32]
     requires { ⌜ at + 32 ≤ length (now file) ⌝ }
     ensures { λ r. ⌜ r ≡ bytesAt (now (file .entry)) at 32 ⌝ }
 {
-    let mut v = [0u8; 32];
-    let mut o = 0;
-    while o < 32 {
-        v[o] = file[at + o];
-        o += 1;
+    let mut volumes = [0u8; 32];
+    let mut object = 0;
+    while object < 32 {
+        volumes[object] = file[at + object];
+        object += 1;
     }
-    v
+    volumes
 }
 
 pub fn setup_in(file: &[u8], at: usize) -> Setup

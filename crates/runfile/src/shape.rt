@@ -8,15 +8,15 @@ use crate::record;
 use protocol::step::Step;
 
 // A field that the step's kind does not use is 0; an unknown kind is asked nothing.
-fn step_fits(x: Step) -> bool
-    ensures { λ r. ⌜ r ≡ stepFits x ⌝ }
+fn step_fits(step: Step) -> bool
+    ensures { λ r. ⌜ r ≡ stepFits step ⌝ }
 {
-    let client = kinds::uses_client(x) | (x.client == 0);
-    let object = kinds::uses_object(x) | (x.object == 0);
-    let place = kinds::uses_place(x) | (x.place == 0);
-    let clock = kinds::uses_clock(x) | (x.clock == 0);
-    let value = kinds::uses_value(x) | (x.value == 0);
-    !kinds::known(x) | (client & object & place & clock & value)
+    let client = kinds::uses_client(step) | (step.client == 0);
+    let object = kinds::uses_object(step) | (step.object == 0);
+    let place = kinds::uses_place(step) | (step.place == 0);
+    let clock = kinds::uses_clock(step) | (step.clock == 0);
+    let value = kinds::uses_value(step) | (step.value == 0);
+    !kinds::known(step) | (client & object & place & clock & value)
 }
 
 fn steps_fit(file: &[u8], first: usize, count: u32) -> bool

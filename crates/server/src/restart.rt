@@ -21,10 +21,10 @@ fn grow_epochs(words: &mut Words, n: usize)
     requires { ⌜ EpochsGrow n (numbersOf (now words)) ⌝ }
     ensures { λ _. ⌜ now (words .exit) ≡ storeEach always (λ (v : ℕ). at VOLUME-EPOCH + v) (λ (v : ℕ). getD (parts wordLengths (now (words .entry)) VOLUME-EPOCH) v 0 + 1) (now (words .entry)) n ⌝ }
 {
-    let mut v = 0;
-    while v < n {
-        words[server::VOLUME_EPOCH + v] = words[server::VOLUME_EPOCH + v] + 1;
-        v += 1;
+    let mut volume = 0;
+    while volume < n {
+        words[server::VOLUME_EPOCH + volume] = words[server::VOLUME_EPOCH + volume] + 1;
+        volume += 1;
     }
 }
 
@@ -32,10 +32,10 @@ fn grow_epochs(words: &mut Words, n: usize)
 fn guard_expiries(words: &mut Words)
     ensures { λ _. ⌜ now (words .exit) ≡ storeEach always (λ (v : ℕ). at GUARD + v) (λ (v : ℕ). getD (parts wordLengths (now (words .entry)) VOLUME-EXPIRY) v 0) (now (words .entry)) 8 ⌝ }
 {
-    let mut v = 0;
-    while v < 8 {
-        words[server::GUARD + v] = words[server::VOLUME_EXPIRY + v];
-        v += 1;
+    let mut volume = 0;
+    while volume < 8 {
+        words[server::GUARD + volume] = words[server::VOLUME_EXPIRY + volume];
+        volume += 1;
     }
 }
 

@@ -26,10 +26,10 @@ pub fn fields(f: Fields) {
     spaced(f.object as u64);
     spaced(f.present as u64);
     spaced(f.number as u64);
-    spaced(f.lease as u64);
+    spaced(f.volume_expiry as u64);
     spaced(f.epoch as u64);
     spaced(f.version as u64);
-    spaced(f.expiry as u64);
+    spaced(f.object_expiry as u64);
     spaced(f.value);
     end();
 }

@@ -30,7 +30,7 @@ fn numbers(f: Fields, field: u64, x: u64) -> Fields {
         return f;
     }
     if field == 46 {
-        f.lease = word(x);
+        f.volume_expiry = word(x);
         return f;
     }
     if field == 47 {
@@ -42,7 +42,7 @@ fn numbers(f: Fields, field: u64, x: u64) -> Fields {
         return f;
     }
     if field == 49 {
-        f.expiry = word(x);
+        f.object_expiry = word(x);
         return f;
     }
     f.value = x;

@@ -14,7 +14,7 @@ use Rattle.words.specs.Fields.{LENGTH, MESSAGES, MESSAGE-VALUE}
 
 -- the nine words of a message with these fields, in the frame's order
 abbrev pub wordsOf : Fields → List ℕ
-wordsOf f = f .kind ∷ f .client ∷ f .object ∷ f .present ∷ f .number ∷ f .lease ∷ f .epoch ∷ f .version ∷ f .expiry ∷ []
+wordsOf f = f .kind ∷ f .client ∷ f .object ∷ f .present ∷ f .number ∷ f .«volume_expiry» ∷ f .epoch ∷ f .version ∷ f .«object_expiry» ∷ []
 
 -- .. of which the first four are bytes
 abbrev pub Narrow : Fields → Type 0

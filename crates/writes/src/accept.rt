@@ -58,8 +58,8 @@ fn invalidate(
 {
     let mut from = 0;
     loop {
-        let d = waiting::next_waiting(&*words, object, from, n);
-        if n <= d {
+        let client = waiting::next_waiting(&*words, object, from, n);
+        if n <= client {
             break;
         }
         let kind = Kind::Invalidate {
@@ -71,11 +71,11 @@ fn invalidate(
             &mut *words,
             &mut *values,
             Message {
-                client: d as u8,
+                client: client as u8,
                 kind,
             },
         );
-        from = d + 1;
+        from = client + 1;
     }
 }
 

@@ -21,10 +21,10 @@ pub fn clear_object(words: &mut Words, field: usize, object: usize, n: usize)
     requires { ⌜ n ≤ 16 ⌝ }
     ensures { λ _. ⌜ now (words .exit) ≡ storeEach always (λ (d : ℕ). field + byObject d object) (λ (d : ℕ). 0) (now (words .entry)) n ⌝ }
 {
-    let mut d = 0;
-    while d < n {
-        words[field + (d * 32 + object)] = 0;
-        d += 1;
+    let mut client = 0;
+    while client < n {
+        words[field + (client * 32 + object)] = 0;
+        client += 1;
     }
 }
 
@@ -35,13 +35,13 @@ pub fn mark_waiting(words: &mut Words, volume: usize, object: usize, n: usize)
     requires { ⌜ n ≤ 16 ⌝ }
     ensures { λ _. ⌜ now (words .exit) ≡ storeEach (waitingFor (waitingIn (now (words .entry))) object) (λ (d : ℕ). at UNREACHABLE + byVolume d volume) (λ (d : ℕ). 1) (now (words .entry)) n ⌝ }
 {
-    let mut d = 0;
-    while d < n {
-        let i = server::WAITING + (d * 32 + object);
-        let j = server::UNREACHABLE + (d * 8 + volume);
+    let mut client = 0;
+    while client < n {
+        let i = server::WAITING + (client * 32 + object);
+        let j = server::UNREACHABLE + (client * 8 + volume);
         let yes = words[i] != 0;
         pass::put_if(&mut *words, yes, j, 1);
-        d += 1;
+        client += 1;
     }
 }
 
@@ -52,16 +52,16 @@ pub fn next_waiting(words: &Words, object: usize, from: usize, n: usize) -> usiz
     requires { ⌜ n ≤ 16 ⌝ }
     ensures { λ r. ⌜ Found (waitingFor (waitingIn (now (words .entry))) object) from n r ⌝ }
 {
-    let mut d = from;
+    let mut client = from;
     loop {
-        if n <= d {
-            break d;
+        if n <= client {
+            break client;
         }
-        let i = server::WAITING + (d * 32 + object);
+        let i = server::WAITING + (client * 32 + object);
         if words[i] != 0 {
-            break d;
+            break client;
         }
-        d += 1;
+        client += 1;
     }
 }
 
@@ -81,10 +81,10 @@ pub fn await_clients(words: &mut Words, volume: usize, object: usize, n: usize)
     requires { ⌜ n ≤ 16 ⌝ }
     ensures { λ _. ⌜ now (words .exit) ≡ storeEach always (λ (d : ℕ). at WAITING + byObject d object) (λ (d : ℕ). wordOf (waitsIn (now (words .entry)) volume object d)) (now (words .entry)) n ⌝ }
 {
-    let mut d = 0;
-    while d < n {
-        let i = d * 32 + object;
-        let j = d * 8 + volume;
+    let mut client = 0;
+    while client < n {
+        let i = client * 32 + object;
+        let j = client * 8 + volume;
         let yes = time::waits(
             words[network::CLOCK],
             words[server::LEASE + i],
@@ -92,6 +92,6 @@ pub fn await_clients(words: &mut Words, volume: usize, object: usize, n: usize)
             words[server::SESSION_EXPIRY + j],
         );
         words[server::WAITING + i] = pass::word(yes);
-        d += 1;
+        client += 1;
     }
 }

@@ -2,11 +2,6 @@ use Rattle.exports.proofs.Laws.{decode-short, decode-yes, decode-no}
 use borrow.Author.Needs.{needs}
 use Rattle.exports.proofs.gevtsomi_decode.Statement.{statement}
 use Rattle.exports.proofs.gevtsomi_decode.Tie as tie
-use Rattle.exports.proofs.gevtsomi_decode.Reads as reads
-use Rattle.exports.proofs.gevtsomi_decode.Lts as lts
-use Rattle.exports.proofs.store.Reads as store-reads
-use Rattle.frame.proofs.decode.Reads as decode-reads
-use Rattle.frame.proofs.fields.fields_of.Reads as fields-of-reads
 
 returns : tie.Need-returns
 returns c = search (decode-short, needs)

@@ -1,13 +1,34 @@
-use Rattle.exports.proofs.Laws.{encode-written, encode-short, encode-wrong}
 use borrow.Author.Needs.{needs}
+use Rattle.exports.proofs.Laws.{encode-written, encode-short, encode-wrong}
 use Rattle.exports.proofs.gevtsomi_encode.Statement.{statement}
 use Rattle.exports.proofs.gevtsomi_encode.Tie as tie
-use Rattle.exports.proofs.gevtsomi_encode.Reads as reads
-use Rattle.exports.proofs.gevtsomi_encode.Lts as lts
-use Rattle.frame.proofs.encode.Reads as encode-reads
-use Rattle.frame.proofs.fields.fields_of.Reads as fields-of-reads
-use Rattle.frame.proofs.fields.message_in.Reads as message-in-reads
-use Rattle.frame.proofs.fields.same.Reads as same-reads
+
+element-copy-out-t9 : tie.Need-element-copy-out-t9
+element-copy-out-t9 c = search needs
+
+element-copy-out-t12 : tie.Need-element-copy-out-t12
+element-copy-out-t12 c = search needs
+
+element-copy-out-t15 : tie.Need-element-copy-out-t15
+element-copy-out-t15 c = search needs
+
+element-copy-out-t18 : tie.Need-element-copy-out-t18
+element-copy-out-t18 c = search needs
+
+element-copy-out-t21 : tie.Need-element-copy-out-t21
+element-copy-out-t21 c = search needs
+
+element-copy-out-t24 : tie.Need-element-copy-out-t24
+element-copy-out-t24 c = search needs
+
+element-copy-out-t27 : tie.Need-element-copy-out-t27
+element-copy-out-t27 c = search needs
+
+element-copy-out-t30 : tie.Need-element-copy-out-t30
+element-copy-out-t30 c = search needs
+
+element-copy-out-t33 : tie.Need-element-copy-out-t33
+element-copy-out-t33 c = search needs
 
 message-in-requires : tie.Need-message-in-requires
 message-in-requires c κs = search needs
@@ -46,6 +67,15 @@ pub gevtsomi-encode-spec : {M : Type 1} → statement M
 gevtsomi-encode-spec =
     tie.close
     (tie.spec
+    element-copy-out-t9
+    element-copy-out-t12
+    element-copy-out-t15
+    element-copy-out-t18
+    element-copy-out-t21
+    element-copy-out-t24
+    element-copy-out-t27
+    element-copy-out-t30
+    element-copy-out-t33
     message-in-requires
     fields-of-requires
     same-requires

@@ -2,9 +2,6 @@ use Rattle.exports.proofs.Laws.{list-written, list-refused}
 use borrow.Author.Needs.{needs}
 use Rattle.exports.proofs.gevtsomi_list.Statement.{statement}
 use Rattle.exports.proofs.gevtsomi_list.Tie as tie
-use Rattle.exports.proofs.gevtsomi_list.Reads as reads
-use Rattle.exports.proofs.gevtsomi_list.Lts as lts
-use Rattle.run.proofs.list.Reads as list-reads
 
 list-requires : tie.Need-list-requires
 list-requires c κs = search needs

@@ -3,8 +3,6 @@ use lib.ListN.{length-set}
 use borrow.Author.Needs.{needs}
 use Rattle.exports.proofs.store.Statement.{statement}
 use Rattle.exports.proofs.store.Tie as tie
-use Rattle.exports.proofs.store.Reads as reads
-use Rattle.exports.proofs.store.Lts as lts
 
 cast-out : tie.Need-cast-out
 cast-out c = search needs

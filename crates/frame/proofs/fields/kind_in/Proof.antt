@@ -3,8 +3,8 @@ use Rattle.frame.proofs.Laws.{kind-2, kind-3, kind-4, kind-5, kind-6, k
 use Rattle.frame.proofs.fields.kind_in.Statement.{statement}
 use Rattle.frame.proofs.fields.kind_in.Tie as tie
 
-payload-in-requires : tie.Need-payload-in-requires
-payload-in-requires c κs = search needs
+grant-in-requires : tie.Need-grant-in-requires
+grant-in-requires c κs = search needs
 
 returns : tie.Need-returns
 returns c = search (kind-2, needs)
@@ -27,4 +27,4 @@ returns-6 c = search (kind-else, needs)
 pub kind-in-spec : {M : Type 1} → statement M
 kind-in-spec =
     tie.close
-    (tie.spec payload-in-requires returns returns-2 returns-3 returns-4 returns-5 returns-6)
+    (tie.spec grant-in-requires returns returns-2 returns-3 returns-4 returns-5 returns-6)

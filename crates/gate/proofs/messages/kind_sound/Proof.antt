@@ -3,38 +3,38 @@ use Rattle.gate.proofs.ByKind.{kinds}
 use Rattle.gate.proofs.messages.kind_sound.Statement.{statement}
 use Rattle.gate.proofs.messages.kind_sound.Tie as tie
 
-enum-known-k : tie.Need-enum-known-k
-enum-known-k c = search needs
+enum-known-kind : tie.Need-enum-known-kind
+enum-known-kind c = search needs
 
 cast-result : tie.Need-cast-result
 cast-result c = search needs
 
-enum-known-k-2 : tie.Need-enum-known-k-2
-enum-known-k-2 c = search needs
+enum-known-kind-2 : tie.Need-enum-known-kind-2
+enum-known-kind-2 c = search needs
 
 cast-result-2 : tie.Need-cast-result-2
 cast-result-2 c = search needs
 
-enum-known-k-3 : tie.Need-enum-known-k-3
-enum-known-k-3 c = search needs
+enum-known-kind-3 : tie.Need-enum-known-kind-3
+enum-known-kind-3 c = search needs
 
 cast-result-3 : tie.Need-cast-result-3
 cast-result-3 c = search needs
 
-enum-known-k-4 : tie.Need-enum-known-k-4
-enum-known-k-4 c = search needs
+enum-known-kind-4 : tie.Need-enum-known-kind-4
+enum-known-kind-4 c = search needs
 
 cast-result-4 : tie.Need-cast-result-4
 cast-result-4 c = search needs
 
-enum-known-k-5 : tie.Need-enum-known-k-5
-enum-known-k-5 c = search needs
+enum-known-kind-5 : tie.Need-enum-known-kind-5
+enum-known-kind-5 c = search needs
 
 cast-result-5 : tie.Need-cast-result-5
 cast-result-5 c = search needs
 
-enum-known-k-6 : tie.Need-enum-known-k-6
-enum-known-k-6 c = search needs
+enum-known-kind-6 : tie.Need-enum-known-kind-6
+enum-known-kind-6 c = search needs
 
 cast-result-6 : tie.Need-cast-result-6
 cast-result-6 c = search needs
@@ -61,17 +61,17 @@ pub kind-sound-spec : {M : Type 1} → statement M
 kind-sound-spec =
     tie.close
     (tie.spec
-    enum-known-k
+    enum-known-kind
     cast-result
-    enum-known-k-2
+    enum-known-kind-2
     cast-result-2
-    enum-known-k-3
+    enum-known-kind-3
     cast-result-3
-    enum-known-k-4
+    enum-known-kind-4
     cast-result-4
-    enum-known-k-5
+    enum-known-kind-5
     cast-result-5
-    enum-known-k-6
+    enum-known-kind-6
     cast-result-6
     returns
     returns-2

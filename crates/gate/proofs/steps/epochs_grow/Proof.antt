@@ -27,8 +27,8 @@ mul-ok c = search needs
 element-copy-out-ok : tie.Need-element-copy-out-ok Inv-loop μ-loop
 element-copy-out-ok c = search needs
 
-add-v : tie.Need-add-v Inv-loop μ-loop
-add-v c = search needs
+add-volume : tie.Need-add-volume Inv-loop μ-loop
+add-volume c = search needs
 
 loop-less : tie.Need-loop-less Inv-loop μ-loop
 loop-less c = search needs
@@ -49,7 +49,7 @@ epochs-grow-spec =
     add-ok
     mul-ok
     element-copy-out-ok
-    add-v
+    add-volume
     loop-less
     loop-again
     returns)

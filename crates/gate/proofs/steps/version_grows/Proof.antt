@@ -3,8 +3,8 @@ use borrow.Author.Needs.{needs}
 use Rattle.gate.proofs.steps.version_grows.Statement.{statement}
 use Rattle.gate.proofs.steps.version_grows.Tie as tie
 
-cast-o : tie.Need-cast-o
-cast-o c = search needs
+cast-object : tie.Need-cast-object
+cast-object c = search needs
 
 add-result : tie.Need-add-result
 add-result c = search needs
@@ -23,4 +23,4 @@ returns-2 c = search (grows-past, needs)
 
 pub version-grows-spec : {M : Type 1} → statement M
 version-grows-spec =
-    tie.close (tie.spec cast-o add-result mul-result element-copy-out-result returns returns-2)
+    tie.close (tie.spec cast-object add-result mul-result element-copy-out-result returns returns-2)

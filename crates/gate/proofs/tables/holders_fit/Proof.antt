@@ -32,8 +32,8 @@ mul-ok-2 c = search needs
 element-copy-out-ok : tie.Need-element-copy-out-ok Inv-loop μ-loop
 element-copy-out-ok c = search needs
 
-add-o : tie.Need-add-o Inv-loop μ-loop
-add-o c = search needs
+add-object : tie.Need-add-object Inv-loop μ-loop
+add-object c = search needs
 
 loop-less : tie.Need-loop-less Inv-loop μ-loop
 loop-less c = search needs
@@ -56,7 +56,7 @@ holders-fit-spec =
     add-ok-2
     mul-ok-2
     element-copy-out-ok
-    add-o
+    add-object
     loop-less
     loop-again
     returns)

@@ -26,14 +26,14 @@ mul-version c = search needs
 element-copy-out-version : tie.Need-element-copy-out-version Inv-loop μ-loop
 element-copy-out-version c = search needs
 
-add-expiry : tie.Need-add-expiry Inv-loop μ-loop
-add-expiry c = search needs
+add-object-expiry : tie.Need-add-object-expiry Inv-loop μ-loop
+add-object-expiry c = search needs
 
-mul-expiry : tie.Need-mul-expiry Inv-loop μ-loop
-mul-expiry c = search needs
+mul-object-expiry : tie.Need-mul-object-expiry Inv-loop μ-loop
+mul-object-expiry c = search needs
 
-element-copy-out-expiry : tie.Need-element-copy-out-expiry Inv-loop μ-loop
-element-copy-out-expiry c = search needs
+element-copy-out-object-expiry : tie.Need-element-copy-out-object-expiry Inv-loop μ-loop
+element-copy-out-object-expiry c = search needs
 
 add-open : tie.Need-add-open Inv-loop μ-loop
 add-open c = search needs
@@ -53,8 +53,8 @@ mul-settled c = search needs
 element-copy-out-settled : tie.Need-element-copy-out-settled Inv-loop μ-loop
 element-copy-out-settled c = search needs
 
-add-o : tie.Need-add-o Inv-loop μ-loop
-add-o c = search needs
+add-object : tie.Need-add-object Inv-loop μ-loop
+add-object c = search needs
 
 loop-less : tie.Need-loop-less Inv-loop μ-loop
 loop-less c = search needs
@@ -75,16 +75,16 @@ objects-fit-spec =
     add-version
     mul-version
     element-copy-out-version
-    add-expiry
-    mul-expiry
-    element-copy-out-expiry
+    add-object-expiry
+    mul-object-expiry
+    element-copy-out-object-expiry
     add-open
     mul-open
     element-copy-out-open
     add-settled
     mul-settled
     element-copy-out-settled
-    add-o
+    add-object
     loop-less
     loop-again
     returns)

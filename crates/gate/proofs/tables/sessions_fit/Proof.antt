@@ -17,38 +17,38 @@ abbrev μ-loop : tie.MeasureT-loop
 loop-holds : tie.Need-loop-holds Inv-loop μ-loop
 loop-holds c = (search needs, rw sub-zero)
 
-mul-server : tie.Need-mul-server Inv-loop μ-loop
-mul-server c = search needs
+mul-granted : tie.Need-mul-granted Inv-loop μ-loop
+mul-granted c = search needs
 
-add-server : tie.Need-add-server Inv-loop μ-loop
-add-server c = search needs
+add-granted : tie.Need-add-granted Inv-loop μ-loop
+add-granted c = search needs
 
-add-server-2 : tie.Need-add-server-2 Inv-loop μ-loop
-add-server-2 c = search needs
+add-granted-2 : tie.Need-add-granted-2 Inv-loop μ-loop
+add-granted-2 c = search needs
 
-mul-server-2 : tie.Need-mul-server-2 Inv-loop μ-loop
-mul-server-2 c = search needs
+mul-granted-2 : tie.Need-mul-granted-2 Inv-loop μ-loop
+mul-granted-2 c = search needs
 
-element-copy-out-server : tie.Need-element-copy-out-server Inv-loop μ-loop
-element-copy-out-server c = search needs
+element-copy-out-granted : tie.Need-element-copy-out-granted Inv-loop μ-loop
+element-copy-out-granted c = search needs
 
-mul-client : tie.Need-mul-client Inv-loop μ-loop
-mul-client c = search needs
+mul-known : tie.Need-mul-known Inv-loop μ-loop
+mul-known c = search needs
 
-add-client : tie.Need-add-client Inv-loop μ-loop
-add-client c = search needs
+add-known : tie.Need-add-known Inv-loop μ-loop
+add-known c = search needs
 
-add-client-2 : tie.Need-add-client-2 Inv-loop μ-loop
-add-client-2 c = search needs
+add-known-2 : tie.Need-add-known-2 Inv-loop μ-loop
+add-known-2 c = search needs
 
-mul-client-2 : tie.Need-mul-client-2 Inv-loop μ-loop
-mul-client-2 c = search needs
+mul-known-2 : tie.Need-mul-known-2 Inv-loop μ-loop
+mul-known-2 c = search needs
 
-element-copy-out-client : tie.Need-element-copy-out-client Inv-loop μ-loop
-element-copy-out-client c = search needs
+element-copy-out-known : tie.Need-element-copy-out-known Inv-loop μ-loop
+element-copy-out-known c = search needs
 
-add-v : tie.Need-add-v Inv-loop μ-loop
-add-v c = search needs
+add-volume : tie.Need-add-volume Inv-loop μ-loop
+add-volume c = search needs
 
 loop-less : tie.Need-loop-less Inv-loop μ-loop
 loop-less c = search needs
@@ -66,17 +66,17 @@ sessions-fit-spec =
     Inv-loop
     μ-loop
     loop-holds
-    mul-server
-    add-server
-    add-server-2
-    mul-server-2
-    element-copy-out-server
-    mul-client
-    add-client
-    add-client-2
-    mul-client-2
-    element-copy-out-client
-    add-v
+    mul-granted
+    add-granted
+    add-granted-2
+    mul-granted-2
+    element-copy-out-granted
+    mul-known
+    add-known
+    add-known-2
+    mul-known-2
+    element-copy-out-known
+    add-volume
     loop-less
     loop-again
     returns)

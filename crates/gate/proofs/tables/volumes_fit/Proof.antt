@@ -26,14 +26,14 @@ mul-epoch c = search needs
 element-copy-out-epoch : tie.Need-element-copy-out-epoch Inv-loop μ-loop
 element-copy-out-epoch c = search needs
 
-add-expiry : tie.Need-add-expiry Inv-loop μ-loop
-add-expiry c = search needs
+add-volume-expiry : tie.Need-add-volume-expiry Inv-loop μ-loop
+add-volume-expiry c = search needs
 
-mul-expiry : tie.Need-mul-expiry Inv-loop μ-loop
-mul-expiry c = search needs
+mul-volume-expiry : tie.Need-mul-volume-expiry Inv-loop μ-loop
+mul-volume-expiry c = search needs
 
-element-copy-out-expiry : tie.Need-element-copy-out-expiry Inv-loop μ-loop
-element-copy-out-expiry c = search needs
+element-copy-out-volume-expiry : tie.Need-element-copy-out-volume-expiry Inv-loop μ-loop
+element-copy-out-volume-expiry c = search needs
 
 add-guard : tie.Need-add-guard Inv-loop μ-loop
 add-guard c = search needs
@@ -44,8 +44,8 @@ mul-guard c = search needs
 element-copy-out-guard : tie.Need-element-copy-out-guard Inv-loop μ-loop
 element-copy-out-guard c = search needs
 
-add-v : tie.Need-add-v Inv-loop μ-loop
-add-v c = search needs
+add-volume : tie.Need-add-volume Inv-loop μ-loop
+add-volume c = search needs
 
 loop-less : tie.Need-loop-less Inv-loop μ-loop
 loop-less c = search needs
@@ -66,13 +66,13 @@ volumes-fit-spec =
     add-epoch
     mul-epoch
     element-copy-out-epoch
-    add-expiry
-    mul-expiry
-    element-copy-out-expiry
+    add-volume-expiry
+    mul-volume-expiry
+    element-copy-out-volume-expiry
     add-guard
     mul-guard
     element-copy-out-guard
-    add-v
+    add-volume
     loop-less
     loop-again
     returns)

@@ -15,14 +15,14 @@ enum-told-2 c = search needs
 enum-told-3 : tie.Need-enum-told-3
 enum-told-3 c = search needs
 
-enum-known-a : tie.Need-enum-known-a
-enum-known-a c = search needs
+enum-known-answer : tie.Need-enum-known-answer
+enum-known-answer c = search needs
 
 done-or-completed-requires : tie.Need-done-or-completed-requires
 done-or-completed-requires c κs = search needs
 
-enum-known-a-2 : tie.Need-enum-known-a-2
-enum-known-a-2 c = search needs
+enum-known-answer-2 : tie.Need-enum-known-answer-2
+enum-known-answer-2 c = search needs
 
 done-or-completed-requires-2 : tie.Need-done-or-completed-requires-2
 done-or-completed-requires-2 c κs = search needs
@@ -55,9 +55,9 @@ number-of-spec =
     enum-told
     enum-told-2
     enum-told-3
-    enum-known-a
+    enum-known-answer
     done-or-completed-requires
-    enum-known-a-2
+    enum-known-answer-2
     done-or-completed-requires-2
     enum-told-4
     returns

@@ -20,8 +20,8 @@ loop-holds c = search needs
 returns : tie.Need-returns Inv-loop μ-loop
 returns c = search (digits-stop, needs)
 
-add-w : tie.Need-add-w Inv-loop μ-loop
-add-w c = search needs
+add-digits : tie.Need-add-digits Inv-loop μ-loop
+add-digits c = search needs
 
 loop-less : tie.Need-loop-less Inv-loop μ-loop
 loop-less c = search needs
@@ -34,4 +34,4 @@ returns-2 c = search (digits-end, needs)
 
 pub width-spec : {M : Type 1} → statement M
 width-spec =
-    tie.close (tie.spec Inv-loop μ-loop loop-holds returns add-w loop-less loop-again returns-2)
+    tie.close (tie.spec Inv-loop μ-loop loop-holds returns add-digits loop-less loop-again returns-2)

@@ -23,7 +23,7 @@ width-requires : tie.Need-width-requires Inv-loop μ-loop
 width-requires c κs = search needs
 
 loop-holds : tie.Need-loop-holds Inv-loop μ-loop
-loop-holds c = (search needs, (omega (arith, further-most 19 (c .before .before .args .x)), (refl, refl)))
+loop-holds c = (search needs, (omega (arith, further-most 19 (c .before .before .args .number)), (refl, refl)))
 
 sub-left : tie.Need-sub-left Inv-loop μ-loop
 sub-left c = search needs

@@ -17,17 +17,17 @@ loop-holds : tie.Need-loop-holds Inv-loop μ-loop
 unfolding bytesAt
 loop-holds c = (search needs, (search needs, refl))
 
-add-v : tie.Need-add-v Inv-loop μ-loop
-add-v c = search needs
+add-volumes : tie.Need-add-volumes Inv-loop μ-loop
+add-volumes c = search needs
 
-shared-slice-read-v : tie.Need-shared-slice-read-v Inv-loop μ-loop
-shared-slice-read-v c = search needs
+shared-slice-read-volumes : tie.Need-shared-slice-read-volumes Inv-loop μ-loop
+shared-slice-read-volumes c = search needs
 
-array-write-v : tie.Need-array-write-v Inv-loop μ-loop
-array-write-v c = search needs
+array-write-volumes : tie.Need-array-write-volumes Inv-loop μ-loop
+array-write-volumes c = search needs
 
-add-o : tie.Need-add-o Inv-loop μ-loop
-add-o c = search needs
+add-object : tie.Need-add-object Inv-loop μ-loop
+add-object c = search needs
 
 loop-less : tie.Need-loop-less Inv-loop μ-loop
 loop-less c = search needs
@@ -45,10 +45,10 @@ volumes-in-spec =
     Inv-loop
     μ-loop
     loop-holds
-    add-v
-    shared-slice-read-v
-    array-write-v
-    add-o
+    add-volumes
+    shared-slice-read-volumes
+    array-write-volumes
+    add-object
     loop-less
     loop-again
     returns)

@@ -32,7 +32,7 @@ element-copy-out-words : tie.Need-element-copy-out-words Inv-loop μ-loop
 element-copy-out-words c = search needs
 
 add-words-2 : tie.Need-add-words-2 Inv-loop μ-loop
-add-words-2 c = let l = c .before .before .loop in let a = c .before .before .before in omega (arith, l .inv .1 .0 .same (at VOLUME-EPOCH + l .v) (omega arith), epoch-grows (a .args .n) (a .args .words .now) (l .v) (a .pre .1) (search needs) (search needs))
+add-words-2 c = let l = c .before .before .loop in let a = c .before .before .before in omega (arith, l .inv .1 .0 .same (at VOLUME-EPOCH + l .volume) (omega arith), epoch-grows (a .args .n) (a .args .words .now) (l .volume) (a .pre .1) (search needs) (search needs))
 
 add-words-3 : tie.Need-add-words-3 Inv-loop μ-loop
 add-words-3 c = search needs
@@ -43,8 +43,8 @@ mul-words-2 c = search needs
 element-write-words : tie.Need-element-write-words Inv-loop μ-loop
 element-write-words c = search needs
 
-add-v : tie.Need-add-v Inv-loop μ-loop
-add-v c = search needs
+add-volume : tie.Need-add-volume Inv-loop μ-loop
+add-volume c = search needs
 
 loop-less : tie.Need-loop-less Inv-loop μ-loop
 loop-less c = search needs
@@ -70,7 +70,7 @@ grow-epochs-spec =
     add-words-3
     mul-words-2
     element-write-words
-    add-v
+    add-volume
     loop-less
     loop-again
     returns)

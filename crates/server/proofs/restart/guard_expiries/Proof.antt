@@ -38,8 +38,8 @@ mul-words-2 c = search needs
 element-write-words : tie.Need-element-write-words Inv-loop μ-loop
 element-write-words c = search needs
 
-add-v : tie.Need-add-v Inv-loop μ-loop
-add-v c = search needs
+add-volume : tie.Need-add-volume Inv-loop μ-loop
+add-volume c = search needs
 
 loop-less : tie.Need-loop-less Inv-loop μ-loop
 loop-less c = search needs
@@ -64,7 +64,7 @@ guard-expiries-spec =
     add-words-2
     mul-words-2
     element-write-words
-    add-v
+    add-volume
     loop-less
     loop-again
     returns)

@@ -80,8 +80,8 @@ mul-words c = search needs
 element-write-words : tie.Need-element-write-words Inv-loop μ-loop
 element-write-words c = search needs
 
-add-d : tie.Need-add-d Inv-loop μ-loop
-add-d c = search needs
+add-client : tie.Need-add-client Inv-loop μ-loop
+add-client c = search needs
 
 loop-less : tie.Need-loop-less Inv-loop μ-loop
 loop-less c = search needs
@@ -119,7 +119,7 @@ await-clients-spec =
     add-words
     mul-words
     element-write-words
-    add-d
+    add-client
     loop-less
     loop-again
     returns)

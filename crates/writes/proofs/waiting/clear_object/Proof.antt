@@ -32,8 +32,8 @@ mul-words-2 c = search needs
 element-write-words : tie.Need-element-write-words Inv-loop μ-loop
 element-write-words c = search needs
 
-add-d : tie.Need-add-d Inv-loop μ-loop
-add-d c = search needs
+add-client : tie.Need-add-client Inv-loop μ-loop
+add-client c = search needs
 
 loop-less : tie.Need-loop-less Inv-loop μ-loop
 loop-less c = search needs
@@ -57,7 +57,7 @@ clear-object-spec =
     add-words-2
     mul-words-2
     element-write-words
-    add-d
+    add-client
     loop-less
     loop-again
     returns)

@@ -48,8 +48,8 @@ element-copy-out-yes c = search needs
 put-if-requires : tie.Need-put-if-requires Inv-loop μ-loop
 put-if-requires c κs = search needs
 
-add-d : tie.Need-add-d Inv-loop μ-loop
-add-d c = search needs
+add-client : tie.Need-add-client Inv-loop μ-loop
+add-client c = search needs
 
 loop-less : tie.Need-loop-less Inv-loop μ-loop
 loop-less c = search needs
@@ -77,7 +77,7 @@ mark-waiting-spec =
     mul-yes
     element-copy-out-yes
     put-if-requires
-    add-d
+    add-client
     loop-less
     loop-again
     returns)

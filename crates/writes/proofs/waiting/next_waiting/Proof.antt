@@ -34,8 +34,8 @@ mul-if2 c = search needs
 element-copy-out-if2 : tie.Need-element-copy-out-if2 Inv-loop μ-loop
 element-copy-out-if2 c = search needs
 
-add-d : tie.Need-add-d Inv-loop μ-loop
-add-d c = search needs
+add-client : tie.Need-add-client Inv-loop μ-loop
+add-client c = search needs
 
 loop-less : tie.Need-loop-less Inv-loop μ-loop
 loop-less c = search needs
@@ -61,7 +61,7 @@ next-waiting-spec =
     add-i-2
     mul-if2
     element-copy-out-if2
-    add-d
+    add-client
     loop-less
     loop-again
     returns
