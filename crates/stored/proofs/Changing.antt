@@ -1,6 +1,6 @@
 -- A setup's records are the first of those that there is room for: what is stored there or swept, and that nothing is past the last.
 use Prim.Native.Nat.{ℕ, zero, suc, _+_, _-_, _*_, _<_, _≤_}
-use native.Mathlib.Nat.{mul-le-mul, mul-le-mul-right, suc-mul}
+use native.Mathlib.Nat.{mul-le-mul-right, suc-mul}
 use native.Mathlib.Omega.{arith}
 use mathlib.Core.Bool.{true}
 use mathlib.Core.List.{List}
@@ -26,16 +26,14 @@ use Rattle.protocol.specs.Tables.{noCopy, noRequest}
 use Rattle.protocol.specs.Client.{CanTurn, turned, swept, sweeps, sweepAt, sweptAll}
 use Rattle.protocol.specs.World.{World}
 use Rattle.words.specs.View.{tablesOf, recordsOf, requestsOf, worldOf}
+use Rattle.words.specs.Worlds.{few-copies}
 use Rattle.stored.specs.Stores.{RequestPut, withCopy, sweptOver, copyPut, copyChanged, sweptOf, requestTurned, changedAt}
 use Rattle.stored.proofs.Reading.{request-stored}
 
--- the setup's copies are among the 512, and a client's begin and end there
+-- the setup's records are among those that there is room for
 module _ (s : Setup) (i : inRange s ≡ true) where
-  pub few-copies : s .clients * s .objects ≤ 512
-  few-copies = mul-le-mul (ranges s i .clients .1) (ranges s i .objects .1)
-
   pub copy-there : (place : ℕ) → place < s .clients * s .objects → place < 512
-  copy-there place h = omega (arith, few-copies)
+  copy-there place h = omega (arith, few-copies s i)
 
   pub client-there : (d : ℕ) → d < s .clients → d < 16
   client-there d h = omega (arith, ranges s i .clients .1)

@@ -1,5 +1,6 @@
 use native.Mathlib.Omega.{arith}
-use Rattle.stored.proofs.Changing.{few-copies, copy-there, copy-inside, copy-past}
+use Rattle.words.specs.Worlds.{few-copies}
+use Rattle.stored.proofs.Changing.{copy-there, copy-inside, copy-past}
 use borrow.Author.Needs.{needs}
 use Rattle.stored.proofs.change.copy_of.Statement.{statement}
 use Rattle.stored.proofs.change.copy_of.Tie as tie

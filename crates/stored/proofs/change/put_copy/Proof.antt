@@ -1,5 +1,6 @@
 use native.Mathlib.Omega.{arith}
-use Rattle.stored.proofs.Changing.{few-copies, copy-there, put-inside, put-past}
+use Rattle.words.specs.Worlds.{few-copies}
+use Rattle.stored.proofs.Changing.{copy-there, put-inside, put-past}
 use borrow.Author.Needs.{needs}
 use Rattle.stored.proofs.change.put_copy.Statement.{statement}
 use Rattle.stored.proofs.change.put_copy.Tie as tie
