@@ -54,7 +54,13 @@ pub fn grant(
     let payload = g.payload;
     if copy::grant_taken(c, r, g.number, g.version, payload) {
         let volume = place::volume_of(s, object as usize);
-        view::put(&mut *words, client as usize, volume, g.epoch, g.volume_expiry);
+        view::put(
+            &mut *words,
+            client as usize,
+            volume,
+            g.epoch,
+            g.volume_expiry,
+        );
         return Change {
             copy: CopyChange::Fill(copy::fill(c, g.version, g.object_expiry, payload)),
             request: Turn::End,

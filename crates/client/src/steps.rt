@@ -2,7 +2,7 @@ ghost use mathlib.Core.Path.{_≡_};
 ghost use mathlib.Core.Bool.{true};
 ghost use Prim.Native.Nat.{_<_};
 ghost use Rattle.protocol.specs.Setup.{inRange};
-ghost use Rattle.protocol.specs.Decide.{answered, kept, readDecided, askDecided, restartDecided};
+ghost use Rattle.protocol.specs.Decide.{readDecided, askDecided, restartDecided};
 ghost use Rattle.words.specs.View.{tablesOf, numbersOf, recordsOf};
 use crate::copy;
 use leases::place;
@@ -36,7 +36,15 @@ pub fn read(s: Setup, words: &Words, c: Copy, client: u8, object: u8) -> Answer
 }
 
 // Step 3: "send RENEW with number, known epoch and held version". The number is taken by `request::number`.
-pub fn ask(s: Setup, words: &mut Words, values: &mut Values, c: Copy, r: Request, client: u8, object: u8)
+pub fn ask(
+    s: Setup,
+    words: &mut Words,
+    values: &mut Values,
+    c: Copy,
+    r: Request,
+    client: u8,
+    object: u8,
+)
     requires { ⌜ inRange s ≡ true ⌝ }
     requires { ⌜ client < s .clients ⌝ }
     requires { ⌜ object < s .objects ⌝ }

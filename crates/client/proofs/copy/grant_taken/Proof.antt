@@ -11,7 +11,7 @@ storable-requires c κs = search needs
 
 returns : tie.Need-returns
 unfolding grantTaken
-returns c = cc
+returns c = rw (c .before .stands .ensures, c .storable .ensures)
 
 pub grant-taken-spec : {M : Type 1} → statement M
 grant-taken-spec = tie.close (tie.spec stands-requires storable-requires returns)

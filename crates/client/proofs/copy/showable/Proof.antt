@@ -11,7 +11,7 @@ alive-requires-2 c κs = search needs
 
 returns : tie.Need-returns
 unfolding shownAt
-returns c = cc
+returns c = rw (c .before .before .alive .ensures, c .before .alive2 .ensures)
 
 pub showable-spec : {M : Type 1} → statement M
 showable-spec = tie.close (tie.spec alive-requires alive-requires-2 returns)

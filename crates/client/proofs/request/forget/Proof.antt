@@ -1,4 +1,3 @@
-use borrow.Author.Needs.{needs}
 use Rattle.client.proofs.Laws.{forgetting}
 use Rattle.client.proofs.request.forget.Statement.{statement}
 use Rattle.client.proofs.request.forget.Tie as tie
