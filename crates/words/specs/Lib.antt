@@ -2,3 +2,4 @@ pub mod Fields
 pub mod Rows
 pub mod View
 pub mod Reads
+pub mod Worlds
