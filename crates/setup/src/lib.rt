@@ -1,4 +1,4 @@
-// A setup in range, and fresh tables for one (01, "Tables").
+// A setup in range, and fresh records (01, "Tables").
 pub mod fresh;
 
 ghost use Prim.Native.Nat.{_<_};

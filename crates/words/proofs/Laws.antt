@@ -1,14 +1,18 @@
 -- Fresh words and values are fresh tables and fresh records.
 use Prim.Native.Nat.{ℕ, _+_, _≤_}
 use native.Mathlib.Omega.{arith}
+use mathlib.Core.Bool.{Bool, true, false, cond}
 use mathlib.Core.List.{List}
-use mathlib.Core.Path.{_≡_}
+use mathlib.Core.Path.{_≡_, refl, _∙_}
 use lib.ListN.{length, replicate, length-replicate, getD-replicate}
 use borrow.Author.Tests.{le-ltb}
+use Rattle.laws.specs.Choice.{not-both}
 use Rattle.laws.specs.Each.{replicate-at}
 use Rattle.laws.specs.Flags.{flags-zero}
 use Rattle.laws.specs.Parts.{start, size, parts, part-replicate, filling, length-filled, filled-field}
 use Rattle.laws.specs.Tabulate.{tabulate, tabulate-one}
+use Rattle.protocol.specs.declared.setup.Setup.{Setup}
+use Rattle.protocol.specs.Setup.{inRange}
 use Rattle.protocol.specs.Messages.{blank}
 use Rattle.protocol.specs.Tables.{freshTables, noCopy, freshRequest}
 use Rattle.words.specs.Fields.{wordLengths, valueLengths, at, WORDS, VALUES, CLOCK, LENGTH, VOLUME-EPOCH, VOLUME-EXPIRY, GUARD, SEEN, SESSION-EXPIRY, UNREACHABLE, OFFER, VERSION, OBJECT-EXPIRY, STANDING, END, LEASE, WAITING, VIEW-EPOCH, VIEW-EXPIRY, COPY-VERSION, COPY-EXPIRY, REQUEST-NEXT, REQUEST-STANDING, REQUEST-NUMBER, REQUEST-OBJECT, VALUE, PENDING, COPY-VALUE}
@@ -50,3 +54,17 @@ pub fresh-filled : (a b c : List ℕ) → a ≡ filling (at VOLUME-EPOCH) 8 1 (r
     → (tablesOf c (replicate VALUES 0) ≡ freshTables) × (recordsOf c (replicate VALUES 0) ≡ freshRecords)
 fresh-filled a b c e f g =
     (tables-filled (replicate WORDS 0) (replicate VALUES 0) a b c (length-replicate {A = ℕ} WORDS 0) (part-replicate wordLengths WORDS 0) (part-replicate valueLengths VALUES 0) e f g, records-filled (replicate WORDS 0) (replicate VALUES 0) a b c (length-replicate {A = ℕ} WORDS 0) (part-replicate wordLengths WORDS 0) (part-replicate valueLengths VALUES 0) e f g)
+
+-- ---- for a setup: w and x become v and y, and the answer is n
+abbrev Answers : Setup → List ℕ → List ℕ → List ℕ → List ℕ → ℕ → Type 0
+Answers s w x v y n =
+    (n ≡ cond (inRange s) 0 7)
+    × ((inRange s ≡ true → (tablesOf v y ≡ freshTables) × (recordsOf v y ≡ freshRecords)) × (inRange s ≡ false → (v ≡ w) × (y ≡ x)))
+
+-- b is what `in_range` answered
+module _ (s : Setup) (b : Bool) (h : b ≡ inRange s) (w x : List ℕ) where
+  pub fresh-yes : (v y : List ℕ) → b ≡ true → (tablesOf v y ≡ freshTables) × (recordsOf v y ≡ freshRecords) → Answers s w x v y 0
+  fresh-yes v y a f = (rw (← h, a), ((λ i. f), (λ i. not-both a (h ∙ i))))
+
+  pub fresh-no : b ≡ false → Answers s w x w x 7
+  fresh-no a = (rw (← h, a), ((λ i. not-both (h ∙ i) a), (λ i. (refl, refl))))
