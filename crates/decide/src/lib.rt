@@ -1,6 +1,5 @@
 // One step decided (01, "Steps"): the questions, then the step by its kind, on the words and on the one copy and request that it can touch.
 ghost use mathlib.Core.Path.{_≡_};
-ghost use Prim.Native.Nat.{ℕ};
 ghost use Rattle.protocol.specs.Answers.{answerNumber};
 ghost use Rattle.protocol.specs.Decide.{answered, decided};
 ghost use Rattle.words.specs.View.{tablesOf};

@@ -19,8 +19,11 @@ use protocol::step::Step;
 use protocol::step::Sweep;
 use protocol::step::Turn;
 use queue::list;
+use server::restart;
 use words::Values;
 use words::Words;
+use writes::accept;
+use writes::settle;
 
 // What becomes of the client's records, and the answer.
 pub struct Verdict {
@@ -48,6 +51,34 @@ fn counting(n: u32) -> Verdict
     keeping(Answer::Completed(n))
 }
 
+// Step 3: "take the next number, replace the standing request".
+fn asking(object: u8) -> Verdict
+    ensures { λ v. ⌜ v ≡ record { change = record { copy = CopyChange.Keep; request = Turn.Take object; sweep = Sweep.Keep }; answer = Answer.Done } ⌝ }
+{
+    Verdict {
+        change: Change {
+            copy: CopyChange::Keep,
+            request: Turn::Take(object),
+            sweep: Sweep::Keep,
+        },
+        answer: Answer::Done,
+    }
+}
+
+// Step 9: "only its next request number remains".
+fn restarting() -> Verdict
+    ensures { λ v. ⌜ v ≡ record { change = record { copy = CopyChange.Keep; request = Turn.End; sweep = Sweep.Erase }; answer = Answer.Done } ⌝ }
+{
+    Verdict {
+        change: Change {
+            copy: CopyChange::Keep,
+            request: Turn::End,
+            sweep: Sweep::Erase,
+        },
+        answer: Answer::Done,
+    }
+}
+
 pub fn perform(
     s: Setup,
     words: &mut Words,
@@ -62,6 +93,34 @@ pub fn perform(
     ensures { λ v. ⌜ answered (v .change) (tablesOf (now (words .exit)) (now (values .exit))) (v .answer) ≡ performed s (tablesOf (now (words .entry)) (now (values .entry))) c r x ⌝ }
     ensures { λ _. ⌜ recordsOf (now (words .exit)) (now (values .exit)) ≡ recordsOf (now (words .entry)) (now (values .entry)) ⌝ }
 {
-    // by kind: see `performed`
-    keeping(Answer::Done)
+    let kind = x.kind;
+    match kind {
+        1 => counting(settle::pass_time(s, words, values, x.clock)),
+        2 => keeping(steps::read(s, &*words, c, x.client, x.object)),
+        3 => {
+            steps::ask(s, words, values, c, r, x.client, x.object);
+            asking(x.object)
+        }
+        4 => {
+            let n = accept::accept_write(s, words, values, x.object as usize, x.value);
+            counting(n)
+        }
+        5 => deliver::deliver(s, words, values, c, r, x.place as usize),
+        6 => {
+            list::remove(words, values, x.place as usize);
+            keeping(Answer::Done)
+        }
+        7 => {
+            list::double(words, values, x.place as usize);
+            keeping(Answer::Done)
+        }
+        8 => {
+            restart::restart(s, words, values);
+            keeping(Answer::Done)
+        }
+        _ => {
+            steps::restart(s, words, &*values, x.client);
+            restarting()
+        }
+    }
 }

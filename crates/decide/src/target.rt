@@ -41,16 +41,7 @@ fn object_of(k: Kind) -> u8
             epoch: _,
             version: _,
         } => object,
-        Kind::Offer {
-            volume: _,
-            number: _,
-            epoch: _,
-        } => 0,
-        Kind::Dropped {
-            volume: _,
-            number: _,
-            epoch: _,
-        } => 0,
+        _ => 0,
     }
 }
 

@@ -9,11 +9,11 @@ use crate::answer;
 use crate::lowest;
 use leases::place;
 use protocol::setup::Setup;
+use queue::list;
 use words::Values;
 use words::Words;
 use words::network;
 use words::server;
-use queue::list;
 
 // "Epoch differs or dash unreachable"
 fn must_drop(words: &Words, client: usize, volume: usize, epoch: u32) -> bool

@@ -14,11 +14,11 @@ use leases::time;
 use protocol::message::Kind;
 use protocol::message::Message;
 use protocol::setup::Setup;
+use queue::list;
 use words::Values;
 use words::Words;
 use words::network;
 use words::server;
-use queue::list;
 
 // The write of `value` stands, with its latest end and whom it waits for.
 fn begin(s: Setup, words: &mut Words, values: &mut Values, object: usize, value: u64)

@@ -45,7 +45,7 @@ module _ (s : Setup) (t : Tables) (c : Copy) (r : Request) where
   unfolding restartDecided
   restart-not-refused d = refl
 
-  performed-not-refused : (b : Bool) (x : Step) → Accepted s t b r x → isRefused (performed s t c r x .outcome .answer) ≡ false
+  pub performed-not-refused : (b : Bool) (x : Step) → Accepted s t b r x → isRefused (performed s t c r x .outcome .answer) ≡ false
   performed-not-refused b x a =
       by-kind (isRefused (performed s t c r x .outcome .answer) ≡ false) x (a .passes .knows)
       (λ e. rw (clock-performed s t c r x e) (completed-not-refused (settled s (clockStaged s t (x .clock)) .count)))
