@@ -14,21 +14,21 @@ use stored::change;
 use words::Values;
 use words::Words;
 
-pub fn advance(s: Setup, words: &mut Words, values: &mut Values, x: Step) -> Answer
+pub fn advance(s: Setup, words: &mut Words, values: &mut Values, step: Step) -> Answer
     requires { ⌜ inRange s ≡ true ⌝ }
     requires { ⌜ SoundWorld s (worldOf s (now words) (now values)) ⌝ }
-    ensures { λ a. ⌜ a ≡ answerOf s (worldOf s (now (words .entry)) (now (values .entry))) x ⌝ }
-    ensures { λ _. ⌜ worldOf s (now (words .exit)) (now (values .exit)) ≡ stepped s (worldOf s (now (words .entry)) (now (values .entry))) x ⌝ }
+    ensures { λ a. ⌜ a ≡ answerOf s (worldOf s (now (words .entry)) (now (values .entry))) step ⌝ }
+    ensures { λ _. ⌜ worldOf s (now (words .exit)) (now (values .exit)) ≡ stepped s (worldOf s (now (words .entry)) (now (values .entry))) step ⌝ }
 {
-    let at = target(s, &*words, &*values, x);
+    let at = target(s, &*words, &*values, step);
     let c = change::copy_of(s, &*words, &*values, at);
     let r = change::request_of(s, &*words, &*values, at);
-    let no = gate::steps::refusal_of_step(s, &*words, &*values, r, x);
-    if no == 0 {
-        let v = perform(s, &mut *words, &mut *values, c, r, x);
-        let g = v.change;
+    let refusal = gate::steps::refusal_of_step(s, &*words, &*values, r, step);
+    if refusal == 0 {
+        let verdict = perform(s, &mut *words, &mut *values, c, r, step);
+        let g = verdict.change;
         change::change(s, &mut *words, &mut *values, at, g);
-        return v.answer;
+        return verdict.answer;
     }
-    Answer::Refused(no)
+    Answer::Refused(refusal)
 }

@@ -1,4 +1,3 @@
-pub mod Owned
 pub mod Ran
 pub mod Listed
 pub mod FileAgrees

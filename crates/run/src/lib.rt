@@ -1,5 +1,4 @@
 // A run, from the bytes of its file to the bytes of its listing.
-mod places;
 pub mod steps;
 
 ghost use Prim.Native.Nat.{_≤_};
@@ -26,8 +25,7 @@ fn print(file: &[u8], c: Contents, out: &mut [u8]) -> usize
 {
     let at = listing::write_header(out, 0);
     let s = c.setup;
-    let left = steps::run_steps(file, s, c.first, c.count as usize, out, at);
-    left.next
+    steps::run_steps(file, s, c.first, c.count as usize, out, at)
 }
 
 // The listing of a run file's bytes, whatever they are. What is no run file is refused, 9, and so is an output that is too short for the listing, 8; the

@@ -7,11 +7,6 @@ use lib.Seq.{length-take-le}
 use Rattle.run.proofs.Laws.{list-refused, listing-there, copy-fits, list-written, list-short}
 use Rattle.run.proofs.list.Statement.{statement}
 use Rattle.run.proofs.list.Tie as tie
-use Rattle.run.proofs.list.Reads as reads
-use Rattle.run.proofs.list.Lts as lts
-use Rattle.listing.proofs.write_bytes.Reads as write-bytes-reads
-use Rattle.run.proofs.print.Reads as print-reads
-use Rattle.runfile.proofs.read.Reads as read-reads
 
 read-requires : tie.Need-read-requires
 read-requires c κs = search needs

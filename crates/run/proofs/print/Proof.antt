@@ -2,10 +2,6 @@ use Rattle.run.proofs.Laws.{print-fits, print-written}
 use borrow.Author.Needs.{needs}
 use Rattle.run.proofs.print.Statement.{statement}
 use Rattle.run.proofs.print.Tie as tie
-use Rattle.run.proofs.print.Reads as reads
-use Rattle.run.proofs.print.Lts as lts
-use Rattle.listing.proofs.write_header.Reads as write-header-reads
-use Rattle.run.proofs.steps.run_steps.Reads as run-steps-reads
 
 write-header-requires : tie.Need-write-header-requires
 write-header-requires c κs = search needs
