@@ -15,15 +15,17 @@ use Rattle.leases.specs.Parts.{waitsBy}
 use Rattle.words.specs.Fields.{wordLengths, at, CLOCK, SESSION-EXPIRY, UNREACHABLE, LEASE, WAITING}
 use Rattle.writes.specs.Waiting.{waitingFor, waitingIn, waitsIn}
 
+-- a mark, or none, is no change of who is waited for
+pub mark-keeps : (w₀ w u : List ℕ) (b : Bool) (v n d y : ℕ) → v < 8 → n ≤ 16 → d < n → parts wordLengths w WAITING ≡ parts wordLengths w₀ WAITING
+    → u ≡ cond b (set w (at UNREACHABLE + byVolume d v) y) w → parts wordLengths u WAITING ≡ parts wordLengths w₀ WAITING
+mark-keeps w₀ w u b v n d y i k h same e =
+    rw e
+    (cond-keeps (λ (m : List ℕ). parts wordLengths m WAITING ≡ parts wordLengths w₀ WAITING) b
+    (λ _. ap (λ (f : ℕ → List ℕ). f WAITING) (stored wordLengths w UNREACHABLE (byVolume d v) y (omega arith)) ∙ same) (λ _. same))
+
 module _ (w₀ w : List ℕ) (v o n d : ℕ) (i : v < 8) (j : o < 32) (k : n ≤ 16) (h : d < n) (same : parts wordLengths w WAITING ≡ parts wordLengths w₀ WAITING) where
   waits : flag (getD w (at WAITING + byObject d o) 0) ≡ waitingFor (waitingIn w₀) o d
   waits = flag-at wordLengths w WAITING (byObject d o) (omega arith) ∙ ap (λ (l : List ℕ). getD (flags l) (byObject d o) false) same
-
-  pub mark-keeps : (u : List ℕ) → u ≡ cond (flag (getD w (at WAITING + byObject d o) 0)) (set w (at UNREACHABLE + byVolume d v) 1) w → parts wordLengths u WAITING ≡ parts wordLengths w₀ WAITING
-  mark-keeps u e =
-      rw e
-      (cond-keeps (λ (m : List ℕ). parts wordLengths m WAITING ≡ parts wordLengths w₀ WAITING) (flag (getD w (at WAITING + byObject d o) 0))
-      (λ _. ap (λ (f : ℕ → List ℕ). f WAITING) (stored wordLengths w UNREACHABLE (byVolume d v) 1 (omega arith)) ∙ same) (λ _. same))
 
   pub mark-again : (u A : List ℕ) → u ≡ cond (flag (getD w (at WAITING + byObject d o) 0)) (set w (at UNREACHABLE + byVolume d v) 1) w
       → foldFrom (storeAt (waitingFor (waitingIn w₀) o) (λ (d : ℕ). at UNREACHABLE + byVolume d v) (λ (d : ℕ). 1)) w d (n - d) ≡ A
