@@ -1,9 +1,10 @@
 -- What a step is lent, as the world that the rules speak of.
+use Prim.Native.Nat.{ℕ}
 use mathlib.Core.List.{List}
 use Rattle.protocol.specs.declared.records.Copy.{Copy}
 use Rattle.protocol.specs.declared.records.Request.{Request}
-use Rattle.protocol.specs.declared.tables.Tables.{Tables}
 use Rattle.protocol.specs.World.{World}
+use Rattle.words.specs.View.{tablesOf}
 
-abbrev pub world : Tables → List Copy → List Request → World
-world t l k = record { tables = t; copies = l; requests = k }
+abbrev pub world : List ℕ → List ℕ → List Copy → List Request → World
+world words values l k = record { tables = tablesOf words values; copies = l; requests = k }
