@@ -24,14 +24,14 @@ pub fn decide(
     records: bool,
     c: Copy,
     r: Request,
-    x: Step,
+    step: Step,
 ) -> Verdict
-    ensures { λ v. ⌜ answered (v .change) (tablesOf (now (words .exit)) (now (values .exit))) (v .answer) ≡ decided s (tablesOf (now (words .entry)) (now (values .entry))) records c r x ⌝ }
+    ensures { λ v. ⌜ answered (v .change) (tablesOf (now (words .exit)) (now (values .exit))) (v .answer) ≡ decided s (tablesOf (now (words .entry)) (now (values .entry))) records c r step ⌝ }
     ensures { λ v. ⌜ (answerNumber (v .answer) ≡ 4 → (now (words .exit) ≡ now (words .entry)) × (now (values .exit) ≡ now (values .entry))) ⌝ }
 {
-    let no = gate::refusal(s, &*words, &*values, records, r, x);
+    let no = gate::refusal(s, &*words, &*values, records, r, step);
     if no == 0 {
-        return perform::perform(s, &mut *words, &mut *values, c, r, x);
+        return perform::perform(s, &mut *words, &mut *values, c, r, step);
     }
     Verdict {
         change: client::copy::kept(),

@@ -85,33 +85,33 @@ pub fn perform(
     values: &mut Values,
     c: Copy,
     r: Request,
-    x: Step,
+    step: Step,
 ) -> Verdict
     requires { ⌜ inRange s ≡ true ⌝ }
     requires { ⌜ tablesSound s (tablesOf (now words) (now values)) ≡ true ⌝ }
-    requires { ⌜ refusalOfStep s (tablesOf (now words) (now values)) r x ≡ 0 ⌝ }
-    ensures { λ v. ⌜ answered (v .change) (tablesOf (now (words .exit)) (now (values .exit))) (v .answer) ≡ performed s (tablesOf (now (words .entry)) (now (values .entry))) c r x ⌝ }
+    requires { ⌜ refusalOfStep s (tablesOf (now words) (now values)) r step ≡ 0 ⌝ }
+    ensures { λ v. ⌜ answered (v .change) (tablesOf (now (words .exit)) (now (values .exit))) (v .answer) ≡ performed s (tablesOf (now (words .entry)) (now (values .entry))) c r step ⌝ }
     ensures { λ _. ⌜ recordsOf (now (words .exit)) (now (values .exit)) ≡ recordsOf (now (words .entry)) (now (values .entry)) ⌝ }
 {
-    let kind = x.kind;
+    let kind = step.kind;
     match kind {
-        1 => counting(settle::pass_time(s, words, values, x.clock)),
-        2 => keeping(steps::read(s, &*words, c, x.client, x.object)),
+        1 => counting(settle::pass_time(s, words, values, step.clock)),
+        2 => keeping(steps::read(s, &*words, c, step.client, step.object)),
         3 => {
-            steps::ask(s, words, values, c, r, x.client, x.object);
-            asking(x.object)
+            steps::ask(s, words, values, c, r, step.client, step.object);
+            asking(step.object)
         }
         4 => {
-            let n = accept::accept_write(s, words, values, x.object as usize, x.value);
+            let n = accept::accept_write(s, words, values, step.object as usize, step.value);
             counting(n)
         }
-        5 => deliver::deliver(s, words, values, c, r, x.place as usize),
+        5 => deliver::deliver(s, words, values, c, r, step.place as usize),
         6 => {
-            list::remove(words, values, x.place as usize);
+            list::remove(words, values, step.place as usize);
             keeping(Answer::Done)
         }
         7 => {
-            list::double(words, values, x.place as usize);
+            list::double(words, values, step.place as usize);
             keeping(Answer::Done)
         }
         8 => {
@@ -119,7 +119,7 @@ pub fn perform(
             keeping(Answer::Done)
         }
         _ => {
-            steps::restart(s, words, &*values, x.client);
+            steps::restart(s, words, &*values, step.client);
             restarting()
         }
     }

@@ -58,13 +58,13 @@ fn target_at(s: Setup, client: u8, object: u8) -> Target
 }
 
 // The records that the step names, or those of the message that it delivers; for any input.
-pub fn target<'a>(s: Setup, words: &'a Words, values: &'a Values, x: Step) -> Target
-    ensures { λ r. ⌜ r ≡ target s (tablesOf (now (words .entry)) (now (values .entry))) x ⌝ }
+pub fn target<'a>(s: Setup, words: &'a Words, values: &'a Values, step: Step) -> Target
+    ensures { λ r. ⌜ r ≡ target s (tablesOf (now (words .entry)) (now (values .entry))) step ⌝ }
 {
-    if x.kind == 5 {
-        let m = list::message_at(words, values, x.place as usize);
+    if step.kind == 5 {
+        let m = list::message_at(words, values, step.place as usize);
         let k = m.kind;
         return target_at(s, m.client, object_of(k));
     }
-    target_at(s, x.client, x.object)
+    target_at(s, step.client, step.object)
 }

@@ -33,21 +33,21 @@ pub fn step(
     values: &mut Values,
     copies: &mut [Copy],
     requests: &mut [Request],
-    x: Step,
+    step: Step,
 ) -> Answer
-    ensures answers { λ r. ⌜ r ≡ answerOf setup (world (now (words .entry)) (now (values .entry)) (now (copies .entry)) (now (requests .entry))) x ⌝ }
-    ensures moves { λ _. ⌜ world (now (words .exit)) (now (values .exit)) (now (copies .exit)) (now (requests .exit)) ≡ stepped setup (world (now (words .entry)) (now (values .entry)) (now (copies .entry)) (now (requests .entry))) x ⌝ }
-    ensures numbers { λ r. ⌜ answerNumber r ≡ numberOf setup (world (now (words .entry)) (now (values .entry)) (now (copies .entry)) (now (requests .entry))) x ⌝ }
-    ensures values { λ r. ⌜ answerValue r ≡ valueOf setup (world (now (words .entry)) (now (values .entry)) (now (copies .entry)) (now (requests .entry))) x ⌝ }
+    ensures answers { λ r. ⌜ r ≡ answerOf setup (world (now (words .entry)) (now (values .entry)) (now (copies .entry)) (now (requests .entry))) step ⌝ }
+    ensures moves { λ _. ⌜ world (now (words .exit)) (now (values .exit)) (now (copies .exit)) (now (requests .exit)) ≡ stepped setup (world (now (words .entry)) (now (values .entry)) (now (copies .entry)) (now (requests .entry))) step ⌝ }
+    ensures numbers { λ r. ⌜ answerNumber r ≡ numberOf setup (world (now (words .entry)) (now (values .entry)) (now (copies .entry)) (now (requests .entry))) step ⌝ }
+    ensures values { λ r. ⌜ answerValue r ≡ valueOf setup (world (now (words .entry)) (now (values .entry)) (now (copies .entry)) (now (requests .entry))) step ⌝ }
     ensures refuses { λ r. ⌜ (answerNumber r ≡ 4 → (now (words .exit) ≡ now (words .entry)) × ((now (values .exit) ≡ now (values .entry)) × ((now (copies .exit) ≡ now (copies .entry)) × (now (requests .exit) ≡ now (requests .entry))))) ⌝ }
 {
     let held = copies::sound(&*copies, setup);
     let asked = requests::sound(&*requests, setup);
     let sound = both(held, asked);
-    let at = target(setup, &*words, &*values, x);
+    let at = target(setup, &*words, &*values, step);
     let c = copies::look(&*copies, at.copy);
     let r = requests::look(&*requests, at.client);
-    let v = decide(setup, &mut *words, &mut *values, sound, c, r, x);
+    let v = decide(setup, &mut *words, &mut *values, sound, c, r, step);
     copies::change(&mut *copies, at.copy, v.change.copy);
     sweep(&mut *copies, setup, v.change.sweep, at.first);
     update(&mut *requests, at.client, v.change.request);
