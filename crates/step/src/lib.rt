@@ -26,7 +26,7 @@ fn both(a: bool, b: bool) -> bool
 }
 
 // One step (01, "Steps"), on any input whatever. `copies` are all clients' copies in one list, client by client in object order; `requests` one a
-// client. The records that the words have room for are neither read nor written.
+// client. The room that the words have for records is not used.
 pub fn step(
     setup: Setup,
     words: &mut Words,

@@ -1,106 +1,159 @@
 // One change, by the number of its field: 1 to 7 the setup, 10 to 31 the tables, 40 to 50 the message list, 60 to 63 copies, 70 to 74 requests.
-use crate::messages;
-use crate::record;
-use crate::tables;
+use crate::text::byte;
 use crate::text::word;
-use crate::world::World;
 use protocol::setup::Setup;
-use protocol::tables::Tables;
+use words::VALUES;
+use words::Values;
+use words::WORDS;
+use words::Words;
+use words::client;
+use words::network;
+use words::server;
 
-fn copies_of(s: Setup) -> usize {
-    let clients = s.clients as usize;
-    let objects = s.objects as usize;
-    clients * objects
+// What a step is handed besides the words and values. The records stand in the words too; the first so many copies and requests are lent.
+pub struct Case {
+    pub setup: Setup,
+    pub copies: usize,
+    pub requests: usize,
+}
+
+// A setup of zeros.
+pub fn none() -> Case {
+    let volume = [0u8; 32];
+    let setup = Setup {
+        clients: 0,
+        volumes: 0,
+        objects: 0,
+        tv: 0,
+        t: 0,
+        m: 0,
+        volume,
+    };
+    Case {
+        setup,
+        copies: 0,
+        requests: 0,
+    }
+}
+
+fn with(s: Setup, field: u64, place: usize, x: u64) -> Setup {
+    let mut s = s;
+    match field {
+        1 => s.clients = word(x),
+        2 => s.volumes = word(x),
+        3 => s.objects = word(x),
+        4 => s.tv = word(x),
+        5 => s.t = word(x),
+        6 => s.m = word(x),
+        _ => s.volume[place % 32] = byte(x),
+    }
+    s
 }
 
 // From here on as many records are lent as the setup has, so that a case about the setup is not one about their number.
-fn setup(w: World, field: u64, place: usize, x: u64) -> World {
-    let mut w = w;
-    let s = w.setup;
-    let s = tables::setup(s, field, place, x);
-    w.setup = s;
-    w.copies_lent = copies_of(s);
-    w.requests_lent = s.clients as usize;
-    w
+fn lending(s: Setup) -> Case {
+    let clients = s.clients as usize;
+    let objects = s.objects as usize;
+    Case {
+        setup: s,
+        copies: clients * objects,
+        requests: clients,
+    }
 }
 
-fn server(t: Tables, field: u64, place: usize, x: u64) -> Tables {
-    let mut t = t;
-    if field == 10 {
-        t.clock = word(x);
-        return t;
+// Where a field stands in the words; past their end where it does not.
+fn in_words(field: u64) -> usize {
+    match field {
+        10 => network::CLOCK,
+        11 => server::VOLUME_EPOCH,
+        12 => server::VOLUME_EXPIRY,
+        13 => server::GUARD,
+        14 => server::SEEN,
+        15 => server::SESSION_EXPIRY,
+        16 => server::UNREACHABLE,
+        17 => server::OFFER,
+        21 => server::VERSION,
+        22 => server::OBJECT_EXPIRY,
+        23 => server::STANDING,
+        25 => server::END,
+        26 => server::LEASE,
+        27 => server::WAITING,
+        30 => client::VIEW_EPOCH,
+        31 => client::VIEW_EXPIRY,
+        40 => network::LENGTH,
+        60 => client::COPY_VERSION,
+        62 => client::COPY_EXPIRY,
+        70 => client::REQUEST_NEXT,
+        71 => client::REQUEST_STANDING,
+        72 => client::REQUEST_NUMBER,
+        73 => client::REQUEST_OBJECT,
+        _ => WORDS,
     }
-    if field < 14 {
-        let v = t.volumes;
-        t.volumes = tables::volumes(v, field, place, x);
-        return t;
-    }
-    if field < 20 {
-        let e = t.sessions;
-        t.sessions = tables::sessions(e, field, place, x);
-        return t;
-    }
-    if field < 26 {
-        let o = t.objects;
-        t.objects = tables::objects(o, field, place, x);
-        return t;
-    }
-    let h = t.holders;
-    t.holders = tables::holders(h, field, place, x);
-    t
 }
 
-fn any_table(t: Tables, field: u64, place: usize, x: u64) -> Tables {
-    let mut t = t;
-    if field < 30 {
-        return server(t, field, place, x);
+// The same of the values.
+fn in_values(field: u64) -> usize {
+    match field {
+        20 => server::VALUE,
+        24 => server::PENDING,
+        50 => network::MESSAGE_VALUE,
+        61 => client::COPY_VALUE,
+        _ => VALUES,
     }
-    if field < 40 {
-        let v = t.views;
-        t.views = tables::views(v, field, place, x);
-        return t;
-    }
-    let q = t.queue;
-    t.queue = messages::queue(q, field, place, x);
-    t
 }
 
-fn copies(w: World, field: u64, place: usize, x: u64) -> World {
-    let mut w = w;
-    if field == 63 {
-        w.copies_lent = x as usize;
-        return w;
+// Nothing is stored past the end.
+fn put(words: &mut Words, from: usize, place: usize, x: u64) {
+    if from < WORDS {
+        if place < WORDS - from {
+            words[from + place] = word(x);
+        }
     }
-    let i = place % 512;
-    let c = w.copies[i];
-    w.copies[i] = record::copy(c, field, x);
-    w
 }
 
-fn requests(w: World, field: u64, place: usize, x: u64) -> World {
-    let mut w = w;
-    if field == 74 {
-        w.requests_lent = x as usize;
-        return w;
+fn put_value(values: &mut Values, from: usize, place: usize, x: u64) {
+    if from < VALUES {
+        if place < VALUES - from {
+            values[from + place] = x;
+        }
     }
-    let i = place % 16;
-    let r = w.requests[i];
-    w.requests[i] = record::request(r, field, x);
-    w
 }
 
-pub fn changed(w: World, field: u64, place: usize, x: u64) -> World {
-    let mut w = w;
+// A message's words, in the frame's order.
+fn put_message(words: &mut Words, field: u64, place: usize, x: u64) {
+    if place < 64 {
+        if 41 <= field {
+            let k = (field - 41) as usize;
+            if k < 9 {
+                put(words, network::MESSAGES, place * 9 + k, x);
+            }
+        }
+    }
+}
+
+pub fn change(
+    c: Case,
+    words: &mut Words,
+    values: &mut Values,
+    field: u64,
+    place: usize,
+    x: u64,
+) -> Case {
+    let mut c = c;
     if field < 10 {
-        return setup(w, field, place, x);
+        let s = c.setup;
+        return lending(with(s, field, place, x));
     }
-    if field < 60 {
-        let t = w.tables;
-        w.tables = any_table(t, field, place, x);
-        return w;
+    if field == 63 {
+        c.copies = x as usize;
+        return c;
     }
-    if field < 70 {
-        return copies(w, field, place, x);
+    if field == 74 {
+        c.requests = x as usize;
+        return c;
     }
-    requests(w, field, place, x)
+    put(&mut *words, in_words(field), place, x);
+    put_value(&mut *values, in_values(field), place, x);
+    put_message(&mut *words, field, place, x);
+    c
 }

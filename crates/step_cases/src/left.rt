@@ -1,72 +1,73 @@
 // What a step left: a line for each element of the tables, each message and each record that is another one than before.
-use crate::arrays::Row;
-use crate::arrays::flags;
-use crate::arrays::values;
-use crate::arrays::words;
-use crate::left_messages::messages;
-use crate::left_records::copies;
-use crate::left_records::requests;
+use crate::fields::Row;
+use crate::fields::values;
+use crate::fields::words;
 use crate::lines::end;
 use crate::lines::number;
-use crate::world::World;
-use protocol::tables::Holders;
-use protocol::tables::Objects;
-use protocol::tables::Sessions;
-use protocol::tables::Tables;
-use protocol::tables::Views;
-use protocol::tables::Volumes;
+use crate::rows::copies;
+use crate::rows::messages;
+use crate::rows::requests;
+use words::Values;
+use words::Words;
+use words::client;
+use words::network;
+use words::server;
 
-fn volumes(a: Volumes, b: Volumes) {
-    words(b"epoch", Row::One, &a.epoch, &b.epoch);
-    words(b"VE", Row::One, &a.expiry, &b.expiry);
-    words(b"guard", Row::One, &a.guard, &b.guard);
-}
-
-fn sessions(a: Sessions, b: Sessions) {
-    words(b"seen", Row::One, &a.seen, &b.seen);
-    words(b"volume lease", Row::Volumes, &a.expiry, &b.expiry);
-    flags(b"unreachable", Row::Volumes, &a.unreachable, &b.unreachable);
-    words(b"offer", Row::Volumes, &a.offer, &b.offer);
-}
-
-fn objects(a: Objects, b: Objects) {
-    values(b"value", &a.value, &b.value);
-    words(b"version", Row::One, &a.version, &b.version);
-    words(b"OE", Row::One, &a.expiry, &b.expiry);
-    flags(b"standing", Row::One, &a.standing, &b.standing);
-    values(b"pending", &a.pending, &b.pending);
-    words(b"end", Row::One, &a.end, &b.end);
-}
-
-fn holders(a: Holders, b: Holders) {
-    words(b"object lease", Row::Objects, &a.lease, &b.lease);
-    flags(b"waiting", Row::Objects, &a.waiting, &b.waiting);
-}
-
-fn views(a: Views, b: Views) {
-    words(b"known epoch", Row::Volumes, &a.epoch, &b.epoch);
-    words(b"known expiry", Row::Volumes, &a.expiry, &b.expiry);
-}
-
-fn tables(a: Tables, b: Tables) {
-    if a.clock != b.clock {
-        number(b"  clock: ", b.clock as u64);
+// A number that there is one of.
+fn one(name: &[u8], before: u32, after: u32) {
+    if before != after {
+        number(name, after as u64);
         end();
     }
-    volumes(a.volumes, b.volumes);
-    sessions(a.sessions, b.sessions);
-    objects(a.objects, b.objects);
-    holders(a.holders, b.holders);
-    views(a.views, b.views);
-    messages(a.queue, b.queue);
 }
 
-pub fn show(a: World, b: World) {
-    tables(a.tables, b.tables);
-    let before = a.copies;
-    let after = b.copies;
-    copies(before, after);
-    let before = a.requests;
-    let after = b.requests;
-    requests(before, after);
+fn volumes(a: &Words, b: &Words) {
+    words(b"epoch", Row::One, server::VOLUME_EPOCH, 8, a, b);
+    words(b"VE", Row::One, server::VOLUME_EXPIRY, 8, a, b);
+    words(b"guard", Row::One, server::GUARD, 8, a, b);
+    words(b"seen", Row::One, server::SEEN, 16, a, b);
+    words(
+        b"volume lease",
+        Row::Volumes,
+        server::SESSION_EXPIRY,
+        128,
+        a,
+        b,
+    );
+    words(b"unreachable", Row::Volumes, server::UNREACHABLE, 128, a, b);
+    words(b"offer", Row::Volumes, server::OFFER, 128, a, b);
+}
+
+fn objects(a: &Words, x: &Values, b: &Words, y: &Values) {
+    values(b"value", server::VALUE, x, y);
+    words(b"version", Row::One, server::VERSION, 32, a, b);
+    words(b"OE", Row::One, server::OBJECT_EXPIRY, 32, a, b);
+    words(b"standing", Row::One, server::STANDING, 32, a, b);
+    values(b"pending", server::PENDING, x, y);
+    words(b"end", Row::One, server::END, 32, a, b);
+    words(b"object lease", Row::Objects, server::LEASE, 512, a, b);
+    words(b"waiting", Row::Objects, server::WAITING, 512, a, b);
+}
+
+fn views(a: &Words, b: &Words) {
+    words(b"known epoch", Row::Volumes, client::VIEW_EPOCH, 128, a, b);
+    words(
+        b"known expiry",
+        Row::Volumes,
+        client::VIEW_EXPIRY,
+        128,
+        a,
+        b,
+    );
+}
+
+pub fn show<'a, 'b>(a: &'a Words, x: &'a Values, b: &'b Words, y: &'b Values) {
+    one(b"  clock: ", a[network::CLOCK], b[network::CLOCK]);
+    volumes(a, b);
+    objects(a, x, b, y);
+    views(a, b);
+    one(b"  messages: ", a[network::LENGTH], b[network::LENGTH]);
+    messages(a, x, b, y);
+    copies(a, x, b, y);
+    requests(a, b);
 }

@@ -1,40 +1,102 @@
 // One step of a case, and its answer printed.
+ghost use Prim.Native.Nat.{_≤_};
+use crate::change::Case;
 use crate::lines::end;
 use crate::lines::fields;
 use crate::lines::spaced;
 use crate::lines::text;
-use crate::world::World;
 use protocol::message::Message;
+use protocol::records::Copy;
+use protocol::records::Request;
+use protocol::setup::Setup;
 use protocol::step::Answer;
 use protocol::step::Step;
+use step::step;
+use words::Values;
+use words::Words;
 
-pub struct Taken {
-    pub answer: Answer,
-    pub world: World,
+fn at_most(most: usize, n: usize) -> usize
+    ensures { λ r. ⌜ r ≤ most ⌝ }
+{
+    if n < most {
+        return n;
+    }
+    most
 }
 
-pub fn stepped(w: World, x: Step) -> Taken {
-    let setup = w.setup;
-    let copies_lent = w.copies_lent;
-    let requests_lent = w.requests_lent;
-    let t = w.tables;
-    let c = w.copies;
-    let r = w.requests;
-    let o = step::owned::step_on(setup, t, c, r, copies_lent, requests_lent, x);
-    let copies = o.copies;
-    let requests = o.requests;
-    let outcome = o.outcome;
-    let tables = outcome.tables;
-    let answer = outcome.answer;
-    let world = World {
+fn copies_in<'a>(words: &'a Words, values: &'a Values) -> [Copy; 512] {
+    let mut l = [setup::fresh::fresh_copy(); 512];
+    let mut i = 0;
+    while i < 512 {
+        l[i] = stored::copies::copy_at(words, values, i);
+        i += 1;
+    }
+    l
+}
+
+fn requests_in(words: &Words) -> [Request; 16] {
+    let mut l = [setup::fresh::fresh_request(); 16];
+    let mut i = 0;
+    while i < 16 {
+        l[i] = stored::requests::request_at(words, i);
+        i += 1;
+    }
+    l
+}
+
+fn keep_copies(words: &mut Words, values: &mut Values, l: [Copy; 512]) {
+    let mut i = 0;
+    while i < 512 {
+        stored::copies::put_copy(&mut *words, &mut *values, i, l[i]);
+        i += 1;
+    }
+}
+
+fn keep_requests(words: &mut Words, l: [Request; 16]) {
+    let mut i = 0;
+    while i < 16 {
+        stored::requests::put_request(&mut *words, i, l[i]);
+        i += 1;
+    }
+}
+
+fn keep(words: &mut Words, values: &mut Values, copies: [Copy; 512], requests: [Request; 16]) {
+    keep_copies(&mut *words, &mut *values, copies);
+    keep_requests(&mut *words, requests);
+}
+
+// The first n copies and m requests are lent to `step`. So a case can lend another number than the setup has, which is unsound.
+fn step_on(
+    setup: Setup,
+    words: &mut Words,
+    values: &mut Values,
+    mut copies: [Copy; 512],
+    mut requests: [Request; 16],
+    n: usize,
+    m: usize,
+    x: Step,
+) -> Answer
+    requires { ⌜ (n ≤ 512) × (m ≤ 16) ⌝ }
+{
+    let a = step(
         setup,
-        tables,
-        copies,
-        requests,
-        copies_lent,
-        requests_lent,
-    };
-    Taken { answer, world }
+        &mut *words,
+        &mut *values,
+        &mut copies[..n],
+        &mut requests[..m],
+        x,
+    );
+    keep(&mut *words, &mut *values, copies, requests);
+    a
+}
+
+pub fn take(c: Case, words: &mut Words, values: &mut Values, x: Step) -> Answer {
+    let setup = c.setup;
+    let copies = copies_in(&*words, &*values);
+    let requests = requests_in(&*words);
+    let n = at_most(512, c.copies);
+    let m = at_most(16, c.requests);
+    step_on(setup, words, values, copies, requests, n, m, x)
 }
 
 fn line(answer: u64, value: u64) {

@@ -6,6 +6,7 @@ use std::fmt::Display;
 use crate::cases::rows::Row;
 use crate::cases::tables::CaseTables;
 use crate::limits::{CLIENTS, OBJECTS, QUEUE, VOLUMES};
+use crate::queue::Queue;
 use crate::tables::{ClientVolumes, Server, Tables};
 
 /// What was before a step, and what after it.
@@ -59,7 +60,16 @@ fn known(lines: &mut Vec<String>, both: Both<ClientVolumes>) {
 
 fn messages(lines: &mut Vec<String>, both: Both<Tables>) {
     one(lines, both, "messages", |tables| tables.queue.len);
-    each(lines, both, "message", QUEUE, |tables, place| Row::of(&tables.queue.places[place]));
+    each(lines, both, "message", QUEUE, |tables, place| shown(&tables.queue, place));
+}
+
+/// A place past the list's length is blank, whatever it holds.
+fn shown(queue: &Queue, place: usize) -> Row {
+    if place < queue.len {
+        Row::of(&queue.places[place])
+    } else {
+        Row::BLANK
+    }
 }
 
 fn records(lines: &mut Vec<String>, both: Both<CaseTables>) {

@@ -4,10 +4,10 @@ use Rattle.step_cases.proofs.changed.Statement.{statement}
 use Rattle.step_cases.proofs.changed.Tie as tie
 
 abbrev Inv-loop : tie.InvT-loop
-Inv-loop s from count w₀ at₀ i₀ w at i = i ≤ count
+Inv-loop s from count w₀ v₀ c₀ at₀ i₀ w v c at i = i ≤ count
 
 abbrev μ-loop : tie.MeasureT-loop
-μ-loop s from count w₀ at₀ i₀ w at i = count - i
+μ-loop s from count w₀ v₀ c₀ at₀ i₀ w v c at i = count - i
 
 loop-holds : tie.Need-loop-holds Inv-loop μ-loop
 loop-holds c = search needs
@@ -21,8 +21,8 @@ number-requires-2 c κs = search needs
 number-requires-3 : tie.Need-number-requires-3 Inv-loop μ-loop
 number-requires-3 c κs = search needs
 
-changed-requires : tie.Need-changed-requires Inv-loop μ-loop
-changed-requires c κs = search needs
+change-requires : tie.Need-change-requires Inv-loop μ-loop
+change-requires c κs = search needs
 
 add-i : tie.Need-add-i Inv-loop μ-loop
 add-i c = search needs
@@ -46,7 +46,7 @@ changed-spec =
     number-requires
     number-requires-2
     number-requires-3
-    changed-requires
+    change-requires
     add-i
     loop-less
     loop-again

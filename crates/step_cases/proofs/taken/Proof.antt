@@ -4,10 +4,10 @@ use Rattle.step_cases.proofs.taken.Statement.{statement}
 use Rattle.step_cases.proofs.taken.Tie as tie
 
 abbrev Inv-loop : tie.InvT-loop
-Inv-loop s from count id w₀ at₀ i₀ w at i = i ≤ count
+Inv-loop s from count id c w₀ v₀ at₀ i₀ w v at i = i ≤ count
 
 abbrev μ-loop : tie.MeasureT-loop
-μ-loop s from count id w₀ at₀ i₀ w at i = count - i
+μ-loop s from count id c w₀ v₀ at₀ i₀ w v at i = count - i
 
 loop-holds : tie.Need-loop-holds Inv-loop μ-loop
 loop-holds c = search needs
@@ -15,8 +15,8 @@ loop-holds c = search needs
 step-requires : tie.Need-step-requires Inv-loop μ-loop
 step-requires c κs = search needs
 
-stepped-requires : tie.Need-stepped-requires Inv-loop μ-loop
-stepped-requires c κs = search needs
+take-requires : tie.Need-take-requires Inv-loop μ-loop
+take-requires c κs = search needs
 
 show-requires : tie.Need-show-requires Inv-loop μ-loop
 show-requires c κs = search needs
@@ -47,7 +47,7 @@ taken-spec =
     μ-loop
     loop-holds
     step-requires
-    stepped-requires
+    take-requires
     show-requires
     show-requires-2
     after-requires

@@ -1,31 +1,22 @@
 use Prim.Native.Nat.{_≤_, _-_}
 use borrow.Author.Needs.{needs}
-use Rattle.step_cases.proofs.left_messages.messages.Statement.{statement}
-use Rattle.step_cases.proofs.left_messages.messages.Tie as tie
+use Rattle.step_cases.proofs.rows.messages.Statement.{statement}
+use Rattle.step_cases.proofs.rows.messages.Tie as tie
 
 abbrev Inv-loop : tie.InvT-loop
-Inv-loop a b i₀ i = i ≤ 64
+Inv-loop words values w v i₀ i = i ≤ 64
 
 abbrev μ-loop : tie.MeasureT-loop
-μ-loop a b i₀ i = 64 - i
-
-length-requires : tie.Need-length-requires Inv-loop μ-loop
-length-requires c κs = search needs
+μ-loop words values w v i₀ i = 64 - i
 
 loop-holds : tie.Need-loop-holds Inv-loop μ-loop
 loop-holds c = search needs
 
-mul-before : tie.Need-mul-before Inv-loop μ-loop
-mul-before c = search needs
+message-at-requires : tie.Need-message-at-requires Inv-loop μ-loop
+message-at-requires c κs = search needs
 
-element-copy-out-before : tie.Need-element-copy-out-before Inv-loop μ-loop
-element-copy-out-before c = search needs
-
-mul-after : tie.Need-mul-after Inv-loop μ-loop
-mul-after c = search needs
-
-element-copy-out-after : tie.Need-element-copy-out-after Inv-loop μ-loop
-element-copy-out-after c = search needs
+message-at-requires-2 : tie.Need-message-at-requires-2 Inv-loop μ-loop
+message-at-requires-2 c κs = search needs
 
 message-requires : tie.Need-message-requires Inv-loop μ-loop
 message-requires c κs = search needs
@@ -48,12 +39,9 @@ messages-spec =
     (tie.spec
     Inv-loop
     μ-loop
-    length-requires
     loop-holds
-    mul-before
-    element-copy-out-before
-    mul-after
-    element-copy-out-after
+    message-at-requires
+    message-at-requires-2
     message-requires
     add-i
     loop-less

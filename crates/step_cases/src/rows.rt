@@ -1,9 +1,34 @@
-// What a step left of the clients' records, those that are not lent too: a line for each that is another one.
+// The clients' records, those that are not lent too, and the messages: a line for each that is another one than before.
 use crate::lines::end;
+use crate::lines::fields;
 use crate::lines::number;
 use crate::lines::text;
+use protocol::message::Message;
 use protocol::records::Copy;
 use protocol::records::Request;
+use words::Values;
+use words::Words;
+
+fn message(i: usize, a: Message, b: Message) {
+    let f = frame::fields::fields_of(a);
+    let g = frame::fields::fields_of(b);
+    if frame::fields::same(f, g) {
+        return;
+    }
+    number(b"  message ", i as u64);
+    text(b":");
+    fields(g);
+}
+
+pub fn messages(words: &Words, values: &Values, w: &Words, v: &Values) {
+    let mut i = 0;
+    while i < 64 {
+        let a = queue::list::message_at(words, values, i);
+        let b = queue::list::message_at(w, v, i);
+        message(i, a, b);
+        i += 1;
+    }
+}
 
 fn same_copy(a: Copy, b: Copy) -> bool {
     (a.version == b.version) & (a.value == b.value) & (a.expiry == b.expiry)
@@ -20,10 +45,12 @@ fn copy(i: usize, a: Copy, b: Copy) {
     end();
 }
 
-pub fn copies(a: [Copy; 512], b: [Copy; 512]) {
+pub fn copies<'a, 'b>(words: &'a Words, values: &'a Values, w: &'b Words, v: &'b Values) {
     let mut i = 0;
     while i < 512 {
-        copy(i, a[i], b[i]);
+        let a = stored::copies::copy_at(words, values, i);
+        let b = stored::copies::copy_at(w, v, i);
+        copy(i, a, b);
         i += 1;
     }
 }
@@ -55,10 +82,12 @@ fn request(i: usize, a: Request, b: Request) {
     end();
 }
 
-pub fn requests(a: [Request; 16], b: [Request; 16]) {
+pub fn requests(words: &Words, w: &Words) {
     let mut i = 0;
     while i < 16 {
-        request(i, a[i], b[i]);
+        let a = stored::requests::request_at(words, i);
+        let b = stored::requests::request_at(w, i);
+        request(i, a, b);
         i += 1;
     }
 }

@@ -1,29 +1,34 @@
 use Prim.Native.Nat.{_≤_, _-_}
-use lib.ListN.{length}
 use borrow.Author.Needs.{needs}
-use Rattle.step_cases.proofs.arrays.words.Statement.{statement}
-use Rattle.step_cases.proofs.arrays.words.Tie as tie
+use Rattle.step_cases.proofs.fields.words.Statement.{statement}
+use Rattle.step_cases.proofs.fields.words.Tie as tie
 
 abbrev Inv-loop : tie.InvT-loop
-Inv-loop name row before after i₀ i = 0 ≤ i
+Inv-loop name row from n before after i₀ i = i ≤ n
 
 abbrev μ-loop : tie.MeasureT-loop
-μ-loop name row before after i₀ i = length before - i
+μ-loop name row from n before after i₀ i = n - i
 
 loop-holds : tie.Need-loop-holds Inv-loop μ-loop
 loop-holds c = search needs
 
+add-word : tie.Need-add-word Inv-loop μ-loop
+add-word c = search needs
+
 mul-word : tie.Need-mul-word Inv-loop μ-loop
 mul-word c = search needs
 
-shared-slice-read-word : tie.Need-shared-slice-read-word Inv-loop μ-loop
-shared-slice-read-word c = search needs
+element-copy-out-word : tie.Need-element-copy-out-word Inv-loop μ-loop
+element-copy-out-word c = search needs
+
+add-word-2 : tie.Need-add-word-2 Inv-loop μ-loop
+add-word-2 c = search needs
 
 mul-word-2 : tie.Need-mul-word-2 Inv-loop μ-loop
 mul-word-2 c = search needs
 
-shared-slice-read-word-2 : tie.Need-shared-slice-read-word-2 Inv-loop μ-loop
-shared-slice-read-word-2 c = search needs
+element-copy-out-word-2 : tie.Need-element-copy-out-word-2 Inv-loop μ-loop
+element-copy-out-word-2 c = search needs
 
 word-requires : tie.Need-word-requires Inv-loop μ-loop
 word-requires c κs = search needs
@@ -47,10 +52,12 @@ words-spec =
     Inv-loop
     μ-loop
     loop-holds
+    add-word
     mul-word
-    shared-slice-read-word
+    element-copy-out-word
+    add-word-2
     mul-word-2
-    shared-slice-read-word-2
+    element-copy-out-word-2
     word-requires
     add-i
     loop-less

@@ -1,28 +1,22 @@
 use Prim.Native.Nat.{_≤_, _-_}
 use borrow.Author.Needs.{needs}
-use Rattle.step_cases.proofs.left_records.requests.Statement.{statement}
-use Rattle.step_cases.proofs.left_records.requests.Tie as tie
+use Rattle.step_cases.proofs.rows.requests.Statement.{statement}
+use Rattle.step_cases.proofs.rows.requests.Tie as tie
 
 abbrev Inv-loop : tie.InvT-loop
-Inv-loop a b i₀ i = i ≤ 16
+Inv-loop words w i₀ i = i ≤ 16
 
 abbrev μ-loop : tie.MeasureT-loop
-μ-loop a b i₀ i = 16 - i
+μ-loop words w i₀ i = 16 - i
 
 loop-holds : tie.Need-loop-holds Inv-loop μ-loop
 loop-holds c = search needs
 
-mul-request : tie.Need-mul-request Inv-loop μ-loop
-mul-request c = search needs
+request-at-requires : tie.Need-request-at-requires Inv-loop μ-loop
+request-at-requires c κs = search needs
 
-array-copy-out-request : tie.Need-array-copy-out-request Inv-loop μ-loop
-array-copy-out-request c = search needs
-
-mul-request-2 : tie.Need-mul-request-2 Inv-loop μ-loop
-mul-request-2 c = search needs
-
-array-copy-out-request-2 : tie.Need-array-copy-out-request-2 Inv-loop μ-loop
-array-copy-out-request-2 c = search needs
+request-at-requires-2 : tie.Need-request-at-requires-2 Inv-loop μ-loop
+request-at-requires-2 c κs = search needs
 
 request-requires : tie.Need-request-requires Inv-loop μ-loop
 request-requires c κs = search needs
@@ -46,10 +40,8 @@ requests-spec =
     Inv-loop
     μ-loop
     loop-holds
-    mul-request
-    array-copy-out-request
-    mul-request-2
-    array-copy-out-request-2
+    request-at-requires
+    request-at-requires-2
     request-requires
     add-i
     loop-less

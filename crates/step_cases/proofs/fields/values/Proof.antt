@@ -1,29 +1,34 @@
 use Prim.Native.Nat.{_≤_, _-_}
-use lib.ListN.{length}
 use borrow.Author.Needs.{needs}
-use Rattle.step_cases.proofs.arrays.values.Statement.{statement}
-use Rattle.step_cases.proofs.arrays.values.Tie as tie
+use Rattle.step_cases.proofs.fields.values.Statement.{statement}
+use Rattle.step_cases.proofs.fields.values.Tie as tie
 
 abbrev Inv-loop : tie.InvT-loop
-Inv-loop name before after i₀ i = 0 ≤ i
+Inv-loop name from before after i₀ i = i ≤ 32
 
 abbrev μ-loop : tie.MeasureT-loop
-μ-loop name before after i₀ i = length before - i
+μ-loop name from before after i₀ i = 32 - i
 
 loop-holds : tie.Need-loop-holds Inv-loop μ-loop
 loop-holds c = search needs
 
+add-element : tie.Need-add-element Inv-loop μ-loop
+add-element c = search needs
+
 mul-element : tie.Need-mul-element Inv-loop μ-loop
 mul-element c = search needs
 
-shared-slice-read-element : tie.Need-shared-slice-read-element Inv-loop μ-loop
-shared-slice-read-element c = search needs
+element-copy-out-element : tie.Need-element-copy-out-element Inv-loop μ-loop
+element-copy-out-element c = search needs
+
+add-element-2 : tie.Need-add-element-2 Inv-loop μ-loop
+add-element-2 c = search needs
 
 mul-element-2 : tie.Need-mul-element-2 Inv-loop μ-loop
 mul-element-2 c = search needs
 
-shared-slice-read-element-2 : tie.Need-shared-slice-read-element-2 Inv-loop μ-loop
-shared-slice-read-element-2 c = search needs
+element-copy-out-element-2 : tie.Need-element-copy-out-element-2 Inv-loop μ-loop
+element-copy-out-element-2 c = search needs
 
 element-requires : tie.Need-element-requires Inv-loop μ-loop
 element-requires c κs = search needs
@@ -47,10 +52,12 @@ values-spec =
     Inv-loop
     μ-loop
     loop-holds
+    add-element
     mul-element
-    shared-slice-read-element
+    element-copy-out-element
+    add-element-2
     mul-element-2
-    shared-slice-read-element-2
+    element-copy-out-element-2
     element-requires
     add-i
     loop-less

@@ -1,28 +1,22 @@
 use Prim.Native.Nat.{_≤_, _-_}
 use borrow.Author.Needs.{needs}
-use Rattle.step_cases.proofs.left_records.copies.Statement.{statement}
-use Rattle.step_cases.proofs.left_records.copies.Tie as tie
+use Rattle.step_cases.proofs.rows.copies.Statement.{statement}
+use Rattle.step_cases.proofs.rows.copies.Tie as tie
 
 abbrev Inv-loop : tie.InvT-loop
-Inv-loop a b i₀ i = i ≤ 512
+Inv-loop words values w v i₀ i = i ≤ 512
 
 abbrev μ-loop : tie.MeasureT-loop
-μ-loop a b i₀ i = 512 - i
+μ-loop words values w v i₀ i = 512 - i
 
 loop-holds : tie.Need-loop-holds Inv-loop μ-loop
 loop-holds c = search needs
 
-mul-copy : tie.Need-mul-copy Inv-loop μ-loop
-mul-copy c = search needs
+copy-at-requires : tie.Need-copy-at-requires Inv-loop μ-loop
+copy-at-requires c κs = search needs
 
-array-copy-out-copy : tie.Need-array-copy-out-copy Inv-loop μ-loop
-array-copy-out-copy c = search needs
-
-mul-copy-2 : tie.Need-mul-copy-2 Inv-loop μ-loop
-mul-copy-2 c = search needs
-
-array-copy-out-copy-2 : tie.Need-array-copy-out-copy-2 Inv-loop μ-loop
-array-copy-out-copy-2 c = search needs
+copy-at-requires-2 : tie.Need-copy-at-requires-2 Inv-loop μ-loop
+copy-at-requires-2 c κs = search needs
 
 copy-requires : tie.Need-copy-requires Inv-loop μ-loop
 copy-requires c κs = search needs
@@ -46,10 +40,8 @@ copies-spec =
     Inv-loop
     μ-loop
     loop-holds
-    mul-copy
-    array-copy-out-copy
-    mul-copy-2
-    array-copy-out-copy-2
+    copy-at-requires
+    copy-at-requires-2
     copy-requires
     add-i
     loop-less
