@@ -36,26 +36,26 @@ pub fn none() -> Case {
     }
 }
 
-fn with(s: Setup, field: u64, place: usize, x: u64) -> Setup {
-    let mut s = s;
+fn with(setup: Setup, field: u64, place: usize, number: u64) -> Setup {
+    let mut setup = setup;
     match field {
-        1 => s.clients = word(x),
-        2 => s.volumes = word(x),
-        3 => s.objects = word(x),
-        4 => s.tv = word(x),
-        5 => s.t = word(x),
-        6 => s.m = word(x),
-        _ => s.volume[place % 32] = byte(x),
+        1 => setup.clients = word(number),
+        2 => setup.volumes = word(number),
+        3 => setup.objects = word(number),
+        4 => setup.tv = word(number),
+        5 => setup.t = word(number),
+        6 => setup.m = word(number),
+        _ => setup.volume[place % 32] = byte(number),
     }
-    s
+    setup
 }
 
 // From here on as many records are lent as the setup has, so that a case about the setup is not one about their number.
-fn lending(s: Setup) -> Case {
-    let clients = s.clients as usize;
-    let objects = s.objects as usize;
+fn lending(setup: Setup) -> Case {
+    let clients = setup.clients as usize;
+    let objects = setup.objects as usize;
     Case {
-        setup: s,
+        setup,
         copies: clients * objects,
         requests: clients,
     }
@@ -103,57 +103,57 @@ fn in_values(field: u64) -> usize {
 }
 
 // Nothing is stored past the end.
-fn put(words: &mut Words, from: usize, place: usize, x: u64) {
+fn put(words: &mut Words, from: usize, place: usize, number: u64) {
     if from < WORDS {
         if place < WORDS - from {
-            words[from + place] = word(x);
+            words[from + place] = word(number);
         }
     }
 }
 
-fn put_value(values: &mut Values, from: usize, place: usize, x: u64) {
+fn put_value(values: &mut Values, from: usize, place: usize, number: u64) {
     if from < VALUES {
         if place < VALUES - from {
-            values[from + place] = x;
+            values[from + place] = number;
         }
     }
 }
 
 // A message's words, in the frame's order.
-fn put_message(words: &mut Words, field: u64, place: usize, x: u64) {
+fn put_message(words: &mut Words, field: u64, place: usize, number: u64) {
     if place < 64 {
         if 41 <= field {
-            let k = (field - 41) as usize;
-            if k < 9 {
-                put(words, network::MESSAGES, place * 9 + k, x);
+            let offset = (field - 41) as usize;
+            if offset < 9 {
+                put(words, network::MESSAGES, place * 9 + offset, number);
             }
         }
     }
 }
 
 pub fn change(
-    c: Case,
+    case: Case,
     words: &mut Words,
     values: &mut Values,
     field: u64,
     place: usize,
-    x: u64,
+    number: u64,
 ) -> Case {
-    let mut c = c;
+    let mut case = case;
     if field < 10 {
-        let s = c.setup;
-        return lending(with(s, field, place, x));
+        let setup = case.setup;
+        return lending(with(setup, field, place, number));
     }
     if field == 63 {
-        c.copies = x as usize;
-        return c;
+        case.copies = number as usize;
+        return case;
     }
     if field == 74 {
-        c.requests = x as usize;
-        return c;
+        case.requests = number as usize;
+        return case;
     }
-    put(&mut *words, in_words(field), place, x);
-    put_value(&mut *values, in_values(field), place, x);
-    put_message(&mut *words, field, place, x);
-    c
+    put(&mut *words, in_words(field), place, number);
+    put_value(&mut *values, in_values(field), place, number);
+    put_message(&mut *words, field, place, number);
+    case
 }

@@ -44,12 +44,12 @@ fn word(name: &[u8], row: Row, i: usize, before: u32, after: u32) {
     element(name, row, i, before as u64, after as u64);
 }
 
-// n words from `from` on.
-pub fn words(name: &[u8], row: Row, from: usize, n: usize, before: &Words, after: &Words)
-    requires { ⌜ from + n ≤ WORDS ⌝ }
+// `count` words from `from` on.
+pub fn words(name: &[u8], row: Row, from: usize, count: usize, before: &Words, after: &Words)
+    requires { ⌜ from + count ≤ WORDS ⌝ }
 {
     let mut i = 0;
-    while i < n {
+    while i < count {
         word(name, row, i, before[from + i], after[from + i]);
         i += 1;
     }

@@ -21,53 +21,90 @@ fn one(name: &[u8], before: u32, after: u32) {
     }
 }
 
-fn volumes(a: &Words, b: &Words) {
-    words(b"epoch", Row::One, server::VOLUME_EPOCH, 8, a, b);
-    words(b"VE", Row::One, server::VOLUME_EXPIRY, 8, a, b);
-    words(b"guard", Row::One, server::GUARD, 8, a, b);
-    words(b"seen", Row::One, server::SEEN, 16, a, b);
+fn volumes(before: &Words, after: &Words) {
+    words(b"epoch", Row::One, server::VOLUME_EPOCH, 8, before, after);
+    words(b"VE", Row::One, server::VOLUME_EXPIRY, 8, before, after);
+    words(b"guard", Row::One, server::GUARD, 8, before, after);
+    words(b"seen", Row::One, server::SEEN, 16, before, after);
     words(
         b"volume lease",
         Row::Volumes,
         server::SESSION_EXPIRY,
         128,
-        a,
-        b,
+        before,
+        after,
     );
-    words(b"unreachable", Row::Volumes, server::UNREACHABLE, 128, a, b);
-    words(b"offer", Row::Volumes, server::OFFER, 128, a, b);
+    words(
+        b"unreachable",
+        Row::Volumes,
+        server::UNREACHABLE,
+        128,
+        before,
+        after,
+    );
+    words(b"offer", Row::Volumes, server::OFFER, 128, before, after);
 }
 
-fn objects(a: &Words, x: &Values, b: &Words, y: &Values) {
-    values(b"value", server::VALUE, x, y);
-    words(b"version", Row::One, server::VERSION, 32, a, b);
-    words(b"OE", Row::One, server::OBJECT_EXPIRY, 32, a, b);
-    words(b"standing", Row::One, server::STANDING, 32, a, b);
-    values(b"pending", server::PENDING, x, y);
-    words(b"end", Row::One, server::END, 32, a, b);
-    words(b"object lease", Row::Objects, server::LEASE, 512, a, b);
-    words(b"waiting", Row::Objects, server::WAITING, 512, a, b);
+fn objects(before: &Words, values_before: &Values, after: &Words, values_after: &Values) {
+    values(b"value", server::VALUE, values_before, values_after);
+    words(b"version", Row::One, server::VERSION, 32, before, after);
+    words(b"OE", Row::One, server::OBJECT_EXPIRY, 32, before, after);
+    words(b"standing", Row::One, server::STANDING, 32, before, after);
+    values(b"pending", server::PENDING, values_before, values_after);
+    words(b"end", Row::One, server::END, 32, before, after);
+    words(
+        b"object lease",
+        Row::Objects,
+        server::LEASE,
+        512,
+        before,
+        after,
+    );
+    words(
+        b"waiting",
+        Row::Objects,
+        server::WAITING,
+        512,
+        before,
+        after,
+    );
 }
 
-fn views(a: &Words, b: &Words) {
-    words(b"known epoch", Row::Volumes, client::VIEW_EPOCH, 128, a, b);
+fn views(before: &Words, after: &Words) {
+    words(
+        b"known epoch",
+        Row::Volumes,
+        client::VIEW_EPOCH,
+        128,
+        before,
+        after,
+    );
     words(
         b"known expiry",
         Row::Volumes,
         client::VIEW_EXPIRY,
         128,
-        a,
-        b,
+        before,
+        after,
     );
 }
 
-pub fn show<'a, 'b>(a: &'a Words, x: &'a Values, b: &'b Words, y: &'b Values) {
-    one(b"  clock: ", a[network::CLOCK], b[network::CLOCK]);
-    volumes(a, b);
-    objects(a, x, b, y);
-    views(a, b);
-    one(b"  messages: ", a[network::LENGTH], b[network::LENGTH]);
-    messages(a, x, b, y);
-    copies(a, x, b, y);
-    requests(a, b);
+pub fn show<'a, 'b>(
+    before: &'a Words,
+    values_before: &'a Values,
+    after: &'b Words,
+    values_after: &'b Values,
+) {
+    one(b"  clock: ", before[network::CLOCK], after[network::CLOCK]);
+    volumes(before, after);
+    objects(before, values_before, after, values_after);
+    views(before, after);
+    one(
+        b"  messages: ",
+        before[network::LENGTH],
+        after[network::LENGTH],
+    );
+    messages(before, values_before, after, values_after);
+    copies(before, values_before, after, values_after);
+    requests(before, after);
 }

@@ -1,18 +1,18 @@
 // The pieces of the printed lines.
 use frame::fields::Fields;
 
-pub fn text(s: &[u8]) {
-    io::write_all(1, s);
+pub fn text(bytes: &[u8]) {
+    io::write_all(1, bytes);
 }
 
 // A number with words before it.
-pub fn number(words: &[u8], n: u64) {
+pub fn number(words: &[u8], value: u64) {
     text(words);
-    io::print_decimal(1, n);
+    io::print_decimal(1, value);
 }
 
-pub fn spaced(n: u64) {
-    number(b" ", n);
+pub fn spaced(value: u64) {
+    number(b" ", value);
 }
 
 pub fn end() {
@@ -20,16 +20,16 @@ pub fn end() {
 }
 
 // A message as its ten fields, in the frame's order.
-pub fn fields(f: Fields) {
-    spaced(f.kind as u64);
-    spaced(f.client as u64);
-    spaced(f.object as u64);
-    spaced(f.present as u64);
-    spaced(f.number as u64);
-    spaced(f.volume_expiry as u64);
-    spaced(f.epoch as u64);
-    spaced(f.version as u64);
-    spaced(f.object_expiry as u64);
-    spaced(f.value);
+pub fn fields(message: Fields) {
+    spaced(message.kind as u64);
+    spaced(message.client as u64);
+    spaced(message.object as u64);
+    spaced(message.present as u64);
+    spaced(message.number as u64);
+    spaced(message.volume_expiry as u64);
+    spaced(message.epoch as u64);
+    spaced(message.version as u64);
+    spaced(message.object_expiry as u64);
+    spaced(message.value);
     end();
 }

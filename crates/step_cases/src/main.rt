@@ -14,89 +14,119 @@ use words::Values;
 use words::Words;
 
 // So many changes, each of three numbers: field, place, value.
-fn changed(s: &[u8], from: usize, count: u64, c: Case, w: &mut Words, v: &mut Values) -> Case {
-    let mut c = c;
+fn changed(
+    bytes: &[u8],
+    from: usize,
+    count: u64,
+    case: Case,
+    words: &mut Words,
+    values: &mut Values,
+) -> Case {
+    let mut case = case;
     let mut at = from;
     let mut i = 0;
     while i < count {
-        let field = text::number(s, at);
-        let place = text::number(s, field.next);
-        let x = text::number(s, place.next);
-        c = change::change(
-            c,
-            &mut *w,
-            &mut *v,
+        let field = text::number(bytes, at);
+        let place = text::number(bytes, field.next);
+        let number = text::number(bytes, place.next);
+        case = change::change(
+            case,
+            &mut *words,
+            &mut *values,
             field.value,
             place.value as usize,
-            x.value,
+            number.value,
         );
-        at = x.next;
+        at = number.next;
         i += 1;
     }
-    c
+    case
 }
 
 // So many steps, each on what the last one left. For each a line, and what it left.
-fn taken(s: &[u8], from: usize, count: u64, id: u64, c: Case, w: &mut Words, v: &mut Values) {
+fn taken(
+    bytes: &[u8],
+    from: usize,
+    count: u64,
+    id: u64,
+    case: Case,
+    words: &mut Words,
+    values: &mut Values,
+) {
     let mut at = from;
     let mut i = 0;
     while i < count {
-        let words = *w;
-        let values = *v;
-        let a = take::take(c, &mut *w, &mut *v, text::step(s, at));
-        take::show(id, a);
-        left::show(&words, &values, &*w, &*v);
-        at = text::after(s, at, 6);
+        let words_before = *words;
+        let values_before = *values;
+        let answer = take::take(case, &mut *words, &mut *values, text::step(bytes, at));
+        take::show(id, answer);
+        left::show(&words_before, &values_before, &*words, &*values);
+        at = text::after(bytes, at, 6);
         i += 1;
     }
 }
 
 // One case, whose number was read: how many changes and which, how many steps and which. Gives the place after it.
-fn case(s: &[u8], id: Found, base: Case, words: &Words, values: &Values) -> usize {
-    let changes = text::number(s, id.next);
-    let steps_at = text::after(s, changes.next, text::threefold(changes.value));
-    let steps = text::number(s, steps_at);
-    let mut w = *words;
-    let mut v = *values;
-    let c = changed(s, changes.next, changes.value, base, &mut w, &mut v);
-    taken(s, steps.next, steps.value, id.value, c, &mut w, &mut v);
+fn case(bytes: &[u8], id: Found, base: Case, words: &Words, values: &Values) -> usize {
+    let changes = text::number(bytes, id.next);
+    let steps_at = text::after(bytes, changes.next, text::threefold(changes.value));
+    let steps = text::number(bytes, steps_at);
+    let mut words = *words;
+    let mut values = *values;
+    let case = changed(
+        bytes,
+        changes.next,
+        changes.value,
+        base,
+        &mut words,
+        &mut values,
+    );
+    taken(
+        bytes,
+        steps.next,
+        steps.value,
+        id.value,
+        case,
+        &mut words,
+        &mut values,
+    );
     let half = text::threefold(steps.value);
-    text::after(s, text::after(s, steps.next, half), half)
+    text::after(bytes, text::after(bytes, steps.next, half), half)
 }
 
-fn cases(s: &[u8], from: usize, base: Case, words: &Words, values: &Values) {
+fn cases(bytes: &[u8], from: usize, base: Case, words: &Words, values: &Values) {
     let mut at = from;
     let mut i = 0u64;
     while i < 1000 {
-        let id = text::number(s, at);
+        let id = text::number(bytes, at);
         if id.value == 0 {
             return;
         }
-        at = case(s, id, base, words, values);
+        at = case(bytes, id, base, words, values);
         i += 1;
     }
 }
 
 // The base's changes stand first.
-fn run(s: &[u8]) {
-    let changes = text::number(s, 0);
-    let mut w = [0u32; 3498];
-    let mut v = [0u64; 640];
-    words::fresh::fresh(&mut w, &mut v);
+fn run(bytes: &[u8]) {
+    let changes = text::number(bytes, 0);
+    let mut words = [0u32; 3498];
+    let mut values = [0u64; 640];
+    words::fresh::fresh(&mut words, &mut values);
     let base = changed(
-        s,
+        bytes,
         changes.next,
         changes.value,
         change::none(),
-        &mut w,
-        &mut v,
+        &mut words,
+        &mut values,
     );
-    let from = text::after(s, changes.next, text::threefold(changes.value));
-    cases(s, from, base, &w, &v);
+    let from = text::after(bytes, changes.next, text::threefold(changes.value));
+    cases(bytes, from, base, &words, &values);
 }
 
 fn main() {
     let mut file = io::large_buffer();
-    let n = io::read_full(0, &mut file);
-    run(&file[..n]);
+    let length = io::read_full(0, &mut file);
+    run(&file[..length]);
 }

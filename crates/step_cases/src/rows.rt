@@ -9,57 +9,64 @@ use protocol::records::Request;
 use words::Values;
 use words::Words;
 
-fn message(i: usize, a: Message, b: Message) {
-    let f = frame::fields::fields_of(a);
-    let g = frame::fields::fields_of(b);
-    if frame::fields::same(f, g) {
+fn message(i: usize, before: Message, after: Message) {
+    let fields_before = frame::fields::fields_of(before);
+    let fields_after = frame::fields::fields_of(after);
+    if frame::fields::same(fields_before, fields_after) {
         return;
     }
     number(b"  message ", i as u64);
     text(b":");
-    fields(g);
+    fields(fields_after);
 }
 
-pub fn messages(words: &Words, values: &Values, w: &Words, v: &Values) {
+pub fn messages(before: &Words, values_before: &Values, after: &Words, values_after: &Values) {
     let mut i = 0;
     while i < 64 {
-        let a = queue::list::message_at(words, values, i);
-        let b = queue::list::message_at(w, v, i);
-        message(i, a, b);
+        let message_before = queue::list::message_at(before, values_before, i);
+        let message_after = queue::list::message_at(after, values_after, i);
+        message(i, message_before, message_after);
         i += 1;
     }
 }
 
-fn same_copy(a: Copy, b: Copy) -> bool {
-    (a.version == b.version) & (a.value == b.value) & (a.expiry == b.expiry)
+fn same_copy(before: Copy, after: Copy) -> bool {
+    (before.version == after.version)
+        & (before.value == after.value)
+        & (before.expiry == after.expiry)
 }
 
-fn copy(i: usize, a: Copy, b: Copy) {
-    if same_copy(a, b) {
+fn copy(i: usize, before: Copy, after: Copy) {
+    if same_copy(before, after) {
         return;
     }
     number(b"  copy ", i as u64);
-    number(b": version ", b.version as u64);
-    number(b", value ", b.value);
-    number(b", expiry ", b.expiry as u64);
+    number(b": version ", after.version as u64);
+    number(b", value ", after.value);
+    number(b", expiry ", after.expiry as u64);
     end();
 }
 
-pub fn copies<'a, 'b>(words: &'a Words, values: &'a Values, w: &'b Words, v: &'b Values) {
+pub fn copies<'a, 'b>(
+    before: &'a Words,
+    values_before: &'a Values,
+    after: &'b Words,
+    values_after: &'b Values,
+) {
     let mut i = 0;
     while i < 512 {
-        let a = stored::copies::copy_at(words, values, i);
-        let b = stored::copies::copy_at(w, v, i);
-        copy(i, a, b);
+        let copy_before = stored::copies::copy_at(before, values_before, i);
+        let copy_after = stored::copies::copy_at(after, values_after, i);
+        copy(i, copy_before, copy_after);
         i += 1;
     }
 }
 
-fn same_request(a: Request, b: Request) -> bool {
-    (a.next == b.next)
-        & (a.standing == b.standing)
-        & (a.number == b.number)
-        & (a.object == b.object)
+fn same_request(before: Request, after: Request) -> bool {
+    (before.next == after.next)
+        & (before.standing == after.standing)
+        & (before.number == after.number)
+        & (before.object == after.object)
 }
 
 fn stands(standing: bool) {
@@ -70,24 +77,24 @@ fn stands(standing: bool) {
     }
 }
 
-fn request(i: usize, a: Request, b: Request) {
-    if same_request(a, b) {
+fn request(i: usize, before: Request, after: Request) {
+    if same_request(before, after) {
         return;
     }
     number(b"  request ", i as u64);
-    number(b": next ", b.next as u64);
-    stands(b.standing);
-    number(b", number ", b.number as u64);
-    number(b", object ", b.object as u64);
+    number(b": next ", after.next as u64);
+    stands(after.standing);
+    number(b", number ", after.number as u64);
+    number(b", object ", after.object as u64);
     end();
 }
 
-pub fn requests(words: &Words, w: &Words) {
+pub fn requests(before: &Words, after: &Words) {
     let mut i = 0;
     while i < 16 {
-        let a = stored::requests::request_at(words, i);
-        let b = stored::requests::request_at(w, i);
-        request(i, a, b);
+        let request_before = stored::requests::request_at(before, i);
+        let request_after = stored::requests::request_at(after, i);
+        request(i, request_before, request_after);
         i += 1;
     }
 }

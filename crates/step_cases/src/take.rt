@@ -11,51 +11,50 @@ use protocol::records::Request;
 use protocol::setup::Setup;
 use protocol::step::Answer;
 use protocol::step::Step;
-use step::step;
 use words::Values;
 use words::Words;
 
-fn at_most(most: usize, n: usize) -> usize
+fn at_most(most: usize, number: usize) -> usize
     ensures { λ r. ⌜ r ≤ most ⌝ }
 {
-    if n < most {
-        return n;
+    if number < most {
+        return number;
     }
     most
 }
 
 fn copies_in<'a>(words: &'a Words, values: &'a Values) -> [Copy; 512] {
-    let mut l = [setup::fresh::fresh_copy(); 512];
+    let mut copies = [setup::fresh::fresh_copy(); 512];
     let mut i = 0;
     while i < 512 {
-        l[i] = stored::copies::copy_at(words, values, i);
+        copies[i] = stored::copies::copy_at(words, values, i);
         i += 1;
     }
-    l
+    copies
 }
 
 fn requests_in(words: &Words) -> [Request; 16] {
-    let mut l = [setup::fresh::fresh_request(); 16];
+    let mut requests = [setup::fresh::fresh_request(); 16];
     let mut i = 0;
     while i < 16 {
-        l[i] = stored::requests::request_at(words, i);
+        requests[i] = stored::requests::request_at(words, i);
         i += 1;
     }
-    l
+    requests
 }
 
-fn keep_copies(words: &mut Words, values: &mut Values, l: [Copy; 512]) {
+fn keep_copies(words: &mut Words, values: &mut Values, copies: [Copy; 512]) {
     let mut i = 0;
     while i < 512 {
-        stored::copies::put_copy(&mut *words, &mut *values, i, l[i]);
+        stored::copies::put_copy(&mut *words, &mut *values, i, copies[i]);
         i += 1;
     }
 }
 
-fn keep_requests(words: &mut Words, l: [Request; 16]) {
+fn keep_requests(words: &mut Words, requests: [Request; 16]) {
     let mut i = 0;
     while i < 16 {
-        stored::requests::put_request(&mut *words, i, l[i]);
+        stored::requests::put_request(&mut *words, i, requests[i]);
         i += 1;
     }
 }
@@ -65,38 +64,47 @@ fn keep(words: &mut Words, values: &mut Values, copies: [Copy; 512], requests: [
     keep_requests(&mut *words, requests);
 }
 
-// The first n copies and m requests are lent to `step`. So a case can lend another number than the setup has, which is unsound.
+// The first `lent_copies` copies and `lent_requests` requests are lent to `step`. So a case can lend another number than the setup has, which is unsound.
 fn step_on(
     setup: Setup,
     words: &mut Words,
     values: &mut Values,
     mut copies: [Copy; 512],
     mut requests: [Request; 16],
-    n: usize,
-    m: usize,
-    x: Step,
+    lent_copies: usize,
+    lent_requests: usize,
+    step: Step,
 ) -> Answer
-    requires { ⌜ (n ≤ 512) × (m ≤ 16) ⌝ }
+    requires { ⌜ («lent_copies» ≤ 512) × («lent_requests» ≤ 16) ⌝ }
 {
-    let a = step(
+    let answer = step::step(
         setup,
         &mut *words,
         &mut *values,
-        &mut copies[..n],
-        &mut requests[..m],
-        x,
+        &mut copies[..lent_copies],
+        &mut requests[..lent_requests],
+        step,
     );
     keep(&mut *words, &mut *values, copies, requests);
-    a
+    answer
 }
 
-pub fn take(c: Case, words: &mut Words, values: &mut Values, x: Step) -> Answer {
-    let setup = c.setup;
+pub fn take(case: Case, words: &mut Words, values: &mut Values, step: Step) -> Answer {
+    let setup = case.setup;
     let copies = copies_in(&*words, &*values);
     let requests = requests_in(&*words);
-    let n = at_most(512, c.copies);
-    let m = at_most(16, c.requests);
-    step_on(setup, words, values, copies, requests, n, m, x)
+    let lent_copies = at_most(512, case.copies);
+    let lent_requests = at_most(16, case.requests);
+    step_on(
+        setup,
+        words,
+        values,
+        copies,
+        requests,
+        lent_copies,
+        lent_requests,
+        step,
+    )
 }
 
 fn line(answer: u64, value: u64) {
@@ -105,29 +113,29 @@ fn line(answer: u64, value: u64) {
     end();
 }
 
-fn completed(n: u32) {
-    if n == 0 {
+fn completed(writes: u32) {
+    if writes == 0 {
         line(0, 0);
         return;
     }
-    line(3, n as u64);
+    line(3, writes as u64);
 }
 
-fn delivered(m: Message, n: u32) {
-    completed(n);
+fn delivered(message: Message, writes: u32) {
+    completed(writes);
     text(b"  delivered:");
-    fields(frame::fields::fields_of(m));
+    fields(frame::fields::fields_of(message));
 }
 
 // The case, 01's number and value of the answer, and the message in it.
-pub fn show(id: u64, a: Answer) {
+pub fn show(id: u64, answer: Answer) {
     io::print_decimal(1, id);
-    match a {
+    match answer {
         Answer::Done => line(0, 0),
-        Answer::Shown(x) => line(1, x),
+        Answer::Shown(value) => line(1, value),
         Answer::AskFirst => line(2, 0),
-        Answer::Completed(n) => completed(n),
-        Answer::Delivered(m, n) => delivered(m, n),
-        Answer::Refused(k) => line(4, k as u64),
+        Answer::Completed(writes) => completed(writes),
+        Answer::Delivered(message, writes) => delivered(message, writes),
+        Answer::Refused(question) => line(4, question as u64),
     }
 }

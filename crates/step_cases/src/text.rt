@@ -7,14 +7,14 @@ pub struct Found {
     pub next: usize,
 }
 
-fn is_digit(b: u8) -> bool {
-    (48 <= b) & (b <= 57)
+fn is_digit(byte: u8) -> bool {
+    (48 <= byte) & (byte <= 57)
 }
 
-fn first_digit(s: &[u8], at: usize) -> usize {
+fn first_digit(bytes: &[u8], at: usize) -> usize {
     let mut i = at;
-    while i < s.len() {
-        if is_digit(s[i]) {
+    while i < bytes.len() {
+        if is_digit(bytes[i]) {
             return i;
         }
         i += 1;
@@ -22,71 +22,71 @@ fn first_digit(s: &[u8], at: usize) -> usize {
     i
 }
 
-fn with_digit(x: u64, b: u8) -> u64 {
-    if x < 1000000000000000000 {
-        if 48 <= b {
-            return x * 10 + (b as u64 - 48);
+fn with_digit(number: u64, byte: u8) -> u64 {
+    if number < 1000000000000000000 {
+        if 48 <= byte {
+            return number * 10 + (byte as u64 - 48);
         }
     }
-    x
+    number
 }
 
 // The first number from a place on; 0 where there is none.
-pub fn number(s: &[u8], at: usize) -> Found {
-    let mut i = first_digit(s, at);
-    let mut x = 0;
-    while i < s.len() {
-        let b = s[i];
-        if is_digit(b) {
-            x = with_digit(x, b);
+pub fn number(bytes: &[u8], at: usize) -> Found {
+    let mut i = first_digit(bytes, at);
+    let mut value = 0;
+    while i < bytes.len() {
+        let byte = bytes[i];
+        if is_digit(byte) {
+            value = with_digit(value, byte);
             i += 1;
         } else {
-            return Found { value: x, next: i };
+            return Found { value, next: i };
         }
     }
-    Found { value: x, next: i }
+    Found { value, next: i }
 }
 
 // The place after so many numbers.
-pub fn after(s: &[u8], from: usize, count: u64) -> usize {
+pub fn after(bytes: &[u8], from: usize, count: u64) -> usize {
     let mut at = from;
     let mut i = 0;
     while i < count {
-        at = number(s, at).next;
+        at = number(bytes, at).next;
         i += 1;
     }
     at
 }
 
-pub fn threefold(x: u64) -> u64 {
-    if x < 65536 {
-        return x * 3;
+pub fn threefold(count: u64) -> u64 {
+    if count < 65536 {
+        return count * 3;
     }
     0
 }
 
-pub fn word(x: u64) -> u32 {
-    if x < 4294967296 {
-        return x as u32;
+pub fn word(number: u64) -> u32 {
+    if number < 4294967296 {
+        return number as u32;
     }
     4294967295
 }
 
-pub fn byte(x: u64) -> u8 {
-    if x < 256 {
-        return x as u8;
+pub fn byte(number: u64) -> u8 {
+    if number < 256 {
+        return number as u8;
     }
     255
 }
 
 // Six numbers: kind, client, object, place, clock, value.
-pub fn step(s: &[u8], at: usize) -> Step {
-    let kind = number(s, at);
-    let client = number(s, kind.next);
-    let object = number(s, client.next);
-    let place = number(s, object.next);
-    let clock = number(s, place.next);
-    let value = number(s, clock.next);
+pub fn step(bytes: &[u8], at: usize) -> Step {
+    let kind = number(bytes, at);
+    let client = number(bytes, kind.next);
+    let object = number(bytes, client.next);
+    let place = number(bytes, object.next);
+    let clock = number(bytes, place.next);
+    let value = number(bytes, clock.next);
     Step {
         kind: byte(kind.value),
         client: byte(client.value),

@@ -4,10 +4,10 @@ use Rattle.step_cases.proofs.changed.Statement.{statement}
 use Rattle.step_cases.proofs.changed.Tie as tie
 
 abbrev Inv-loop : tie.InvT-loop
-Inv-loop s from count w₀ v₀ c₀ at₀ i₀ w v c at i = i ≤ count
+Inv-loop bytes from count words₀ values₀ case₀ at₀ i₀ words values case at i = i ≤ count
 
 abbrev μ-loop : tie.MeasureT-loop
-μ-loop s from count w₀ v₀ c₀ at₀ i₀ w v c at i = count - i
+μ-loop bytes from count words₀ values₀ case₀ at₀ i₀ words values case at i = count - i
 
 loop-holds : tie.Need-loop-holds Inv-loop μ-loop
 loop-holds c = search needs

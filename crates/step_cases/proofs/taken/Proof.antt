@@ -4,10 +4,10 @@ use Rattle.step_cases.proofs.taken.Statement.{statement}
 use Rattle.step_cases.proofs.taken.Tie as tie
 
 abbrev Inv-loop : tie.InvT-loop
-Inv-loop s from count id c w₀ v₀ at₀ i₀ w v at i = i ≤ count
+Inv-loop bytes from count id case words₀ values₀ at₀ i₀ words values at i = i ≤ count
 
 abbrev μ-loop : tie.MeasureT-loop
-μ-loop s from count id c w₀ v₀ at₀ i₀ w v at i = count - i
+μ-loop bytes from count id case words₀ values₀ at₀ i₀ words values at i = count - i
 
 loop-holds : tie.Need-loop-holds Inv-loop μ-loop
 loop-holds c = search needs

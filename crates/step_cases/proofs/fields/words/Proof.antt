@@ -4,10 +4,10 @@ use Rattle.step_cases.proofs.fields.words.Statement.{statement}
 use Rattle.step_cases.proofs.fields.words.Tie as tie
 
 abbrev Inv-loop : tie.InvT-loop
-Inv-loop name row from n before after i₀ i = i ≤ n
+Inv-loop name row from count before after i₀ i = i ≤ count
 
 abbrev μ-loop : tie.MeasureT-loop
-μ-loop name row from n before after i₀ i = n - i
+μ-loop name row from count before after i₀ i = count - i
 
 loop-holds : tie.Need-loop-holds Inv-loop μ-loop
 loop-holds c = search needs

@@ -4,10 +4,10 @@ use Rattle.step_cases.proofs.take.copies_in.Statement.{statement}
 use Rattle.step_cases.proofs.take.copies_in.Tie as tie
 
 abbrev Inv-loop : tie.InvT-loop
-Inv-loop words values l₀ i₀ l i = i ≤ 512
+Inv-loop words values copies₀ i₀ copies i = i ≤ 512
 
 abbrev μ-loop : tie.MeasureT-loop
-μ-loop words values l₀ i₀ l i = 512 - i
+μ-loop words values copies₀ i₀ copies i = 512 - i
 
 fresh-copy-requires : tie.Need-fresh-copy-requires Inv-loop μ-loop
 fresh-copy-requires c κs = search needs
@@ -18,11 +18,11 @@ loop-holds c = search needs
 copy-at-requires : tie.Need-copy-at-requires Inv-loop μ-loop
 copy-at-requires c κs = search needs
 
-mul-l : tie.Need-mul-l Inv-loop μ-loop
-mul-l c = search needs
+mul-copies : tie.Need-mul-copies Inv-loop μ-loop
+mul-copies c = search needs
 
-array-set-from-l : tie.Need-array-set-from-l Inv-loop μ-loop
-array-set-from-l c = search needs
+array-set-from-copies : tie.Need-array-set-from-copies Inv-loop μ-loop
+array-set-from-copies c = search needs
 
 add-i : tie.Need-add-i Inv-loop μ-loop
 add-i c = search needs
@@ -45,8 +45,8 @@ copies-in-spec =
     fresh-copy-requires
     loop-holds
     copy-at-requires
-    mul-l
-    array-set-from-l
+    mul-copies
+    array-set-from-copies
     add-i
     loop-less
     loop-again

@@ -4,10 +4,10 @@ use Rattle.step_cases.proofs.take.keep_copies.Statement.{statement}
 use Rattle.step_cases.proofs.take.keep_copies.Tie as tie
 
 abbrev Inv-loop : tie.InvT-loop
-Inv-loop words₀ values₀ l i₀ words values i = i ≤ 512
+Inv-loop words₀ values₀ copies i₀ words values i = i ≤ 512
 
 abbrev μ-loop : tie.MeasureT-loop
-μ-loop words₀ values₀ l i₀ words values i = 512 - i
+μ-loop words₀ values₀ copies i₀ words values i = 512 - i
 
 loop-holds : tie.Need-loop-holds Inv-loop μ-loop
 loop-holds c = search needs

@@ -4,10 +4,10 @@ use Rattle.step_cases.proofs.take.keep_requests.Statement.{statement}
 use Rattle.step_cases.proofs.take.keep_requests.Tie as tie
 
 abbrev Inv-loop : tie.InvT-loop
-Inv-loop words₀ l i₀ words i = i ≤ 16
+Inv-loop words₀ requests i₀ words i = i ≤ 16
 
 abbrev μ-loop : tie.MeasureT-loop
-μ-loop words₀ l i₀ words i = 16 - i
+μ-loop words₀ requests i₀ words i = 16 - i
 
 loop-holds : tie.Need-loop-holds Inv-loop μ-loop
 loop-holds c = search needs

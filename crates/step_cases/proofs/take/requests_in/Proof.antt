@@ -4,10 +4,10 @@ use Rattle.step_cases.proofs.take.requests_in.Statement.{statement}
 use Rattle.step_cases.proofs.take.requests_in.Tie as tie
 
 abbrev Inv-loop : tie.InvT-loop
-Inv-loop words l₀ i₀ l i = i ≤ 16
+Inv-loop words requests₀ i₀ requests i = i ≤ 16
 
 abbrev μ-loop : tie.MeasureT-loop
-μ-loop words l₀ i₀ l i = 16 - i
+μ-loop words requests₀ i₀ requests i = 16 - i
 
 fresh-request-requires : tie.Need-fresh-request-requires Inv-loop μ-loop
 fresh-request-requires c κs = search needs
@@ -18,11 +18,11 @@ loop-holds c = search needs
 request-at-requires : tie.Need-request-at-requires Inv-loop μ-loop
 request-at-requires c κs = search needs
 
-mul-l : tie.Need-mul-l Inv-loop μ-loop
-mul-l c = search needs
+mul-requests : tie.Need-mul-requests Inv-loop μ-loop
+mul-requests c = search needs
 
-array-set-from-l : tie.Need-array-set-from-l Inv-loop μ-loop
-array-set-from-l c = search needs
+array-set-from-requests : tie.Need-array-set-from-requests Inv-loop μ-loop
+array-set-from-requests c = search needs
 
 add-i : tie.Need-add-i Inv-loop μ-loop
 add-i c = search needs
@@ -45,8 +45,8 @@ requests-in-spec =
     fresh-request-requires
     loop-holds
     request-at-requires
-    mul-l
-    array-set-from-l
+    mul-requests
+    array-set-from-requests
     add-i
     loop-less
     loop-again

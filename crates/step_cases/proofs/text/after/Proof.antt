@@ -4,10 +4,10 @@ use Rattle.step_cases.proofs.text.after.Statement.{statement}
 use Rattle.step_cases.proofs.text.after.Tie as tie
 
 abbrev Inv-loop : tie.InvT-loop
-Inv-loop s from count at₀ i₀ at i = i ≤ count
+Inv-loop bytes from count at₀ i₀ at i = i ≤ count
 
 abbrev μ-loop : tie.MeasureT-loop
-μ-loop s from count at₀ i₀ at i = count - i
+μ-loop bytes from count at₀ i₀ at i = count - i
 
 loop-holds : tie.Need-loop-holds Inv-loop μ-loop
 loop-holds c = search needs

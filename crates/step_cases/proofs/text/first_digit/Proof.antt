@@ -5,10 +5,10 @@ use Rattle.step_cases.proofs.text.first_digit.Statement.{statement}
 use Rattle.step_cases.proofs.text.first_digit.Tie as tie
 
 abbrev Inv-loop : tie.InvT-loop
-Inv-loop s at i₀ i = 0 ≤ i
+Inv-loop bytes at i₀ i = 0 ≤ i
 
 abbrev μ-loop : tie.MeasureT-loop
-μ-loop s at i₀ i = length s - i
+μ-loop bytes at i₀ i = length bytes - i
 
 loop-holds : tie.Need-loop-holds Inv-loop μ-loop
 loop-holds c = search needs

@@ -5,10 +5,10 @@ use Rattle.step_cases.proofs.text.number.Statement.{statement}
 use Rattle.step_cases.proofs.text.number.Tie as tie
 
 abbrev Inv-loop : tie.InvT-loop
-Inv-loop s at i₀ x₀ i x = 0 ≤ i
+Inv-loop bytes at i₀ value₀ i value = 0 ≤ i
 
 abbrev μ-loop : tie.MeasureT-loop
-μ-loop s at i₀ x₀ i x = length s - i
+μ-loop bytes at i₀ value₀ i value = length bytes - i
 
 first-digit-requires : tie.Need-first-digit-requires Inv-loop μ-loop
 first-digit-requires c κs = search needs
@@ -16,8 +16,8 @@ first-digit-requires c κs = search needs
 loop-holds : tie.Need-loop-holds Inv-loop μ-loop
 loop-holds c = search needs
 
-shared-slice-read-b : tie.Need-shared-slice-read-b Inv-loop μ-loop
-shared-slice-read-b c = search needs
+shared-slice-read-byte : tie.Need-shared-slice-read-byte Inv-loop μ-loop
+shared-slice-read-byte c = search needs
 
 is-digit-requires : tie.Need-is-digit-requires Inv-loop μ-loop
 is-digit-requires c κs = search needs
@@ -48,7 +48,7 @@ number-spec =
     μ-loop
     first-digit-requires
     loop-holds
-    shared-slice-read-b
+    shared-slice-read-byte
     is-digit-requires
     with-digit-requires
     add-i
