@@ -2,7 +2,7 @@
 ghost use mathlib.Core.Path.{_≡_};
 ghost use Rattle.protocol.specs.Answers.{answerNumber};
 ghost use Rattle.protocol.specs.Decide.{answered, decided};
-ghost use Rattle.words.specs.View.{tablesOf};
+ghost use Rattle.words.specs.View.{tablesOf, recordsOf};
 use perform::Verdict;
 use protocol::records::Copy;
 use protocol::records::Request;
@@ -16,7 +16,7 @@ pub mod deliver;
 pub mod perform;
 pub mod target;
 
-// One step, for any input; `records` says whether all lent records are sound. A refusal leaves every word and every value.
+// One step, for any input; `records` says whether all lent records are sound. A refusal leaves every word and every value, any step the records in them.
 pub fn decide(
     s: Setup,
     words: &mut Words,
@@ -28,6 +28,7 @@ pub fn decide(
 ) -> Verdict
     ensures { λ v. ⌜ answered (v .change) (tablesOf (now (words .exit)) (now (values .exit))) (v .answer) ≡ decided s (tablesOf (now (words .entry)) (now (values .entry))) records c r step ⌝ }
     ensures { λ v. ⌜ (answerNumber (v .answer) ≡ 4 → (now (words .exit) ≡ now (words .entry)) × (now (values .exit) ≡ now (values .entry))) ⌝ }
+    ensures { λ _. ⌜ recordsOf (now (words .exit)) (now (values .exit)) ≡ recordsOf (now (words .entry)) (now (values .entry)) ⌝ }
 {
     let no = gate::refusal(s, &*words, &*values, records, r, step);
     if no == 0 {

@@ -5,6 +5,7 @@ ghost use Rattle.protocol.specs.Answers.{answerNumber, answerValue};
 ghost use Rattle.protocol.specs.World.{answerOf, stepped};
 ghost use Rattle.step.specs.Lent.{world};
 ghost use Rattle.step.specs.Numbers.{numberOf, valueOf};
+ghost use Rattle.words.specs.View.{recordsOf};
 use decide::decide;
 use decide::target::target;
 use protocol::records::Copy;
@@ -26,7 +27,7 @@ fn both(a: bool, b: bool) -> bool
 }
 
 // One step (01, "Steps"), on any input whatever. `copies` are all clients' copies in one list, client by client in object order; `requests` one a
-// client. The room that the words have for records is not used.
+// client. The records that the words have room for are as they were.
 pub fn step(
     setup: Setup,
     words: &mut Words,
@@ -40,6 +41,7 @@ pub fn step(
     ensures numbers { λ r. ⌜ answerNumber r ≡ numberOf setup (world (now (words .entry)) (now (values .entry)) (now (copies .entry)) (now (requests .entry))) step ⌝ }
     ensures values { λ r. ⌜ answerValue r ≡ valueOf setup (world (now (words .entry)) (now (values .entry)) (now (copies .entry)) (now (requests .entry))) step ⌝ }
     ensures refuses { λ r. ⌜ (answerNumber r ≡ 4 → (now (words .exit) ≡ now (words .entry)) × ((now (values .exit) ≡ now (values .entry)) × ((now (copies .exit) ≡ now (copies .entry)) × (now (requests .exit) ≡ now (requests .entry))))) ⌝ }
+    ensures keeps { λ _. ⌜ recordsOf (now (words .exit)) (now (values .exit)) ≡ recordsOf (now (words .entry)) (now (values .entry)) ⌝ }
 {
     let held = copies::sound(&*copies, setup);
     let asked = requests::sound(&*requests, setup);

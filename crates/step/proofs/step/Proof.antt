@@ -60,7 +60,7 @@ use Rattle.protocol.specs.Soundness.Numbering.{decision-turns}
 use Rattle.protocol.specs.declared.tables.Tables.{Tables as TablesD}
 use Rattle.protocol.specs.declared.step.Decision.{Decision}
 use denote.Enum.Laws as EL
-use Rattle.words.specs.View.{tablesOf as viewOf}
+use Rattle.words.specs.View.{tablesOf as viewOf, recordsOf}
 use Rattle.records.specs.Lent.{lend-mut, back-mut, lend-shr-at, back-shr, Part}
 use Rattle.step.specs.Lent.{world}
 use Rattle.step.specs.Numbers.{numberOf, valueOf, number-is, value-is}
@@ -187,19 +187,19 @@ stayed = (stay-none (λ _. S) yes, (stay-ref (0 ∷ []) tt (plain (λ _. Ws)), (
 unfoldable sty : Ty
 sty = S′.mir
 
--- the five facts that the contract ensures
-abbrev Facts : {M : Type 1} (𝓤 : URA M) → Type 0 → Type 0 → Type 0 → Type 0 → Type 0 → SProp 𝓤
-Facts 𝓤 φ ψ χ ω ξ = sep 𝓤 (fact 𝓤 φ) (sep 𝓤 (fact 𝓤 ψ) (sep 𝓤 (fact 𝓤 χ) (sep 𝓤 (fact 𝓤 ω) (fact 𝓤 ξ))))
+-- the six facts that the contract ensures
+abbrev Facts : {M : Type 1} (𝓤 : URA M) → Type 0 → Type 0 → Type 0 → Type 0 → Type 0 → Type 0 → SProp 𝓤
+Facts 𝓤 φ ψ χ ω ξ ζ = sep 𝓤 (fact 𝓤 φ) (sep 𝓤 (fact 𝓤 ψ) (sep 𝓤 (fact 𝓤 χ) (sep 𝓤 (fact 𝓤 ω) (sep 𝓤 (fact 𝓤 ξ) (fact 𝓤 ζ)))))
 
-five : {M : Type 1} (𝓤 : URA M) (φ ψ χ ω ξ : Type 0) (P : SProp 𝓤) → φ → ψ → χ → ω → ξ → ent 𝓤 P (sep 𝓤 P (Facts 𝓤 φ ψ χ ω ξ))
-five 𝓤 φ ψ χ ω ξ P a b c d e =
-    via 𝓤 (sep 𝓤 (emp 𝓤) P) (emp∗ 𝓤 P) (via 𝓤 (sep 𝓤 (Facts 𝓤 φ ψ χ ω ξ) P) (monoL 𝓤 P known) (comm∗ 𝓤 (Facts 𝓤 φ ψ χ ω ξ) P))
+six : {M : Type 1} (𝓤 : URA M) (φ ψ χ ω ξ ζ : Type 0) (P : SProp 𝓤) → φ → ψ → χ → ω → ξ → ζ → ent 𝓤 P (sep 𝓤 P (Facts 𝓤 φ ψ χ ω ξ ζ))
+six 𝓤 φ ψ χ ω ξ ζ P a b c d e f =
+    via 𝓤 (sep 𝓤 (emp 𝓤) P) (emp∗ 𝓤 P) (via 𝓤 (sep 𝓤 (Facts 𝓤 φ ψ χ ω ξ ζ) P) (monoL 𝓤 P known) (comm∗ 𝓤 (Facts 𝓤 φ ψ χ ω ξ ζ) P))
   where
     also : (φ : Type 0) {Q : SProp 𝓤} → φ → ent 𝓤 (emp 𝓤) Q → ent 𝓤 (emp 𝓤) (sep 𝓤 (fact 𝓤 φ) Q)
     also φ x h = via 𝓤 (sep 𝓤 (emp 𝓤) (emp 𝓤)) (emp∗ 𝓤 (emp 𝓤)) (via 𝓤 (sep 𝓤 (fact 𝓤 φ) (emp 𝓤)) (monoL 𝓤 (emp 𝓤) (factI 𝓤 φ (emp 𝓤) x)) (monoR 𝓤 (fact 𝓤 φ) h))
 
-    known : ent 𝓤 (emp 𝓤) (Facts 𝓤 φ ψ χ ω ξ)
-    known = also φ a (also ψ b (also χ c (also ω d (factI 𝓤 ξ (emp 𝓤) e))))
+    known : ent 𝓤 (emp 𝓤) (Facts 𝓤 φ ψ χ ω ξ ζ)
+    known = also φ a (also ψ b (also χ c (also ω d (also ξ e (factI 𝓤 ζ (emp 𝓤) f)))))
 
 abbrev On-copies-sound : {M : Type 1} (𝓤 : URA M) (H : Heap 𝓤) (A : Atoms 𝓤) (mem : Memory → SProp 𝓤) (run : Routine → Fun 𝓤) → Contract 𝓤
 On-copies-sound 𝓤 H A mem run = tripleOf 𝓤 H A copies-sound-c.signature (copies-sound-c.spec 𝓤 H A mem run)
@@ -313,6 +313,9 @@ module _ {M : Type 1} (𝓤 : URA M) (H : Heap 𝓤) (A : Atoms 𝓤) (W : Given
 
   abbrev Keeps : Verdict → List ℕ → List ℕ → Type 0
   Keeps d ws′ xs′ = answerNumber (d .answer) ≡ 4 → (ws′ ≡ ws) × (xs′ ≡ xs)
+
+  abbrev Leaves : List ℕ → List ℕ → Type 0
+  Leaves ws′ xs′ = recordsOf ws′ xs′ ≡ recordsOf ws xs
 
   -- what the rules make of a decision
   abbrev after : Decision → World
@@ -517,12 +520,12 @@ module _ {M : Type 1} (𝓤 : URA M) (H : Heap 𝓤) (A : Atoms 𝓤) (W : Given
   goes-update d can is is-t ν δ =
       qed W (‵ (flft (ν ∷ []) fullShare) ∷ ‵ (MutSlice (named 0) (ν ∷ []) Q .own (xq δ ks) (sq ∷ [])) ∷ []) ∵ says ! can $ nothing ! $ move ! (1 ∷ 0 ∷ []) $ join ! $ frame ! $ nothing ! $ owned ! Y (Is Y) (EL.makes Y-.the-type Y′.the-plain 𝓤 H A) (d .change .request) _ (in-g d is .1 .0) $ fjoin ! $ owned ! usize (Is usize) (uint-makes 𝓤 H A W w64) (t₀ .client) _ (refl, in-t is-t .0 .1) $ fjoin ! $ move ! (1 ∷ 0 ∷ []) $ fjoin ! $ done !
 
-  exits : (d : Verdict) (ws′ xs′ : List ℕ) → Decides d ws′ xs′ → Keeps d ws′ xs′ → Is D d ((LL.val D-.the-type D′.the-laws d) ∷ []) → length (ys₂ d) ≡ n → Room R n → Room Q nq
+  exits : (d : Verdict) (ws′ xs′ : List ℕ) → Decides d ws′ xs′ → Keeps d ws′ xs′ → Leaves ws′ xs′ → Is D d ((LL.val D-.the-type D′.the-laws d) ∷ []) → length (ys₂ d) ≡ n → Room R n → Room Q nq
       → ent 𝓤 (⋆ 𝓤 H A (‵ (fobs γw (Ws .coded .code ws′)) ∷ ‵ (fbor κw (Body (mem Ws) bw ow γw)) ∷ ‵ (flft κw qw) ∷ ‵ (fobs γx (Vs .coded .code xs′)) ∷ ‵ (fbor κx (Body (mem Vs) bx ox γx)) ∷ ‵ (flft κx qx) ∷ ‵ (fobs γ (codedHoleys R .code (heres R (ys₂ d)))) ∷ ‵ (fbor κ (Held R (length (ys₂ d)) b o γ)) ∷ ‵ (flft κ q) ∷ ‵ (fobs γq (codedHoleys Q .code (heres Q (ks₁ d)))) ∷ ‵ (fbor κ₁ (Held Q (length (ks₁ d)) bq oq γq)) ∷ ‵ (flft κ₁ q₁) ∷ [])) (Post (EL.val N-.the-type N′.the-laws (d .answer)))
-  exits d ws′ xs′ e e′ is len gn gq =
+  exits d ws′ xs′ e e′ left is len gn gq =
       qed W (‵ (fobs γw (Ws .coded .code ws′)) ∷ ‵ (fbor κw (Body (mem Ws) bw ow γw)) ∷ ‵ (flft κw qw) ∷ ‵ (fobs γx (Vs .coded .code xs′)) ∷ ‵ (fbor κx (Body (mem Vs) bx ox γx)) ∷ ‵ (flft κx qx) ∷ ‵ (fobs γ (codedHoleys R .code (heres R (ys₂ d)))) ∷ ‵ (fbor κ (Held R (length (ys₂ d)) b o γ)) ∷ ‵ (flft κ q) ∷ ‵ (fobs γq (codedHoleys Q .code (heres Q (ks₁ d)))) ∷ ‵ (fbor κ₁ (Held Q (length (ks₁ d)) bq oq γq)) ∷ ‵ (flft κ₁ q₁) ∷ []) ∵
       suffices ! _ (ends-at 𝓤 H A this.ended stayed (this.clauses 𝓤 H A at-mem run) W (((κw, (κx, (κ, (κ₁, tt)))), (qw, (qx, (q, (q₁, tt)))), tt, a, at), tt) (EL.val N-.the-type N′.the-laws (d .answer)) (d .answer) (tt, (ws′, (xs′, (ys₂ d, (ks₁ d, (tt, tt)))))) (tt, (tt, (tt, (len, (lenq d, (tt, tt))))))) $
-      suffices ! _ (five 𝓤 _ _ _ _ _ _ (says-answer d ws′ xs′ e) (steps d ws′ xs′ e) (numbers d ws′ xs′ e) (values d ws′ xs′ e) (refuses d ws′ xs′ e e′)) $
+      suffices ! _ (six 𝓤 _ _ _ _ _ _ _ (says-answer d ws′ xs′ e) (steps d ws′ xs′ e) (numbers d ws′ xs′ e) (values d ws′ xs′ e) (refuses d ws′ xs′ e e′) left) $
       nothing ! $
       move ! (12 ∷ 0 ∷ []) $ join ! $
       move ! (9 ∷ 0 ∷ []) $ join ! $
@@ -652,9 +655,9 @@ module _ {M : Type 1} (𝓤 : URA M) (H : Heap 𝓤) (A : Atoms 𝓤) (W : Given
         move ! (4 ∷ 2 ∷ 0 ∷ []) $ use3 W (raw (On-decide 𝓤 H A at-mem run .pre (to-decide ν₀ ν₁ δ₀ δ₁))) (goes-decide is-c is-h ν₀ ν₁ δ₀ δ₁) $
         calls-at ! fm (On-decide 𝓤 H A at-mem run) known-decide (to-decide ν₀ ν₁ δ₀ δ₁) (and-then ! (load ! (from ! (stop !)) (look ! 18 refl)) (and-then ! (load ! (from ! (stop !)) (look ! 41 refl)) (and-then ! (load ! (from ! (stop !)) (look ! 42 refl)) (and-then ! (load ! (from ! (stop !)) (look ! 26 refl)) (and-then ! (load ! (from ! (stop !)) (look ! 28 refl)) (and-then ! (load ! (from ! (stop !)) (look ! 29 refl)) (and-then ! (load ! (from ! (stop !)) (look ! 23 refl)) (no-more !)))))))) (λ w.
         use1 W (later (some (λ (r : Verdict). ((‵ (flft (ν₀ ∷ []) fullShare) ⊛ (‵ (flft (ν₁ ∷ []) fullShare) ⊛ ‵ ftrue)) ⊛ ‵ (D .own r (w ∷ []))) ⊛ raw (ensured 𝓤 H A decide-c.ended (decide-c.clauses 𝓤 H A at-mem run) (ν₀ ∷ [], (ν₁ ∷ [], tt)) (args-decide δ₀ δ₁) tt r)))) (id⊢ 𝓤 _) $ await ! tt $ pick ! (λ d.
-        split ! $ move ! (1 ∷ []) $ use1 W (some (λ (us : Unit {0} × (List ℕ × (List ℕ × (Unit {0} × (Unit {0} × (Unit {0} × (Unit {0} × (Unit {0})))))))). ‵ (lasts decide-c.ended (ν₀ ∷ [], (ν₁ ∷ [], tt)) (args-decide δ₀ δ₁) us) ⊛ (raw (fact 𝓤 (Decides d (us .1 .0) (us .1 .1 .0))) ⊛ raw (fact 𝓤 (Keeps d (us .1 .0) (us .1 .1 .0)))))) (id⊢ 𝓤 _) $ pick ! (λ us.
+        split ! $ move ! (1 ∷ []) $ use1 W (some (λ (us : Unit {0} × (List ℕ × (List ℕ × (Unit {0} × (Unit {0} × (Unit {0} × (Unit {0} × (Unit {0})))))))). ‵ (lasts decide-c.ended (ν₀ ∷ [], (ν₁ ∷ [], tt)) (args-decide δ₀ δ₁) us) ⊛ (raw (fact 𝓤 (Decides d (us .1 .0) (us .1 .1 .0))) ⊛ (raw (fact 𝓤 (Keeps d (us .1 .0) (us .1 .1 .0))) ⊛ raw (fact 𝓤 (Leaves (us .1 .0) (us .1 .1 .0))))))) (id⊢ 𝓤 _) $ pick ! (λ us.
         let ws′ : List ℕ = us .1 .0 in let xs′ : List ℕ = us .1 .1 .0 in
-        split ! $ move ! (1 ∷ []) $ split ! $ heard ! (Decides d ws′ xs′) (λ e. heard ! (Keeps d ws′ xs′) (λ e′.
+        split ! $ move ! (1 ∷ []) $ split ! $ heard ! (Decides d ws′ xs′) (λ e. split ! $ heard ! (Keeps d ws′ xs′) (λ e′. heard ! (Leaves ws′ xs′) (λ left.
         fsplit ! $
         move ! (1 ∷ []) $ fsplit ! $
         move ! (1 ∷ []) $ fsplit ! $
@@ -717,7 +720,7 @@ module _ {M : Type 1} (𝓤 : URA M) (H : Heap 𝓤) (A : Atoms 𝓤) (W : Given
         move ! (9 ∷ 10 ∷ 11 ∷ 12 ∷ []) $ closes-slice ! tt Q ks (ks₁ d) (lenq d) bq oq $
         returns ! (look ! 12 refl) $ forget ! 12 refl $ forget ! 13 refl $ forget ! 14 refl $ forget ! 15 refl $ forget ! 16 refl $ forget ! 17 refl $ forget ! 18 refl $ forget ! 19 refl $ forget ! 20 refl $ forget ! 21 refl $ forget ! 22 refl $ forget ! 23 refl $ forget ! 24 refl $ forget ! 25 refl $ forget ! 26 refl $ forget ! 27 refl $ forget ! 28 refl $ forget ! 29 refl $ forget ! 30 refl $ forget ! 31 refl $ forget ! 32 refl $ forget ! 33 refl $ forget ! 34 refl $ forget ! 35 refl $ forget ! 36 refl $ forget ! 37 refl $ forget ! 38 refl $ forget ! 39 refl $ forget ! 40 refl $ forget ! 41 refl $ forget ! 42 refl $ forget ! 43 refl $ forget ! 44 refl $
         move ! (12 ∷ 45 ∷ []) $ free1 ! $ move ! (12 ∷ 44 ∷ []) $ free1 ! $ move ! (12 ∷ 43 ∷ []) $ free1 ! $ move ! (12 ∷ 42 ∷ []) $ free1 ! $ move ! (12 ∷ 41 ∷ []) $ free1 ! $ move ! (12 ∷ 40 ∷ []) $ free1 ! $ move ! (12 ∷ 39 ∷ []) $ free1 ! $ move ! (12 ∷ 38 ∷ []) $ free1 ! $ move ! (12 ∷ 37 ∷ []) $ free1 ! $ move ! (12 ∷ 36 ∷ []) $ free1 ! $ move ! (12 ∷ 35 ∷ []) $ free1 ! $ move ! (12 ∷ 34 ∷ []) $ free1 ! $ move ! (12 ∷ 33 ∷ []) $ free1 ! $ move ! (12 ∷ 32 ∷ []) $ free1 ! $ move ! (12 ∷ 31 ∷ []) $ free1 ! $ move ! (12 ∷ 30 ∷ []) $ free1 ! $ move ! (12 ∷ 29 ∷ []) $ free1 ! $ move ! (12 ∷ 28 ∷ []) $ free1 ! $ move ! (12 ∷ 27 ∷ []) $ free1 ! $ move ! (12 ∷ 26 ∷ []) $ free1 ! $ move ! (12 ∷ 25 ∷ []) $ free1 ! $ move ! (12 ∷ 24 ∷ []) $ free1 ! $ move ! (12 ∷ 23 ∷ []) $ free1 ! $ move ! (12 ∷ 22 ∷ []) $ free1 ! $ move ! (12 ∷ 21 ∷ []) $ free1 ! $ move ! (12 ∷ 20 ∷ []) $ free1 ! $ move ! (12 ∷ 19 ∷ []) $ free1 ! $ move ! (12 ∷ 18 ∷ []) $ free1 ! $ move ! (12 ∷ 17 ∷ []) $ free1 ! $ move ! (12 ∷ 16 ∷ []) $ free1 ! $ move ! (12 ∷ 15 ∷ []) $ free1 ! $ move ! (12 ∷ 14 ∷ []) $ free1 ! $ move ! (12 ∷ 13 ∷ []) $ free1 ! $ free0 ! $
-        move ! (9 ∷ 10 ∷ 11 ∷ 6 ∷ 7 ∷ 8 ∷ 3 ∷ 4 ∷ 5 ∷ 0 ∷ 1 ∷ 2 ∷ []) $ by ! (exits d ws′ xs′ e e′ is-d (len₂ d (sym (ap (λ (z : List Copy). length z) e₈) ∙ len₈)) gn gq))))))))))))))))))))))))))))))))))))))))))))))))))))))))))))))))))))))
+        move ! (9 ∷ 10 ∷ 11 ∷ 6 ∷ 7 ∷ 8 ∷ 3 ∷ 4 ∷ 5 ∷ 0 ∷ 1 ∷ 2 ∷ []) $ by ! (exits d ws′ xs′ e e′ left is-d (len₂ d (sym (ap (λ (z : List Copy). length z) e₈) ∙ len₈)) gn gq)))))))))))))))))))))))))))))))))))))))))))))))))))))))))))))))))))))))
 
     walk : Room R n → Room Q nq → ent 𝓤 (onEntry 𝓤 H A this.signature (κw, (κx, (κ, (κ₁, tt)))) (qw, (qx, (q, (q₁, tt)))) a at) (WpFn 𝓤 H (𝓣 .C) (𝓣 .Λ) code.function (vs ∷ pw ∷ px ∷ s ∷ sq ∷ vu ∷ []) Post)
     unfolding sty
