@@ -11,12 +11,12 @@ ghost use Rattle.words.specs.Fields.{WORDS};
 ghost use Rattle.words.specs.View.{tablesOf, numbersOf, recordsOf};
 use leases::place;
 use protocol::setup::Setup;
+use waiting::test::Trigger;
 use words::Values;
 use words::Words;
 use words::pass;
 use words::server;
 use writes::settle;
-use writes::test::Trigger;
 
 // The client's words for the objects of the volume, of the field that starts at `field`, become 0.
 fn clear_in_volume(s: Setup, words: &mut Words, field: usize, client: usize, volume: usize)

@@ -11,13 +11,18 @@ use Rattle.laws.specs.Parts.{parts, withPart, part-at, stored, stored-each}
 use Rattle.laws.specs.Store.{storeEach, always}
 use Rattle.protocol.specs.declared.setup.Setup.{Setup}
 use Rattle.protocol.specs.Tables.{byVolume, byObject, versionAt, withObjects}
-use Rattle.protocol.specs.Writes.{ready, posted, released, deserted, completed, settled}
+use Rattle.protocol.specs.Writes.{waited, ready, posted, released, deserted, completed, settled}
+use Rattle.protocol.specs.Leases.{guardPassed}
 use Rattle.leases.specs.Parts.{Placed}
 use Rattle.words.specs.Fields.{wordLengths, valueLengths, at, atValue, UNREACHABLE, VERSION, STANDING, END, LEASE, WAITING, VALUE, PENDING}
 use Rattle.words.specs.View.{tablesOf, numbersOf, recordsOf}
-use Rattle.writes.specs.Triggers.{oneStaged}
-use Rattle.writes.specs.Waiting.{waitingFor, waitingIn}
-use Rattle.writes.proofs.Tests.{ready-same}
+use Rattle.waiting.specs.Triggers.{oneStaged}
+use Rattle.waiting.specs.Waiting.{waitingFor, waitingIn}
+
+-- the test reads no value
+ready-same : (s : Setup) (w : List ℕ) (o : ℕ) (x : List ℕ) → ready s (numbersOf w) o ≡ ready s (tablesOf w x) o
+unfolding ready waited guardPassed tablesOf
+ready-same s w o x = refl
 
 module _ (w x : List ℕ) (o : ℕ) (h : o < 32) where
   abbrev words-posted : List ℕ

@@ -3,7 +3,7 @@ use Prim.Native.Nat.{ℕ, _+_, _-_, _<_, _≤_}
 use native.Mathlib.Omega.{arith}
 use mathlib.Core.Bool.{true, false}
 use mathlib.Core.List.{List}
-use mathlib.Core.Path.{_≡_, _∙_}
+use mathlib.Core.Path.{_≡_, refl, _∙_, fun-ext}
 use lib.ListN.{length, set}
 use lib.Seq.{getD-set-same}
 use Rattle.laws.specs.Choice.{and-true}
@@ -13,15 +13,21 @@ use Rattle.laws.specs.Skip.{Found, fold-skip, first-is}
 use Rattle.protocol.specs.declared.setup.Setup.{Setup}
 use Rattle.protocol.specs.declared.tables.Tables.{Tables}
 use Rattle.protocol.specs.Tables.{standingAt, versionAt, withClock}
-use Rattle.protocol.specs.Writes.{Counted, ready, due, completed, completeIf, settled, clockStaged}
+use Rattle.protocol.specs.Leases.{guardPassed}
+use Rattle.protocol.specs.Writes.{Counted, waited, ready, due, completed, completeIf, settled, clockStaged}
 use Rattle.protocol.specs.Server.{ofVolume}
 use Rattle.protocol.specs.SoundLaws.{Growing, completed-keeps}
 use Rattle.words.specs.Fields.{wordLengths, WORDS, CLOCK}
 use Rattle.words.specs.View.{tablesOf, numbersOf, recordsOf}
-use Rattle.writes.specs.declared.test.Trigger.{Trigger}
-use Rattle.writes.specs.declared.test.Trigger.the-variants.{Clock, Volume}
-use Rattle.writes.specs.Triggers.{triggered, triggerStaged}
-use Rattle.writes.proofs.Tests.{triggered-same}
+use Rattle.waiting.specs.declared.test.Trigger.{Trigger}
+use Rattle.waiting.specs.declared.test.Trigger.the-variants.{Clock, Volume}
+use Rattle.waiting.specs.Triggers.{triggered, triggerStaged}
+
+-- the tests read no value
+triggered-same : (s : Setup) (p : Trigger) (w x : List ℕ) → triggered s p (numbersOf w) ≡ triggered s p (tablesOf w x)
+unfolding triggered due ready waited guardPassed tablesOf
+triggered-same s Clock w x = fun-ext (λ o. refl)
+triggered-same s (Volume v) w x = fun-ext (λ o. refl)
 
 module _ (s : Setup) (p : Trigger) where
   stands : (p : Trigger) (t : Tables) (o : ℕ) → triggered s p t o ≡ true → standingAt t o ≡ true

@@ -6,15 +6,15 @@ ghost use Rattle.protocol.specs.Setup.{inRange};
 ghost use Rattle.protocol.specs.Tables.{versionAt, withQueue};
 ghost use Rattle.protocol.specs.Writes.{begun, notified, writeStaged, settled};
 ghost use Rattle.words.specs.View.{tablesOf, recordsOf};
-ghost use Rattle.writes.specs.Waiting.{invalidated};
+ghost use Rattle.writes.specs.Invalidates.{invalidated};
 use crate::complete;
-use crate::waiting;
 use leases::place;
 use leases::time;
 use protocol::message::Kind;
 use protocol::message::Message;
 use protocol::setup::Setup;
 use queue::list;
+use waiting::clients;
 use words::Values;
 use words::Words;
 use words::network;
@@ -36,7 +36,7 @@ fn begin(s: Setup, words: &mut Words, values: &mut Values, object: usize, value:
         words[server::OBJECT_EXPIRY + object],
         words[server::GUARD + volume],
     );
-    waiting::await_clients(&mut *words, volume, object, s.clients as usize);
+    clients::await_clients(&mut *words, volume, object, s.clients as usize);
     words[server::STANDING + object] = 1;
     words[server::END + object] = end;
     values[server::PENDING + object] = value;
@@ -58,7 +58,7 @@ fn invalidate(
 {
     let mut from = 0;
     loop {
-        let client = waiting::next_waiting(&*words, object, from, n);
+        let client = clients::next_waiting(&*words, object, from, n);
         if n <= client {
             break;
         }

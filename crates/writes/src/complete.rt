@@ -5,11 +5,11 @@ ghost use Rattle.protocol.specs.Setup.{inRange};
 ghost use Rattle.protocol.specs.Tables.{versionAt, withObjects};
 ghost use Rattle.protocol.specs.Writes.{posted, completed, settled};
 ghost use Rattle.words.specs.View.{tablesOf, recordsOf};
-ghost use Rattle.writes.specs.Triggers.{oneStaged};
-use crate::test;
-use crate::waiting;
+ghost use Rattle.waiting.specs.Triggers.{oneStaged};
 use leases::place;
 use protocol::setup::Setup;
+use waiting::clients;
+use waiting::test;
 use words::Values;
 use words::Words;
 use words::server;
@@ -38,9 +38,9 @@ pub fn complete(s: Setup, words: &mut Words, values: &mut Values, object: usize)
 {
     let volume = place::volume_of(s, object);
     let n = s.clients as usize;
-    waiting::mark_waiting(&mut *words, volume, object, n);
-    waiting::clear_object(&mut *words, server::LEASE, object, n);
-    waiting::clear_object(&mut *words, server::WAITING, object, n);
+    clients::mark_waiting(&mut *words, volume, object, n);
+    clients::clear_object(&mut *words, server::LEASE, object, n);
+    clients::clear_object(&mut *words, server::WAITING, object, n);
     post(&mut *words, &mut *values, object);
 }
 

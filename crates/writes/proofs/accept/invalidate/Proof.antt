@@ -3,7 +3,8 @@ use Prim.Native.Nat.{_≤_, _-_}
 use native.Mathlib.Nat.{sub-zero}
 use Rattle.laws.specs.Loop.{foldFrom}
 use Rattle.words.specs.View.{tablesOf}
-use Rattle.writes.specs.Waiting.{notifyOne, waitingIn}
+use Rattle.waiting.specs.Waiting.{waitingIn}
+use Rattle.writes.specs.Invalidates.{notifyOne}
 use Rattle.writes.proofs.Accepting.{Sending, sending-start, sending-again, notify-again, notify-end}
 use borrow.Author.Needs.{needs}
 use Rattle.writes.proofs.accept.invalidate.Statement.{statement}
