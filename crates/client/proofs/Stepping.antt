@@ -23,7 +23,7 @@ use Rattle.protocol.specs.Decide.{readDecided, askDecided, restartDecided}
 use Rattle.leases.specs.Parts.{Placed}
 use Rattle.words.specs.Fields.{wordLengths, at, CLOCK, VIEW-EPOCH, VIEW-EXPIRY}
 use Rattle.words.specs.View.{tablesOf, numbersOf, recordsOf}
-use Rattle.client.specs.Shown.{shownAt}
+use Rattle.cache.specs.Shown.{shownAt}
 
 -- ---- Step 2
 

@@ -1,6 +1,4 @@
-// What a client does: its tests, its request and copies, what it knows of a volume, what it receives, and its steps (01, "Steps" and "Messages received").
-pub mod copy;
+// What a client does: what it knows of a volume, what it receives, and its steps (01, "Steps" and "Messages received").
 pub mod receive;
-pub mod request;
 pub mod steps;
 pub mod view;

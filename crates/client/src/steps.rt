@@ -4,7 +4,7 @@ ghost use Prim.Native.Nat.{_<_};
 ghost use Rattle.protocol.specs.Setup.{inRange};
 ghost use Rattle.protocol.specs.Decide.{readDecided, askDecided, restartDecided};
 ghost use Rattle.words.specs.View.{tablesOf, numbersOf, recordsOf};
-use crate::copy;
+use cache::copy;
 use leases::place;
 use protocol::message::Kind;
 use protocol::message::Message;
@@ -35,7 +35,7 @@ pub fn read(s: Setup, words: &Words, c: Copy, client: u8, object: u8) -> Answer
     Answer::AskFirst
 }
 
-// Step 3: "send RENEW with number, known epoch and held version". The number is taken by `request::number`.
+// Step 3: "send RENEW with number, known epoch and held version". The number is taken by `cache::request::number`.
 pub fn ask(
     s: Setup,
     words: &mut Words,

@@ -9,7 +9,7 @@ ghost use Rattle.protocol.specs.Decide.{byClient, answered, deliverDecided};
 ghost use Rattle.words.specs.View.{tablesOf, recordsOf};
 ghost use Rattle.decide.specs.Sides.{served, heard};
 use crate::perform::Verdict;
-use client::copy;
+use cache::copy;
 use client::receive::Terms;
 use client::receive::grant;
 use client::receive::invalidate;

@@ -35,7 +35,7 @@ pub fn decide(
         return perform::perform(s, &mut *words, &mut *values, c, r, step);
     }
     Verdict {
-        change: client::copy::kept(),
+        change: cache::copy::kept(),
         answer: Answer::Refused(no),
     }
 }

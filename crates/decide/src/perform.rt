@@ -36,7 +36,7 @@ fn keeping(answer: Answer) -> Verdict
     ensures { λ v. ⌜ v ≡ record { change = kept; answer = answer } ⌝ }
 {
     Verdict {
-        change: client::copy::kept(),
+        change: cache::copy::kept(),
         answer,
     }
 }

@@ -6,7 +6,7 @@ ghost use lib.ListN.{getD, set};
 ghost use Rattle.protocol.specs.Tables.{noCopy};
 ghost use Rattle.protocol.specs.Client.{changed};
 ghost use Rattle.protocol.specs.Sound.{timeFits, copiesSound};
-use client::copy::none;
+use cache::copy::none;
 use gate::records::copy_sound;
 use protocol::records::Copy;
 use protocol::setup::Setup;

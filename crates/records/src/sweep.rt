@@ -22,7 +22,7 @@ fn swept_at(s: Setup, g: Sweep, c: Copy, k: usize, first: usize) -> Copy
     ensures { λ r. ⌜ r ≡ client.swept s g c (k - first) ⌝ }
 {
     let o = less(k, first);
-    client::copy::sweep(s, g, c, o)
+    cache::copy::sweep(s, g, c, o)
 }
 
 // How many copies a sweep goes over.

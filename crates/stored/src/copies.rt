@@ -4,7 +4,7 @@ ghost use lib.ListN.{getD};
 ghost use Rattle.protocol.specs.Tables.{noCopy};
 ghost use Rattle.words.specs.View.{tablesOf, recordsOf};
 ghost use Rattle.stored.specs.Stores.{withCopy, sweptOver};
-use client::copy;
+use cache::copy;
 use protocol::records::Copy;
 use protocol::setup::Setup;
 use protocol::step::Sweep;

@@ -48,10 +48,10 @@ use Rattle.protocol.proofs.records.Copy as R-
 use Rattle.protocol.proofs.records.Copy.Laws as R′
 use denote.Struct.Laws as LL
 use Rattle.records.specs.Lent.{lend-mut, back-mut}
-use Rattle.client.proofs.copy.none as no-copy-c
-use Rattle.client.proofs.copy.none.Symbol as no-copy-def
-use Rattle.client.proofs.copy.none.Symbol.{name as #client·copy·none}
-use Rattle.client.proofs.copy.none.Met as no-copy-thm
+use Rattle.cache.proofs.copy.none as no-copy-c
+use Rattle.cache.proofs.copy.none.Symbol as no-copy-def
+use Rattle.cache.proofs.copy.none.Symbol.{name as #cache·copy·none}
+use Rattle.cache.proofs.copy.none.Met as no-copy-thm
 use Rattle.records.proofs.copies.store as store-c
 use Rattle.records.proofs.copies.store.Symbol as store-def
 use Rattle.records.proofs.copies.store.Symbol.{name as #records·copies·store}
@@ -129,7 +129,7 @@ module _ {M : Type 1} (𝓤 : URA M) (H : Heap 𝓤) (A : Atoms 𝓤) (W : Given
       nothing ! $ owned ! usize (Is usize) (uint-makes 𝓤 H A W w64) i _ (refl, i-fits) $ fjoin ! $ move ! (1 ∷ 0 ∷ []) $ fjoin ! $
       feqI ! (List Val) (vunit ∷ []) (vunit ∷ []) refl $ move ! (1 ∷ 0 ∷ []) $ done !
 
-  module _ (𝓣 : Tables 𝓤 H) (fm : FmC 𝓤 H (W .laws) (𝓣 .C)) (known-no-copy : Triple 𝓤 (𝓣 .C #client·copy·none) (On-no-copy 𝓤 H A at-mem run)) (known-store : Triple 𝓤 (𝓣 .C #records·copies·store) (On-store 𝓤 H A at-mem run)) where
+  module _ (𝓣 : Tables 𝓤 H) (fm : FmC 𝓤 H (W .laws) (𝓣 .C)) (known-no-copy : Triple 𝓤 (𝓣 .C #cache·copy·none) (On-no-copy 𝓤 H A at-mem run)) (known-store : Triple 𝓤 (𝓣 .C #records·copies·store) (On-store 𝓤 H A at-mem run)) where
     walk : Room R n → ent 𝓤 (onEntry 𝓤 H A this.signature (κ, tt) (q, tt) a at) (WpFn 𝓤 H (𝓣 .C) (𝓣 .Λ) code.function (s ∷ vint w64 i ∷ []) Post)
     walk gn =
         qed W ((‵ (flft κ q) ⊛ ‵ ftrue) ∷ ‵ (owns (MutSlice (named 0) κ R ∷ usize ∷ []) a at) ∷ []) ∵ enter ! (𝓣 .C) (𝓣 .Λ) code.function (s ∷ vint w64 i ∷ []) _ $
@@ -162,12 +162,12 @@ module _ {M : Type 1} (𝓤 : URA M) (H : Heap 𝓤) (A : Atoms 𝓤) (W : Given
         keep ! (0 ∷ 1 ∷ 2 ∷ []) $ by ! (exits (set ys i noCopy) refl (length-set ys i noCopy) gn))))))))))))))))))))
 
 module _ {M : Type 1} (𝓤 : URA M) (H : Heap 𝓤) (A : Atoms 𝓤) (W : Given 𝓤 H A) (mem : Memory → SProp 𝓤) (run : Routine → Fun 𝓤) where
-  this-walks : (𝓣 : Tables 𝓤 H) → Triple 𝓤 (𝓣 .C #client·copy·none) (On-no-copy 𝓤 H A mem run) → Triple 𝓤 (𝓣 .C #records·copies·store) (On-store 𝓤 H A mem run) → Walks 𝓤 H A this.ended stayed (WpFn 𝓤 H (𝓣 .C) (𝓣 .Λ) code.function) (this.clauses 𝓤 H A mem run)
+  this-walks : (𝓣 : Tables 𝓤 H) → Triple 𝓤 (𝓣 .C #cache·copy·none) (On-no-copy 𝓤 H A mem run) → Triple 𝓤 (𝓣 .C #records·copies·store) (On-store 𝓤 H A mem run) → Walks 𝓤 H A this.ended stayed (WpFn 𝓤 H (𝓣 .C) (𝓣 .Λ) code.function) (this.clauses 𝓤 H A mem run)
   this-walks 𝓣 known-no-copy known-store = walked 𝓤 H A this.ended stayed (this.clauses 𝓤 H A mem run) (WpFn 𝓤 H (𝓣 .C) (𝓣 .Λ) code.function) (λ κs. (slice-vals, (uint-vals w64, tt))) (λ κs. (mut-slice-tells (named 0) (κs .0) R, (uint-tells w64, tt)))
       (λ κs qs bounds a g are. via 𝓤 _ (fst∗ 𝓤 _ (emp 𝓤)) (walk 𝓤 H A W mem run (κs .0) (qs .0) (a .0 .ptr .0) (a .0 .ptr .1) (a .0 .name) (a .0 .now) (a .1 .0) (are .1 .0 .1) 𝓣 (fmOf 𝓤 H (W .laws) 𝓣) known-no-copy known-store (are .0 .0 .1)))
 
 this-meets : {M : Type 1} (𝓤 : URA M) (H : Heap 𝓤) (A : Atoms 𝓤) → Given 𝓤 H A → (mem : Memory → SProp 𝓤) (run : Routine → Fun 𝓤) (𝓣 : Tables 𝓤 H)
-    → Triple 𝓤 (𝓣 .C #client·copy·none) (On-no-copy 𝓤 H A mem run) → Triple 𝓤 (𝓣 .C #records·copies·store) (On-store 𝓤 H A mem run) → Meets 𝓤 H A this.signature (WpFn 𝓤 H (𝓣 .C) (𝓣 .Λ) code.function) (this.spec 𝓤 H A mem run)
+    → Triple 𝓤 (𝓣 .C #cache·copy·none) (On-no-copy 𝓤 H A mem run) → Triple 𝓤 (𝓣 .C #records·copies·store) (On-store 𝓤 H A mem run) → Meets 𝓤 H A this.signature (WpFn 𝓤 H (𝓣 .C) (𝓣 .Λ) code.function) (this.spec 𝓤 H A mem run)
 this-meets 𝓤 H A W mem run 𝓣 known-no-copy known-store =
     walk-meets 𝓤 H A this.ended stayed W (goes-slice 𝓤 H A W 1 0 tt (plain (λ _. R)), (goes-none 𝓤 H A W 1 (λ _. usize) yes (λ κs x f. refl), tt)) (this.clauses 𝓤 H A mem run)
     (WpFn 𝓤 H (𝓣 .C) (𝓣 .Λ) code.function) (WpFn-mono 𝓤 H (W .laws) 𝓣 code.function) (this-walks 𝓤 H A W mem run 𝓣 known-no-copy known-store)
@@ -178,5 +178,5 @@ erase-spec 𝓤 H 𝓜 𝓖 𝓡 =
     entered 𝓤 H (tripleOf 𝓤 H (𝓖 .A) this.signature (this.spec 𝓤 H (𝓖 .A) (𝓜 .mem) (𝓡 .run)))
     (tables 𝓤 H 𝓜 𝓡 code.env .C) (tables 𝓤 H 𝓜 𝓡 code.env .Λ) #records·copies·erase code.function (code.unfolded 𝓤 H 𝓜 𝓡)
     (this-meets 𝓤 H (𝓖 .A) (givenOf 𝓤 H 𝓜 𝓖) (𝓜 .mem) (𝓡 .run) (tablesOf 𝓤 H 𝓜 (tables 𝓤 H 𝓜 𝓡 code.env))
-    (cited 𝓤 H (On-no-copy 𝓤 H (𝓖 .A) (𝓜 .mem) (𝓡 .run)) 𝓜 𝓡 code.env #client·copy·none no-copy-def.routine code.calls-client·copy·none (no-copy-thm.met 𝓤 H 𝓜 𝓖 𝓡))
+    (cited 𝓤 H (On-no-copy 𝓤 H (𝓖 .A) (𝓜 .mem) (𝓡 .run)) 𝓜 𝓡 code.env #cache·copy·none no-copy-def.routine code.calls-cache·copy·none (no-copy-thm.met 𝓤 H 𝓜 𝓖 𝓡))
     (cited 𝓤 H (On-store 𝓤 H (𝓖 .A) (𝓜 .mem) (𝓡 .run)) 𝓜 𝓡 code.env #records·copies·store store-def.routine code.calls-records·copies·store (store-thm.met 𝓤 H 𝓜 𝓖 𝓡)))

@@ -37,10 +37,10 @@ use Rattle.protocol.specs.declared.records.Request.{Request}
 use Rattle.protocol.specs.Client.{ended}
 use Rattle.protocol.proofs.records.Request as Q-
 use Rattle.protocol.proofs.records.Request.Laws as Q′
-use Rattle.client.proofs.request.end as end-c
-use Rattle.client.proofs.request.end.Symbol as end-def
-use Rattle.client.proofs.request.end.Symbol.{name as #client·request·end}
-use Rattle.client.proofs.request.end.Met as end-thm
+use Rattle.cache.proofs.request.end as end-c
+use Rattle.cache.proofs.request.end.Symbol as end-def
+use Rattle.cache.proofs.request.end.Symbol.{name as #cache·request·end}
+use Rattle.cache.proofs.request.end.Met as end-thm
 use Rattle.records.proofs.requests.end_request.Key.{name as #records·requests·end-request}
 use Rattle.records.proofs.requests.end_request as this
 use Rattle.records.proofs.requests.end_request.Statement as stated
@@ -92,7 +92,7 @@ module _ {M : Type 1} (𝓤 : URA M) (H : Heap 𝓤) (A : Atoms 𝓤) (W : Given
       suffices ! _ (ends-at 𝓤 H A this.ended stayed (this.clauses 𝓤 H A at-mem run) W (((κ, tt), (q, tt), tt, a, at), tt) vunit tt (r, tt) (tt, tt)) $ says ! e $
       nothing ! $ move ! (3 ∷ 0 ∷ []) $ join ! $ frame ! $ feqI ! (List Val) (vptr b o ∷ []) (vptr b o ∷ []) refl $ fjoin3 ! $ nothing ! $ move ! (1 ∷ 0 ∷ []) $ fjoin ! $ frame ! $ feqI ! (List Val) (vunit ∷ []) (vunit ∷ []) refl $ done !
 
-  module _ (𝓣 : Tables 𝓤 H) (fm : FmC 𝓤 H (W .laws) (𝓣 .C)) (known-end : Triple 𝓤 (𝓣 .C #client·request·end) (On-end 𝓤 H A at-mem run)) where
+  module _ (𝓣 : Tables 𝓤 H) (fm : FmC 𝓤 H (W .laws) (𝓣 .C)) (known-end : Triple 𝓤 (𝓣 .C #cache·request·end) (On-end 𝓤 H A at-mem run)) where
     walk : ent 𝓤 (onEntry 𝓤 H A this.signature (κ, tt) (q, tt) a at) (WpFn 𝓤 H (𝓣 .C) (𝓣 .Λ) code.function (vptr b o ∷ []) Post)
     walk =
         qed W ((‵ (flft κ q) ⊛ ‵ ftrue) ∷ ‵ (owns (MutRef (named 0) κ Q ∷ []) a at) ∷ []) ∵ enter ! (𝓣 .C) (𝓣 .Λ) code.function (vptr b o ∷ []) _ $
@@ -115,12 +115,12 @@ module _ {M : Type 1} (𝓤 : URA M) (H : Heap 𝓤) (A : Atoms 𝓤) (W : Given
         keep ! (0 ∷ 1 ∷ 2 ∷ []) $ by ! (exits r e is)))))))))))
 
 module _ {M : Type 1} (𝓤 : URA M) (H : Heap 𝓤) (A : Atoms 𝓤) (W : Given 𝓤 H A) (mem : Memory → SProp 𝓤) (run : Routine → Fun 𝓤) where
-  this-walks : (𝓣 : Tables 𝓤 H) → Triple 𝓤 (𝓣 .C #client·request·end) (On-end 𝓤 H A mem run) → Walks 𝓤 H A this.ended stayed (WpFn 𝓤 H (𝓣 .C) (𝓣 .Λ) code.function) (this.clauses 𝓤 H A mem run)
+  this-walks : (𝓣 : Tables 𝓤 H) → Triple 𝓤 (𝓣 .C #cache·request·end) (On-end 𝓤 H A mem run) → Walks 𝓤 H A this.ended stayed (WpFn 𝓤 H (𝓣 .C) (𝓣 .Λ) code.function) (this.clauses 𝓤 H A mem run)
   this-walks 𝓣 known-end = walked 𝓤 H A this.ended stayed (this.clauses 𝓤 H A mem run) (WpFn 𝓤 H (𝓣 .C) (𝓣 .Λ) code.function) (λ κs. (ptr-vals, tt)) (λ κs. (mut-tells (named 0) (κs .0) Q, tt))
       (λ κs qs bounds a g are. via 𝓤 _ (fst∗ 𝓤 _ (emp 𝓤)) (walk 𝓤 H A W mem run (κs .0) (qs .0) (a .0 .ptr .0) (a .0 .ptr .1) (a .0 .name) (a .0 .now) 𝓣 (fmOf 𝓤 H (W .laws) 𝓣) known-end))
 
 this-meets : {M : Type 1} (𝓤 : URA M) (H : Heap 𝓤) (A : Atoms 𝓤) → Given 𝓤 H A → (mem : Memory → SProp 𝓤) (run : Routine → Fun 𝓤) (𝓣 : Tables 𝓤 H)
-    → Triple 𝓤 (𝓣 .C #client·request·end) (On-end 𝓤 H A mem run) → Meets 𝓤 H A this.signature (WpFn 𝓤 H (𝓣 .C) (𝓣 .Λ) code.function) (this.spec 𝓤 H A mem run)
+    → Triple 𝓤 (𝓣 .C #cache·request·end) (On-end 𝓤 H A mem run) → Meets 𝓤 H A this.signature (WpFn 𝓤 H (𝓣 .C) (𝓣 .Λ) code.function) (this.spec 𝓤 H A mem run)
 this-meets 𝓤 H A W mem run 𝓣 known-end =
     walk-meets 𝓤 H A this.ended stayed W (goes-ref 𝓤 H A W 1 0 tt (plain (λ _. Q)), tt) (this.clauses 𝓤 H A mem run)
     (WpFn 𝓤 H (𝓣 .C) (𝓣 .Λ) code.function) (WpFn-mono 𝓤 H (W .laws) 𝓣 code.function) (this-walks 𝓤 H A W mem run 𝓣 known-end)
@@ -131,4 +131,4 @@ end-request-spec 𝓤 H 𝓜 𝓖 𝓡 =
     entered 𝓤 H (tripleOf 𝓤 H (𝓖 .A) this.signature (this.spec 𝓤 H (𝓖 .A) (𝓜 .mem) (𝓡 .run)))
     (tables 𝓤 H 𝓜 𝓡 code.env .C) (tables 𝓤 H 𝓜 𝓡 code.env .Λ) #records·requests·end-request code.function (code.unfolded 𝓤 H 𝓜 𝓡)
     (this-meets 𝓤 H (𝓖 .A) (givenOf 𝓤 H 𝓜 𝓖) (𝓜 .mem) (𝓡 .run) (tablesOf 𝓤 H 𝓜 (tables 𝓤 H 𝓜 𝓡 code.env))
-    (cited 𝓤 H (On-end 𝓤 H (𝓖 .A) (𝓜 .mem) (𝓡 .run)) 𝓜 𝓡 code.env #client·request·end end-def.routine code.calls-client·request·end (end-thm.met 𝓤 H 𝓜 𝓖 𝓡)))
+    (cited 𝓤 H (On-end 𝓤 H (𝓖 .A) (𝓜 .mem) (𝓡 .run)) 𝓜 𝓡 code.env #cache·request·end end-def.routine code.calls-cache·request·end (end-thm.met 𝓤 H 𝓜 𝓖 𝓡)))

@@ -43,10 +43,10 @@ use Rattle.protocol.specs.declared.records.Request.{Request}
 use Rattle.protocol.specs.Client.{numbered, ended}
 use Rattle.protocol.proofs.records.Request as Q-
 use Rattle.protocol.proofs.records.Request.Laws as Q′
-use Rattle.client.proofs.request.number as number-c
-use Rattle.client.proofs.request.number.Symbol as number-def
-use Rattle.client.proofs.request.number.Symbol.{name as #client·request·number}
-use Rattle.client.proofs.request.number.Met as number-thm
+use Rattle.cache.proofs.request.number as number-c
+use Rattle.cache.proofs.request.number.Symbol as number-def
+use Rattle.cache.proofs.request.number.Symbol.{name as #cache·request·number}
+use Rattle.cache.proofs.request.number.Met as number-thm
 use Rattle.records.proofs.requests.take_number.Key.{name as #records·requests·take-number}
 use Rattle.records.proofs.requests.take_number as this
 use Rattle.records.proofs.requests.take_number.Statement as stated
@@ -98,7 +98,7 @@ module _ {M : Type 1} (𝓤 : URA M) (H : Heap 𝓤) (A : Atoms 𝓤) (W : Given
       suffices ! _ (ends-at 𝓤 H A this.ended stayed (this.clauses 𝓤 H A at-mem run) W (((κ, tt), (q, tt), tt, a, at), tt) (vint w32 (r .number)) (r .number) (r, (tt, tt)) (tt, (tt, tt))) $ says ! (ap (λ (z : Request). z .number) e, e) $
       nothing ! $ move ! (3 ∷ 0 ∷ []) $ join ! $ frame ! $ feqI ! (List Val) (vptr b o ∷ []) (vptr b o ∷ []) refl $ fjoin3 ! $ nothing ! $ owned ! u8 (Is u8) (uint-makes 𝓤 H A W w8) object _ (refl, object-fits) $ fjoin ! $ move ! (1 ∷ 0 ∷ []) $ fjoin ! $ frame ! $ owned ! u32 (Is u32) (uint-makes 𝓤 H A W w32) (r .number) _ (LL.owed Q-.the-type Q′.the-laws r _ is .1 .1 .0) $ done !
 
-  module _ (𝓣 : Tables 𝓤 H) (fm : FmC 𝓤 H (W .laws) (𝓣 .C)) (known-number : Triple 𝓤 (𝓣 .C #client·request·number) (On-number 𝓤 H A at-mem run)) where
+  module _ (𝓣 : Tables 𝓤 H) (fm : FmC 𝓤 H (W .laws) (𝓣 .C)) (known-number : Triple 𝓤 (𝓣 .C #cache·request·number) (On-number 𝓤 H A at-mem run)) where
     walk : ent 𝓤 (onEntry 𝓤 H A this.signature (κ, tt) (q, tt) a at) (WpFn 𝓤 H (𝓣 .C) (𝓣 .Λ) code.function (vptr b o ∷ vint w8 object ∷ []) Post)
     walk =
         qed W ((‵ (flft κ q) ⊛ ‵ ftrue) ∷ ‵ (owns (MutRef (named 0) κ Q ∷ u8 ∷ []) a at) ∷ []) ∵ enter ! (𝓣 .C) (𝓣 .Λ) code.function (vptr b o ∷ vint w8 object ∷ []) _ $
@@ -121,12 +121,12 @@ module _ {M : Type 1} (𝓤 : URA M) (H : Heap 𝓤) (A : Atoms 𝓤) (W : Given
         keep ! (0 ∷ 1 ∷ 2 ∷ []) $ by ! (exits r e is))))))))))))
 
 module _ {M : Type 1} (𝓤 : URA M) (H : Heap 𝓤) (A : Atoms 𝓤) (W : Given 𝓤 H A) (mem : Memory → SProp 𝓤) (run : Routine → Fun 𝓤) where
-  this-walks : (𝓣 : Tables 𝓤 H) → Triple 𝓤 (𝓣 .C #client·request·number) (On-number 𝓤 H A mem run) → Walks 𝓤 H A this.ended stayed (WpFn 𝓤 H (𝓣 .C) (𝓣 .Λ) code.function) (this.clauses 𝓤 H A mem run)
+  this-walks : (𝓣 : Tables 𝓤 H) → Triple 𝓤 (𝓣 .C #cache·request·number) (On-number 𝓤 H A mem run) → Walks 𝓤 H A this.ended stayed (WpFn 𝓤 H (𝓣 .C) (𝓣 .Λ) code.function) (this.clauses 𝓤 H A mem run)
   this-walks 𝓣 known-number = walked 𝓤 H A this.ended stayed (this.clauses 𝓤 H A mem run) (WpFn 𝓤 H (𝓣 .C) (𝓣 .Λ) code.function) (λ κs. (ptr-vals, (uint-vals w8, tt))) (λ κs. (mut-tells (named 0) (κs .0) Q, (uint-tells w8, tt)))
       (λ κs qs bounds a g are. needs 𝓤 (a .0 .now .next < 4294967295) _ (λ must. walk 𝓤 H A W mem run (κs .0) (qs .0) (a .0 .ptr .0) (a .0 .ptr .1) (a .0 .name) (a .0 .now) (a .1 .0) (are .1 .0 .1) must 𝓣 (fmOf 𝓤 H (W .laws) 𝓣) known-number))
 
 this-meets : {M : Type 1} (𝓤 : URA M) (H : Heap 𝓤) (A : Atoms 𝓤) → Given 𝓤 H A → (mem : Memory → SProp 𝓤) (run : Routine → Fun 𝓤) (𝓣 : Tables 𝓤 H)
-    → Triple 𝓤 (𝓣 .C #client·request·number) (On-number 𝓤 H A mem run) → Meets 𝓤 H A this.signature (WpFn 𝓤 H (𝓣 .C) (𝓣 .Λ) code.function) (this.spec 𝓤 H A mem run)
+    → Triple 𝓤 (𝓣 .C #cache·request·number) (On-number 𝓤 H A mem run) → Meets 𝓤 H A this.signature (WpFn 𝓤 H (𝓣 .C) (𝓣 .Λ) code.function) (this.spec 𝓤 H A mem run)
 this-meets 𝓤 H A W mem run 𝓣 known-number =
     walk-meets 𝓤 H A this.ended stayed W (goes-ref 𝓤 H A W 1 0 tt (plain (λ _. Q)), (goes-none 𝓤 H A W 1 (λ _. u8) yes (λ κs x f. refl), tt)) (this.clauses 𝓤 H A mem run)
     (WpFn 𝓤 H (𝓣 .C) (𝓣 .Λ) code.function) (WpFn-mono 𝓤 H (W .laws) 𝓣 code.function) (this-walks 𝓤 H A W mem run 𝓣 known-number)
@@ -137,4 +137,4 @@ take-number-spec 𝓤 H 𝓜 𝓖 𝓡 =
     entered 𝓤 H (tripleOf 𝓤 H (𝓖 .A) this.signature (this.spec 𝓤 H (𝓖 .A) (𝓜 .mem) (𝓡 .run)))
     (tables 𝓤 H 𝓜 𝓡 code.env .C) (tables 𝓤 H 𝓜 𝓡 code.env .Λ) #records·requests·take-number code.function (code.unfolded 𝓤 H 𝓜 𝓡)
     (this-meets 𝓤 H (𝓖 .A) (givenOf 𝓤 H 𝓜 𝓖) (𝓜 .mem) (𝓡 .run) (tablesOf 𝓤 H 𝓜 (tables 𝓤 H 𝓜 𝓡 code.env))
-    (cited 𝓤 H (On-number 𝓤 H (𝓖 .A) (𝓜 .mem) (𝓡 .run)) 𝓜 𝓡 code.env #client·request·number number-def.routine code.calls-client·request·number (number-thm.met 𝓤 H 𝓜 𝓖 𝓡)))
+    (cited 𝓤 H (On-number 𝓤 H (𝓖 .A) (𝓜 .mem) (𝓡 .run)) 𝓜 𝓡 code.env #cache·request·number number-def.routine code.calls-cache·request·number (number-thm.met 𝓤 H 𝓜 𝓖 𝓡)))

@@ -1,7 +1,7 @@
 use borrow.Author.Needs.{needs}
-use Rattle.client.proofs.Laws.{sweeping}
-use Rattle.client.proofs.copy.sweep.Statement.{statement}
-use Rattle.client.proofs.copy.sweep.Tie as tie
+use Rattle.cache.proofs.Laws.{sweeping}
+use Rattle.cache.proofs.copy.sweep.Statement.{statement}
+use Rattle.cache.proofs.copy.sweep.Tie as tie
 
 enum-told : tie.Need-enum-told
 enum-told c = search needs

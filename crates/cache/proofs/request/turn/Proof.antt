@@ -1,7 +1,7 @@
 use borrow.Author.Needs.{needs}
-use Rattle.client.proofs.Laws.{number-left, turning}
-use Rattle.client.proofs.request.turn.Statement.{statement}
-use Rattle.client.proofs.request.turn.Tie as tie
+use Rattle.cache.proofs.Laws.{number-left, turning}
+use Rattle.cache.proofs.request.turn.Statement.{statement}
+use Rattle.cache.proofs.request.turn.Tie as tie
 
 enum-told : tie.Need-enum-told
 enum-told c = search needs

@@ -1,7 +1,7 @@
 use borrow.Author.Needs.{needs}
 use Rattle.protocol.specs.Client.{grantTaken}
-use Rattle.client.proofs.copy.grant_taken.Statement.{statement}
-use Rattle.client.proofs.copy.grant_taken.Tie as tie
+use Rattle.cache.proofs.copy.grant_taken.Statement.{statement}
+use Rattle.cache.proofs.copy.grant_taken.Tie as tie
 
 stands-requires : tie.Need-stands-requires
 stands-requires c κs = search needs

@@ -1,7 +1,7 @@
 use borrow.Author.Needs.{needs}
 use Rattle.protocol.specs.Leases.{clientAlive}
-use Rattle.client.proofs.copy.alive.Statement.{statement}
-use Rattle.client.proofs.copy.alive.Tie as tie
+use Rattle.cache.proofs.copy.alive.Statement.{statement}
+use Rattle.cache.proofs.copy.alive.Tie as tie
 
 returns : tie.Need-returns
 unfolding clientAlive

@@ -4,7 +4,7 @@ ghost use Rattle.protocol.specs.Setup.{volumeOf};
 ghost use Rattle.protocol.specs.Tables.{noCopy};
 ghost use Rattle.protocol.specs.Client.{storable, grantTaken, payloadOr, filled, changed, swept};
 ghost use Rattle.protocol.specs.Decide.{kept};
-ghost use Rattle.client.specs.Shown.{shownAt};
+ghost use Rattle.cache.specs.Shown.{shownAt};
 use crate::request;
 use protocol::message::Payload;
 use protocol::records::Copy;

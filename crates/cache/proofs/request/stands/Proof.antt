@@ -1,7 +1,7 @@
 use borrow.Author.Needs.{needs}
 use Rattle.protocol.specs.Client.{stands}
-use Rattle.client.proofs.request.stands.Statement.{statement}
-use Rattle.client.proofs.request.stands.Tie as tie
+use Rattle.cache.proofs.request.stands.Statement.{statement}
+use Rattle.cache.proofs.request.stands.Tie as tie
 
 returns : tie.Need-returns
 unfolding stands

@@ -1,7 +1,7 @@
 use borrow.Author.Needs.{needs}
-use Rattle.client.proofs.Laws.{past-end}
-use Rattle.client.proofs.copy.volume_of.Statement.{statement}
-use Rattle.client.proofs.copy.volume_of.Tie as tie
+use Rattle.cache.proofs.Laws.{past-end}
+use Rattle.cache.proofs.copy.volume_of.Statement.{statement}
+use Rattle.cache.proofs.copy.volume_of.Tie as tie
 
 element-copy-out-result : tie.Need-element-copy-out-result
 element-copy-out-result c = search needs

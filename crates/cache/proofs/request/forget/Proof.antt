@@ -1,6 +1,6 @@
-use Rattle.client.proofs.Laws.{forgetting}
-use Rattle.client.proofs.request.forget.Statement.{statement}
-use Rattle.client.proofs.request.forget.Tie as tie
+use Rattle.cache.proofs.Laws.{forgetting}
+use Rattle.cache.proofs.request.forget.Statement.{statement}
+use Rattle.cache.proofs.request.forget.Tie as tie
 
 returns : tie.Need-returns
 returns c = search forgetting

@@ -1,6 +1,6 @@
 use borrow.Author.Needs.{needs}
-use Rattle.client.proofs.copy.fill.Statement.{statement}
-use Rattle.client.proofs.copy.fill.Tie as tie
+use Rattle.cache.proofs.copy.fill.Statement.{statement}
+use Rattle.cache.proofs.copy.fill.Tie as tie
 
 payload-or-requires : tie.Need-payload-or-requires
 payload-or-requires c κs = search needs

@@ -1,7 +1,7 @@
 use borrow.Author.Needs.{needs}
-use Rattle.client.proofs.Laws.{storable-same}
-use Rattle.client.proofs.copy.storable.Statement.{statement}
-use Rattle.client.proofs.copy.storable.Tie as tie
+use Rattle.cache.proofs.Laws.{storable-same}
+use Rattle.cache.proofs.copy.storable.Statement.{statement}
+use Rattle.cache.proofs.copy.storable.Tie as tie
 
 enum-told : tie.Need-enum-told
 enum-told c = search needs

@@ -1,7 +1,7 @@
 use borrow.Author.Needs.{needs}
-use Rattle.client.specs.Shown.{shownAt}
-use Rattle.client.proofs.copy.showable.Statement.{statement}
-use Rattle.client.proofs.copy.showable.Tie as tie
+use Rattle.cache.specs.Shown.{shownAt}
+use Rattle.cache.proofs.copy.showable.Statement.{statement}
+use Rattle.cache.proofs.copy.showable.Tie as tie
 
 alive-requires : tie.Need-alive-requires
 alive-requires c κs = search needs
