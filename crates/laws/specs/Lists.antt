@@ -1,28 +1,16 @@
 -- Lists: one element taken out, and what holds of each element.
-use Prim.Native.Nat.{ℕ, zero, suc, _+_, _<_, _≤_}
+use Prim.Native.Nat.{ℕ, zero, suc, _<_}
 use native.Mathlib.Nat.{not-suc-le-zero, le-of-suc-le-suc}
-use native.Mathlib.Numerals.{add-one}
 use native.Mathlib.Omega.{arith}
 use mathlib.Core.List.{List, [], _∷_, _++_}
 use mathlib.Core.Path.{_≡_, refl, ap, _∙_}
-use lib.ListN.{length, getD, set, take, length-append}
+use lib.ListN.{length, getD, length-append}
 
 module _ {ℓ} {A : Type ℓ} where
   unfoldable pub removeAt : List A → ℕ → List A
   removeAt [] i = []
   removeAt (x ∷ l) zero = l
   removeAt (x ∷ l) (suc i) = x ∷ removeAt l i
-
-  step : (d : A) (l : List A) (j : ℕ) → suc j < length l → removeAt (set l j (getD l (suc j) d)) (suc j) ≡ removeAt l j
-  unfolding removeAt
-  step d [] j h = refl
-  step d (x ∷ []) zero h = absurd (omega arith)
-  step d (x ∷ y ∷ l) zero h = refl
-  step d (x ∷ l) (suc j) h = ap (_∷_ x) (step d l j (le-of-suc-le-suc h))
-
-  -- what one turn of the loop that closes the gap does
-  pub remove-step : (d : A) (l : List A) (j : ℕ) → j + 1 < length l → removeAt (set l j (getD l (j + 1) d)) (j + 1) ≡ removeAt l j
-  remove-step d l j h = rw add-one (step d l j (omega arith))
 
   pub length-removed : (l : List A) (i : ℕ) → i < length l → suc (length (removeAt l i)) ≡ length l
   unfolding removeAt
@@ -33,27 +21,6 @@ module _ {ℓ} {A : Type ℓ} where
   -- a removal that fills up at the end keeps the length
   pub length-remove : (b : A) (l : List A) (i : ℕ) → i < length l → length (removeAt l i ++ (b ∷ [])) ≡ length l
   length-remove b l i h = length-append (removeAt l i) (b ∷ []) ∙ omega (arith, length-removed l i h)
-
-  -- the last place is written
-  pub set-last : (b : A) (l : List A) (n : ℕ) → length l ≡ suc n → set l n b ≡ removeAt l n ++ (b ∷ [])
-  unfolding removeAt
-  set-last b [] n h = absurd (omega arith)
-  set-last b (x ∷ []) zero h = refl
-  set-last b (x ∷ y ∷ l) zero h = absurd (omega arith)
-  set-last b (x ∷ l) (suc n) h = ap (_∷_ x) (set-last b l n (omega arith))
-
-  -- a removal in the first n + 1 elements, whatever follows
-  pub take-remove : (l r : List A) (i n : ℕ) → i ≤ n → n < length l → take n (removeAt l i ++ r) ≡ removeAt (take (suc n) l) i
-  unfolding removeAt
-  take-remove [] r i n h k = absurd (omega arith)
-  take-remove (x ∷ l) r zero n h k = take-front l r n (omega arith)
-    where
-      take-front : (l r : List A) (n : ℕ) → n ≤ length l → take n (l ++ r) ≡ take n l
-      take-front l r zero h = refl
-      take-front [] r (suc n) h = absurd (omega arith)
-      take-front (x ∷ l) r (suc n) h = ap (_∷_ x) (take-front l r n (omega arith))
-  take-remove (x ∷ l) r (suc i) zero h k = absurd (omega arith)
-  take-remove (x ∷ l) r (suc i) (suc n) h k = ap (_∷_ x) (take-remove l r i n (omega arith) (omega arith))
 
 -- what holds of each element of a list
 unfoldable pub All {ℓ κ} : {A : Type ℓ} → (A → Type κ) → List A → Type κ

@@ -93,16 +93,9 @@ module _ (p : ℕ → Bool) (N : ℕ) where
   unfolding firstFrom
   first-none j h = rw (left-none N j h)
 
--- Invariants of a loop that has come to j of N: what is left gives, with the answer so far, what the whole loop gives.
--- A scan with `ok` so far; a fold from s₀ with s so far; a search from `from` on.
+-- Invariant of a scan that has come to j of N with `ok` so far: what is left gives, with the answer so far, what the whole loop gives.
 abbrev pub Scanning : (ℕ → Bool) → ℕ → Bool → ℕ → Type 0
 Scanning p N ok j = (j ≤ N) × ((ok && allFrom p j (N - j)) ≡ allFrom p 0 N)
-
-abbrev pub Folding : {S : Type 0} → (S → ℕ → S) → ℕ → S → S → ℕ → Type 0
-Folding f N s₀ s j = (j ≤ N) × (foldFrom f s j (N - j) ≡ foldFrom f s₀ 0 N)
-
-abbrev pub Seeking : (ℕ → Bool) → ℕ → ℕ → ℕ → Type 0
-Seeking p N from j = (from ≤ j) × (j ≤ N) × (firstFrom p j (N - j) ≡ firstFrom p from (N - from))
 
 -- The same laws in the form that `search` applies at a loop's needs: u is what the body's call gave, A what the loop has to come to.
 pub fold-again {ℓ} : {S : Type ℓ} (f : S → ℕ → S) (N j : ℕ) (s u A : S) → j < N → u ≡ f s j → foldFrom f s j (N - j) ≡ A → foldFrom f u (j + 1) (N - (j + 1)) ≡ A

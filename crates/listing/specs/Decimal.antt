@@ -87,7 +87,3 @@ enough (suc most) n h =
 pub read-back : (n : ℕ) → n < tens 20 → readOff (decimal n) ≡ n
 unfolding decimal
 read-back n h = read-digits (width n) n (enough 19 n h)
-
-pub fits-64 : (n : ℕ) → n < 18446744073709551616 → n < tens 20
-unfolding tens
-fits-64 n h = omega arith

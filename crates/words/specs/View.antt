@@ -74,13 +74,7 @@ freshRecords = record { copies = replicate 512 noCopy; requests = replicate 16 f
 abbrev pub requestsOf : List ℕ → List Request
 requestsOf words = recordsOf words [] .requests
 
--- ---- worlds
-
--- all that there is room for
-abbrev pub stateOf : List ℕ → List ℕ → World
-stateOf words values = record { tables = tablesOf words values; copies = recordsOf words values .copies; requests = recordsOf words values .requests }
-
--- a setup's, whose records are the first of those
+-- the world of a setup, whose records are the first of those
 abbrev pub worldOf : Setup → List ℕ → List ℕ → World
 worldOf s words values = record {
   tables = tablesOf words values;
