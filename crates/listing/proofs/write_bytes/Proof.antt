@@ -7,8 +7,6 @@ use lib.Seq.{sets}
 use Rattle.listing.proofs.Laws.{bytes-again, bytes-written}
 use Rattle.listing.proofs.write_bytes.Statement.{statement}
 use Rattle.listing.proofs.write_bytes.Tie as tie
-use Rattle.listing.proofs.write_bytes.Reads as reads
-use Rattle.listing.proofs.write_bytes.Lts as lts
 
 abbrev Inv-loop : tie.InvT-loop
 Inv-loop out₀ at s n i₀ out i = (i ≤ length s) × ((length out ≡ length out₀) × (sets out (at + i) (drop i s) ≡ sets out₀ at s))

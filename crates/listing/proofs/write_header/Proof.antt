@@ -2,9 +2,6 @@ use Rattle.listing.specs.Listing.{header}
 use borrow.Author.Needs.{needs}
 use Rattle.listing.proofs.write_header.Statement.{statement}
 use Rattle.listing.proofs.write_header.Tie as tie
-use Rattle.listing.proofs.write_header.Reads as reads
-use Rattle.listing.proofs.write_header.Lts as lts
-use Rattle.listing.proofs.write_bytes.Reads as write-bytes-reads
 
 slice-aggregate-write-bytes : tie.Need-slice-aggregate-write-bytes
 slice-aggregate-write-bytes c = search needs

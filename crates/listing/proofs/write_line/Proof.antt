@@ -2,11 +2,6 @@ use Rattle.listing.proofs.Laws.{answer-written}
 use borrow.Author.Needs.{needs}
 use Rattle.listing.proofs.write_line.Statement.{statement}
 use Rattle.listing.proofs.write_line.Tie as tie
-use Rattle.listing.proofs.write_line.Reads as reads
-use Rattle.listing.proofs.write_line.Lts as lts
-use Rattle.listing.proofs.answer.number_of.Reads as number-of-reads
-use Rattle.listing.proofs.answer.value_of.Reads as value-of-reads
-use Rattle.listing.proofs.write_numbers.Reads as write-numbers-reads
 
 number-of-requires : tie.Need-number-of-requires
 number-of-requires c κs = search needs

@@ -2,9 +2,6 @@ use Rattle.listing.proofs.Laws.{second-fits, third-fits, line-written}
 use borrow.Author.Needs.{needs}
 use Rattle.listing.proofs.write_numbers.Statement.{statement}
 use Rattle.listing.proofs.write_numbers.Tie as tie
-use Rattle.listing.proofs.write_numbers.Reads as reads
-use Rattle.listing.proofs.write_numbers.Lts as lts
-use Rattle.listing.proofs.number.write_field.Reads as write-field-reads
 
 write-field-requires : tie.Need-write-field-requires
 write-field-requires c κs = search needs

@@ -2,10 +2,6 @@ use Rattle.listing.proofs.Laws.{refused-fits, refused-written}
 use borrow.Author.Needs.{needs}
 use Rattle.listing.proofs.write_refused.Statement.{statement}
 use Rattle.listing.proofs.write_refused.Tie as tie
-use Rattle.listing.proofs.write_refused.Reads as reads
-use Rattle.listing.proofs.write_refused.Lts as lts
-use Rattle.listing.proofs.write_header.Reads as write-header-reads
-use Rattle.listing.proofs.write_numbers.Reads as write-numbers-reads
 
 write-header-requires : tie.Need-write-header-requires
 write-header-requires c κs = search needs

@@ -6,11 +6,6 @@ use mathlib.Core.Path.{sym}
 use lib.ListN.{length-replicate}
 use Rattle.roadrun.proofs.main.Statement.{statement}
 use Rattle.roadrun.proofs.main.Tie as tie
-use Rattle.roadrun.proofs.main.Reads as reads
-use Rattle.roadrun.proofs.main.Lts as lts
-use Rattle.io.proofs.read_full.Reads as read-full-reads
-use Rattle.io.proofs.write_all.Reads as write-all-reads
-use Rattle.roadrun.proofs.print.Reads as print-reads
 
 slice-aggregate-read-full : tie.Need-slice-aggregate-read-full
 slice-aggregate-read-full c = search needs

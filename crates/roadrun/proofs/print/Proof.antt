@@ -2,10 +2,6 @@ use Rattle.roadrun.proofs.Laws.{print-listed, print-refused}
 use borrow.Author.Needs.{needs}
 use Rattle.roadrun.proofs.print.Statement.{statement}
 use Rattle.roadrun.proofs.print.Tie as tie
-use Rattle.roadrun.proofs.print.Reads as reads
-use Rattle.roadrun.proofs.print.Lts as lts
-use Rattle.listing.proofs.write_refused.Reads as write-refused-reads
-use Rattle.run.proofs.list.Reads as list-reads
 
 list-requires : tie.Need-list-requires
 list-requires c κs = search needs

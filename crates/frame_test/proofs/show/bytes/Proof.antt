@@ -3,10 +3,6 @@ use Prim.Native.Nat.{_-_, _≤_}
 use lib.ListN.{length}
 use Rattle.frame_test.proofs.show.bytes.Statement.{statement}
 use Rattle.frame_test.proofs.show.bytes.Tie as tie
-use Rattle.frame_test.proofs.show.bytes.Reads as reads
-use Rattle.frame_test.proofs.show.bytes.Lts as lts
-use Rattle.frame_test.proofs.show.byte.Reads as byte-reads
-use Rattle.io.proofs.write_all.Reads as write-all-reads
 
 abbrev Inv-loop : tie.InvT-loop
 Inv-loop s i₀ t3 i = i ≤ length s

@@ -2,8 +2,6 @@ use borrow.Author.Needs.{needs}
 use Rattle.listing.proofs.Laws.{none-done, some-done}
 use Rattle.listing.proofs.answer.done_or_completed.Statement.{statement}
 use Rattle.listing.proofs.answer.done_or_completed.Tie as tie
-use Rattle.listing.proofs.answer.done_or_completed.Reads as reads
-use Rattle.listing.proofs.answer.done_or_completed.Lts as lts
 
 returns : tie.Need-returns
 returns c = search (none-done, needs)

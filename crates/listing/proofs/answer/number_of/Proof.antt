@@ -2,9 +2,6 @@ use Rattle.listing.proofs.Laws.{completed-number, delivered-number}
 use borrow.Author.Needs.{needs}
 use Rattle.listing.proofs.answer.number_of.Statement.{statement}
 use Rattle.listing.proofs.answer.number_of.Tie as tie
-use Rattle.listing.proofs.answer.number_of.Reads as reads
-use Rattle.listing.proofs.answer.number_of.Lts as lts
-use Rattle.listing.proofs.answer.done_or_completed.Reads as done-or-completed-reads
 
 enum-told : tie.Need-enum-told
 enum-told c = search needs

@@ -5,8 +5,6 @@ use Rattle.listing.specs.Decimal.{further, width}
 use Rattle.listing.proofs.Laws.{digits-stop, digits-again, digits-end}
 use Rattle.listing.proofs.number.width.Statement.{statement}
 use Rattle.listing.proofs.number.width.Tie as tie
-use Rattle.listing.proofs.number.width.Reads as reads
-use Rattle.listing.proofs.number.width.Lts as lts
 
 abbrev Inv-loop : tie.InvT-loop
 Inv-loop x y₀ w₀ y w = (w ≤ 20) × (w + further (20 - w) y ≡ width x)

@@ -3,9 +3,6 @@ use native.Mathlib.Omega.{arith}
 use borrow.Author.Needs.{needs}
 use Rattle.listing.proofs.number.write_field.Statement.{statement}
 use Rattle.listing.proofs.number.write_field.Tie as tie
-use Rattle.listing.proofs.number.write_field.Reads as reads
-use Rattle.listing.proofs.number.write_field.Lts as lts
-use Rattle.listing.proofs.number.write_number.Reads as write-number-reads
 
 write-number-requires : tie.Need-write-number-requires
 write-number-requires c κs = search needs

@@ -8,10 +8,6 @@ use Rattle.listing.specs.Decimal.{digits, further-most}
 use Rattle.listing.proofs.Laws.{digit-again, digits-written}
 use Rattle.listing.proofs.number.write_number.Statement.{statement}
 use Rattle.listing.proofs.number.write_number.Tie as tie
-use Rattle.listing.proofs.number.write_number.Reads as reads
-use Rattle.listing.proofs.number.write_number.Lts as lts
-use Rattle.listing.proofs.number.digit.Reads as digit-reads
-use Rattle.listing.proofs.number.width.Reads as width-reads
 
 abbrev Inv-loop : tie.InvT-loop
 Inv-loop out₀ at x n left₀ y₀ out left y = (left ≤ n) × ((n ≤ 20) × ((length out ≡ length out₀) × (sets out at (digits left y) ≡ sets out₀ at (digits n x))))
