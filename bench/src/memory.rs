@@ -25,13 +25,19 @@ pub fn peak() -> io::Result<u64> {
 pub fn stack(call: impl FnOnce() + Send) -> io::Result<u64> {
     let measured = || {
         let before = resident()?;
-        call();
+        apart(call);
         Ok(resident()? - before)
     };
     thread::scope(|scope| {
         let started = thread::Builder::new().stack_size(4 << 20).spawn_scoped(scope, measured)?;
         started.join().map_err(|_| io::Error::other("the call panicked"))?
     })
+}
+
+/// In a frame of its own, which is not there before the call.
+#[inline(never)]
+fn apart(call: impl FnOnce()) {
+    call();
 }
 
 /// How many KiB of this thread's stack are in memory.
@@ -59,9 +65,11 @@ mod tests {
 
     #[test]
     fn a_buffer_on_the_stack_is_counted() {
-        let measured = stack(|| {
-            black_box([1_u8; 256 << 10]);
-        });
-        assert!((256..300).contains(&measured.unwrap()));
+        let none = stack(|| ()).unwrap();
+        let some = stack(|| {
+            black_box(black_box([1_u8; 256 << 10]).as_slice());
+        })
+        .unwrap();
+        assert!(none < 64 && some >= 256, "{none} and {some} KiB");
     }
 }
