@@ -1,9 +1,12 @@
-// Reads a run file on standard input and prints its listing (01, "Frame, run file and listing").
+// Reads a run file on standard input and prints its listing (01, "Frame, run file and listing"). A program has no exit status: a read or a write that
+// fails is told on standard error.
+mod input;
+
 ghost use Prim.Native.Nat.{_≤_};
 ghost use lib.ListN.{length};
 ghost use Rattle.listing.specs.Written.{Written};
 ghost use Rattle.roadrun.specs.Printed.{printed};
-use libc::STDIN_FILENO;
+use input::Input;
 use libc::STDOUT_FILENO;
 use run::Listed;
 
@@ -18,11 +21,17 @@ fn print(file: &[u8], out: &mut [u8]) -> usize
     }
 }
 
-// A file that is longer than a run file can be is refused all the same when one byte more is read than fits.
+// A file that is longer than a run file can be is refused all the same when one byte more is read than fits. Of a file that could not be read to its end
+// nothing is printed: the listing of a part would pass for that of the file.
 fn main() {
     let mut file = [0u8; 65537];
-    let n = io::read_full(STDIN_FILENO, &mut file);
+    let Input::Read(n) = input::read(&mut file) else {
+        os::fail(b"roadrun: cannot read standard input");
+        return;
+    };
     let mut out = [0u8; 112640];
     let m = print(&file[..n], &mut out);
-    io::write_all(STDOUT_FILENO, &out[..m]);
+    if !io::write_all(STDOUT_FILENO, &out[..m]) {
+        os::fail(b"roadrun: cannot write standard output");
+    }
 }
