@@ -1,19 +1,26 @@
-//! Links the proved static library, which `rt staticlib exports` writes.
+//! Links the proved static library: the archive that `GEVTSOMI_ARCHIVE`
+//! names, or the one that `rt staticlib exports` writes in the repository.
 
 use std::path::PathBuf;
 use std::{env, process};
 
+const VARIABLE: &str = "GEVTSOMI_ARCHIVE";
+const IN_THE_REPOSITORY: &str = "../target/staticlib/libexports.a";
+
 fn main() {
     let package = PathBuf::from(env::var_os("CARGO_MANIFEST_DIR").expect("set by cargo"));
-    let folder = package.join("../target/staticlib");
-    let archive = folder.join("libexports.a");
+    let named = env::var_os(VARIABLE).unwrap_or_else(|| IN_THE_REPOSITORY.into());
+    // A path that is not absolute counts from the package.
+    let archive = package.join(named);
+    println!("cargo:rerun-if-env-changed={VARIABLE}");
     println!("cargo:rerun-if-changed={}", archive.display());
-    if !archive.is_file() {
+    let (true, Some(folder), Some(file)) = (archive.is_file(), archive.parent(), archive.file_name()) else {
         eprintln!(
-            "target/staticlib/libexports.a is not there: run `rt staticlib exports` at the repository's top"
+            "{} is not there: run `rt staticlib exports` at the repository's top, or name the archive in {VARIABLE}",
+            archive.display()
         );
         process::exit(1);
-    }
+    };
     println!("cargo:rustc-link-search=native={}", folder.display());
-    println!("cargo:rustc-link-lib=static=exports");
+    println!("cargo:rustc-link-lib=static:+verbatim={}", file.to_string_lossy());
 }

@@ -1,110 +1,108 @@
-//! Frames, in process: the same bytes and messages as the model's.
+//! Frames: each kind by its bytes, and what is refused.
 
 use gevtsomi::{decode, encode, Kind, Message, Refused, FRAME_BYTES};
-use model::frame as model_frame;
-use model::gen::rng::Rng;
-use model::message as model_message;
 
 const REFUSED: Refused = Refused { number: 8 };
-const MESSAGES: usize = 20_000;
 
-/// The model's message of the same fields.
-fn of_model(message: &Message) -> model_message::Message {
-    let kind = match message.kind {
-        Kind::Renew { object, number, epoch, version } => {
-            model_message::Kind::Renew { object, number, epoch, version }
-        }
-        Kind::Grant { object, number, volume_expiry, epoch, version, object_expiry, value } => {
-            model_message::Kind::Grant(model_message::Grant {
-                object,
-                number,
-                volume_expiry,
-                epoch,
-                version,
-                object_expiry,
-                value,
-            })
-        }
-        Kind::Invalidate { object, epoch, version } => {
-            model_message::Kind::Invalidate { object, epoch, version }
-        }
-        Kind::Ack { object, epoch, version } => model_message::Kind::Ack { object, epoch, version },
-        Kind::Offer { volume, number, epoch } => model_message::Kind::Offer { volume, number, epoch },
-        Kind::Dropped { volume, number, epoch } => model_message::Kind::Dropped { volume, number, epoch },
-    };
-    model_message::Message { client: message.client, kind }
+const GRANT: Kind = Kind::Grant {
+    object: 5,
+    number: 7,
+    volume_expiry: 110,
+    epoch: 1,
+    version: 3,
+    object_expiry: 400,
+    value: Some(u64::MAX - 1),
+};
+
+const KINDS: [Kind; 6] = [
+    Kind::Renew { object: 5, number: u32::MAX, epoch: 1, version: 3 },
+    GRANT,
+    Kind::Invalidate { object: 5, epoch: 1, version: 4 },
+    Kind::Ack { object: 5, epoch: 1, version: 4 },
+    Kind::Offer { volume: 6, number: 7, epoch: 1 },
+    Kind::Dropped { volume: 6, number: 7, epoch: 1 },
+];
+
+/// The same six, laid out as document 01 says: four bytes, five numbers of 4
+/// bytes and the value in 8.
+#[rustfmt::skip]
+const FIELDS: [([u8; 4], [u32; 5], u64); 6] = [
+    ([1, 2, 5, 0], [u32::MAX, 0, 1, 3, 0], 0),
+    ([2, 2, 5, 1], [7, 110, 1, 3, 400], u64::MAX - 1),
+    ([3, 2, 5, 0], [0, 0, 1, 4, 0], 0),
+    ([4, 2, 5, 0], [0, 0, 1, 4, 0], 0),
+    ([5, 2, 6, 0], [7, 0, 1, 0, 0], 0),
+    ([6, 2, 6, 0], [7, 0, 1, 0, 0], 0),
+];
+
+fn messages() -> impl Iterator<Item = Message> {
+    KINDS.into_iter().map(|kind| Message { client: 2, kind })
 }
 
-/// A number of any size, often at an end of its range.
-fn word(rng: &mut Rng) -> u32 {
-    match rng.below(6) {
-        0 => 0,
-        1 => u32::MAX,
-        2 => rng.draw() as u8 as u32,
-        _ => rng.draw() as u32,
-    }
-}
-
-fn message(rng: &mut Rng) -> Message {
-    let item = rng.draw() as u8;
-    let [number, epoch, version, volume_expiry, object_expiry] = [(); 5].map(|()| word(rng));
-    let value = rng.percent(50).then(|| rng.draw() >> rng.pick(&[0, 8, 63]));
-    let kind = match rng.below(6) {
-        0 => Kind::Renew { object: item, number, epoch, version },
-        1 => Kind::Grant { object: item, number, volume_expiry, epoch, version, object_expiry, value },
-        2 => Kind::Invalidate { object: item, epoch, version },
-        3 => Kind::Ack { object: item, epoch, version },
-        4 => Kind::Offer { volume: item, number, epoch },
-        _ => Kind::Dropped { volume: item, number, epoch },
-    };
-    Message { client: rng.draw() as u8, kind }
+fn frames() -> impl Iterator<Item = [u8; FRAME_BYTES]> {
+    FIELDS.into_iter().map(|(head, numbers, value)| {
+        let numbers = numbers.into_iter().flat_map(u32::to_le_bytes);
+        let bytes: Vec<u8> = head.into_iter().chain(numbers).chain(value.to_le_bytes()).collect();
+        bytes.try_into().expect("32 bytes")
+    })
 }
 
 #[test]
-fn there_and_back() {
-    let mut rng = Rng::new(1);
-    for _ in 0..MESSAGES {
-        let message = message(&mut rng);
+fn each_kind_there_and_back() {
+    for (message, frame) in messages().zip(frames()) {
         let mut output = [0xaa; FRAME_BYTES + 4];
         assert_eq!(encode(&message, &mut output), Ok(()));
-        let mut expected = [0xaa; FRAME_BYTES + 4];
-        model_frame::encode(&of_model(&message), &mut expected).expect("room for a frame");
-        assert_eq!(output, expected, "{message:?}");
-        assert_eq!(decode(&output[..FRAME_BYTES]), Ok(message));
+        assert_eq!(output[..FRAME_BYTES], frame, "{message:?}");
+        assert_eq!(output[FRAME_BYTES..], [0xaa; 4], "bytes past the frame stay");
+        assert_eq!(decode(&frame), Ok(message));
     }
+}
+
+#[test]
+fn a_grant_without_value_there_and_back() {
+    let Kind::Grant { object, number, volume_expiry, epoch, version, object_expiry, .. } = GRANT else {
+        unreachable!()
+    };
+    let kind = Kind::Grant { object, number, volume_expiry, epoch, version, object_expiry, value: None };
+    let message = Message { client: 2, kind };
+    let mut output = [0xaa; FRAME_BYTES];
+    assert_eq!(encode(&message, &mut output), Ok(()));
+    assert_eq!(output[3], 0);
+    assert_eq!(output[24..], [0; 8]);
+    assert_eq!(decode(&output), Ok(message));
 }
 
 #[test]
 fn an_output_too_short_stays_as_it_was() {
-    let mut rng = Rng::new(2);
-    for short in 0..FRAME_BYTES {
-        let mut output = vec![0xaa; short];
-        assert_eq!(encode(&message(&mut rng), &mut output), Err(REFUSED));
-        assert!(output.iter().all(|&byte| byte == 0xaa));
-    }
-}
-
-#[test]
-fn any_bytes_are_read_as_the_model_reads_them() {
-    let mut rng = Rng::new(3);
-    for _ in 0..MESSAGES {
-        let mut frame = [0; FRAME_BYTES];
-        encode(&message(&mut rng), &mut frame).expect("room for a frame");
-        for _ in 0..rng.below(3) {
-            frame[rng.below(FRAME_BYTES)] = rng.pick(&[0, 1, 2, 7, 255]);
+    for message in messages() {
+        for short in 0..FRAME_BYTES {
+            let mut output = vec![0xaa; short];
+            assert_eq!(encode(&message, &mut output), Err(REFUSED));
+            assert!(output.iter().all(|&byte| byte == 0xaa));
         }
-        let read = decode(&frame);
-        let expected = model_frame::decode(&frame);
-        assert_eq!(read.map(|message| of_model(&message)), expected.map_err(|number| Refused { number }));
     }
 }
 
 #[test]
 fn another_length_is_refused() {
-    let mut frame = [0; FRAME_BYTES + 1];
-    frame[0] = 4;
-    assert!(decode(&frame[..FRAME_BYTES]).is_ok());
-    for len in (0..FRAME_BYTES).chain([FRAME_BYTES + 1]) {
-        assert_eq!(decode(&frame[..len]), Err(REFUSED), "{len} bytes");
+    for frame in frames() {
+        let longer = [&frame[..], &[0]].concat();
+        for len in (0..FRAME_BYTES).chain([FRAME_BYTES + 1]) {
+            assert_eq!(decode(&longer[..len]), Err(REFUSED), "{len} bytes");
+        }
     }
+}
+
+#[test]
+fn what_is_no_message_is_refused() {
+    for frame in frames() {
+        for (place, byte) in [(0, 0), (0, 7), (3, 2)] {
+            let mut wrong = frame;
+            wrong[place] = byte;
+            assert_eq!(decode(&wrong), Err(REFUSED), "byte {place} is {byte}");
+        }
+    }
+    let mut ack = frames().nth(3).expect("six");
+    ack[4] = 1;
+    assert_eq!(decode(&ack), Err(REFUSED), "an ACK has no number");
 }

@@ -1,98 +1,50 @@
-//! Whole runs, in process: the same listings as the model's.
+//! Whole runs: document 01's example, and what is refused.
 
-use gevtsomi::{list, Refused, LISTING_BYTES};
-use model::examples;
-use model::gen::{damage, runs};
-use model::listing::listing;
-use model::runfile::read;
+use gevtsomi::{list, Refused, FILE_BYTES, LISTING_BYTES};
 
-const SEEDS: [u64; 2] = [1, 2];
-const RUNS: usize = 1_000;
-
-/// What the library writes, and that it writes nothing past that.
-fn listed(file: &[u8]) -> Vec<u8> {
-    let mut output = vec![0xaa; LISTING_BYTES + 16];
-    let len = list(file, &mut output).expect("room for any listing");
-    assert!(output[len..].iter().all(|&byte| byte == 0xaa), "bytes past the listing stay");
-    output.truncate(len);
-    output
-}
+const FILE: &[u8] = include_bytes!("data/document.run");
+const LISTING: &[u8] = include_bytes!("data/document.listing");
 
 #[test]
-fn examples_are_the_models() {
-    for example in examples::all() {
-        let file = example.run.file();
-        assert_eq!(listed(&file), listing(&file), "{}", example.name);
-    }
-}
-
-#[test]
-fn generated_runs_are_the_models() {
-    for seed in SEEDS {
-        for number in 0..RUNS {
-            let file = runs::run(seed, number).file();
-            assert!(listed(&file) == listing(&file), "seed {seed}, run {number}");
-        }
-    }
-}
-
-/// What is no run file is 9, also where the output has no room for a listing.
-#[test]
-fn damaged_files_are_refused_where_the_model_refuses_them() {
-    let mut refused = 0;
-    for seed in SEEDS {
-        for (number, file) in damage::files(seed).iter().enumerate() {
-            let Err(refusal) = read(file) else {
-                assert!(listed(file) == listing(file), "seed {seed}, file {number}");
-                continue;
-            };
-            refused += 1;
-            for room in [0, 18, LISTING_BYTES] {
-                let mut output = vec![0xaa; room];
-                assert_eq!(list(file, &mut output), Err(Refused { number: refusal }));
-                assert!(output.iter().all(|&byte| byte == 0xaa), "seed {seed}, file {number}");
-            }
-        }
-    }
-    assert!(refused > 0);
+fn the_listing_is_the_documents() {
+    let mut output = vec![0xaa; LISTING_BYTES];
+    assert_eq!(list(FILE, &mut output), Ok(LISTING.len()));
+    assert_eq!(output[..LISTING.len()], *LISTING);
+    assert!(output[LISTING.len()..].iter().all(|&byte| byte == 0xaa), "bytes past the listing stay");
 }
 
 #[test]
 fn an_output_of_the_listings_length_is_enough() {
-    let file = runs::run(1, 11).file();
-    let expected = listing(&file);
-    let mut output = vec![0xaa; expected.len()];
-    assert_eq!(list(&file, &mut output), Ok(expected.len()));
-    assert_eq!(output, expected);
+    let mut output = vec![0xaa; LISTING.len()];
+    assert_eq!(list(FILE, &mut output), Ok(LISTING.len()));
+    assert_eq!(output, LISTING);
+}
+
+fn refused(file: &[u8], room: usize, number: u8) {
+    let mut output = vec![0xaa; room];
+    assert_eq!(list(file, &mut output), Err(Refused { number }));
+    assert!(output.iter().all(|&byte| byte == 0xaa), "{room} bytes of output");
 }
 
 #[test]
 fn an_output_too_short_stays_as_it_was() {
-    let file = runs::run(1, 11).file();
-    let len = listing(&file).len();
-    for short in [0, 1, 17, 18, len - 1] {
-        let mut output = vec![0xaa; short];
-        assert_eq!(list(&file, &mut output), Err(Refused { number: 8 }));
-        assert!(output.iter().all(|&byte| byte == 0xaa), "{short} bytes");
+    for short in [0, 1, 17, 18, LISTING.len() - 1] {
+        refused(FILE, short, 8);
     }
 }
 
-/// The longest lines that a run can have: 4,000 times 20 digits shown.
+/// Also where the output has no room for a listing.
 #[test]
-fn the_longest_listing_fits() {
-    use model::gen::setups::sized;
-    use model::step_record::Step;
-    use model::write_runfile::write;
-
-    let mut steps = vec![Step::write(0, u64::MAX)];
-    for _ in 0..2 {
-        steps.extend([Step::ask(0, 0), Step::deliver(0), Step::deliver(0)]);
-        steps.push(Step::deliver(0));
+fn what_is_no_run_file_is_refused() {
+    let mut too_long = vec![0; FILE_BYTES + 1 - FILE.len()];
+    too_long.extend(FILE);
+    for file in [&[], &FILE[1..], &FILE[..FILE.len() - 1], &too_long] {
+        for room in [0, LISTING_BYTES] {
+            refused(file, room, 9);
+        }
     }
-    steps.resize(4_000, Step::read(0, 0));
-    let file = write(&[], &sized(1, 1, 1), &steps);
-    let lines = listed(&file);
-    assert!(lines == listing(&file));
-    assert!(lines.ends_with(b"4000 1 18446744073709551615\n"));
-    assert!(lines.len() <= LISTING_BYTES);
+    assert!(
+        list(&too_long[1..], &mut [0; LISTING_BYTES]).is_ok(),
+        "a note may be as long as the file has room"
+    );
 }

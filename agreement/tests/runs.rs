@@ -1,0 +1,89 @@
+//! Whole runs, in process: the same listings as the model's.
+
+use gevtsomi::{list, Refused, LISTING_BYTES};
+use model::examples;
+use model::gen::{damage, runs};
+use model::listing::listing;
+use model::runfile::read;
+
+const SEEDS: [u64; 2] = [1, 2];
+const RUNS: usize = 1_000;
+
+/// What the library writes, and that it writes nothing past that.
+fn listed(file: &[u8]) -> Vec<u8> {
+    let mut output = vec![0xaa; LISTING_BYTES + 16];
+    let len = list(file, &mut output).expect("room for any listing");
+    assert!(output[len..].iter().all(|&byte| byte == 0xaa), "bytes past the listing stay");
+    output.truncate(len);
+    output
+}
+
+#[test]
+fn examples_are_the_models() {
+    for example in examples::all() {
+        let file = example.run.file();
+        assert_eq!(listed(&file), listing(&file), "{}", example.name);
+    }
+}
+
+/// The library's package has a copy of one of them, so that it can be tested
+/// where there is no model.
+#[test]
+fn the_librarys_copy_is_the_document() {
+    let document = &examples::all()[0];
+    let file = document.run.file();
+    assert_eq!(document.name, "0-document");
+    assert_eq!(include_bytes!("../../library/tests/data/document.run")[..], file);
+    assert_eq!(include_bytes!("../../library/tests/data/document.listing")[..], listing(&file));
+}
+
+#[test]
+fn generated_runs_are_the_models() {
+    for seed in SEEDS {
+        for number in 0..RUNS {
+            let file = runs::run(seed, number).file();
+            assert!(listed(&file) == listing(&file), "seed {seed}, run {number}");
+        }
+    }
+}
+
+/// What is no run file is 9, also where the output has no room for a listing.
+#[test]
+fn damaged_files_are_refused_where_the_model_refuses_them() {
+    let mut refused = 0;
+    for seed in SEEDS {
+        for (number, file) in damage::files(seed).iter().enumerate() {
+            let Err(refusal) = read(file) else {
+                assert!(listed(file) == listing(file), "seed {seed}, file {number}");
+                continue;
+            };
+            refused += 1;
+            for room in [0, 18, LISTING_BYTES] {
+                let mut output = vec![0xaa; room];
+                assert_eq!(list(file, &mut output), Err(Refused { number: refusal }));
+                assert!(output.iter().all(|&byte| byte == 0xaa), "seed {seed}, file {number}");
+            }
+        }
+    }
+    assert!(refused > 0);
+}
+
+/// The longest lines that a run can have: 4,000 times 20 digits shown.
+#[test]
+fn the_longest_listing_fits() {
+    use model::gen::setups::sized;
+    use model::step_record::Step;
+    use model::write_runfile::write;
+
+    let mut steps = vec![Step::write(0, u64::MAX)];
+    for _ in 0..2 {
+        steps.extend([Step::ask(0, 0), Step::deliver(0), Step::deliver(0)]);
+        steps.push(Step::deliver(0));
+    }
+    steps.resize(4_000, Step::read(0, 0));
+    let file = write(&[], &sized(1, 1, 1), &steps);
+    let lines = listed(&file);
+    assert!(lines == listing(&file));
+    assert!(lines.ends_with(b"4000 1 18446744073709551615\n"));
+    assert!(lines.len() <= LISTING_BYTES);
+}
