@@ -15,7 +15,7 @@ mod run;
 
 pub use frame::{decode, encode, FRAME_BYTES};
 pub use message::{Kind, Message};
-pub use run::{list, FILE_BYTES, LISTING_BYTES};
+pub use run::{list, FILE_BYTES, LISTING_BYTES, LIST_STACK_BYTES};
 
 /// A call was refused; it changed nothing.
 #[derive(Clone, Copy, Debug, PartialEq, Eq)]

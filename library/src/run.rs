@@ -8,6 +8,9 @@ pub const FILE_BYTES: usize = 65_536;
 /// Room for the listing of any run file.
 pub const LISTING_BYTES: usize = 112_640;
 
+/// The stack that [`list`] needs at the most.
+pub const LIST_STACK_BYTES: usize = 147_456;
+
 /// Writes the listing of a run file to the start of `output` and gives its
 /// length. The bytes of `output` past the listing keep what they held.
 ///

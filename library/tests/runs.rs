@@ -1,6 +1,8 @@
 //! Whole runs: document 01's example, and what is refused.
 
-use gevtsomi::{list, Refused, FILE_BYTES, LISTING_BYTES};
+use std::thread;
+
+use gevtsomi::{list, Refused, FILE_BYTES, LISTING_BYTES, LIST_STACK_BYTES};
 
 const FILE: &[u8] = include_bytes!("data/document.run");
 const LISTING: &[u8] = include_bytes!("data/document.listing");
@@ -47,4 +49,15 @@ fn what_is_no_run_file_is_refused() {
         list(&too_long[1..], &mut [0; LISTING_BYTES]).is_ok(),
         "a note may be as long as the file has room"
     );
+}
+
+/// On a thread that has no more, and needs some of it for itself.
+#[test]
+fn the_stack_that_is_named_is_enough() {
+    let mut output = vec![0; LISTING_BYTES];
+    thread::scope(|scope| {
+        let thread = thread::Builder::new().stack_size(LIST_STACK_BYTES);
+        let listing = thread.spawn_scoped(scope, || list(FILE, &mut output)).expect("a thread");
+        assert_eq!(listing.join().expect("no panic"), Ok(LISTING.len()));
+    });
 }
