@@ -22,7 +22,6 @@ use queue::list;
 use server::restart;
 use words::Values;
 use words::Words;
-use writes::accept;
 use writes::settle;
 
 // What becomes of the client's records, and the answer.

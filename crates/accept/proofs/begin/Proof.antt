@@ -2,10 +2,10 @@ use native.Mathlib.Omega.{arith}
 use mathlib.Core.Path.{refl}
 use Rattle.protocol.specs.Ranges.{ranges}
 use Rattle.words.specs.Reads.{clock-word}
-use Rattle.writes.proofs.Accepting.{begins}
+use Rattle.accept.proofs.Accepting.{begins}
 use borrow.Author.Needs.{needs}
-use Rattle.writes.proofs.accept.begin.Statement.{statement}
-use Rattle.writes.proofs.accept.begin.Tie as tie
+use Rattle.accept.proofs.begin.Statement.{statement}
+use Rattle.accept.proofs.begin.Tie as tie
 
 volume-of-requires : tie.Need-volume-of-requires
 volume-of-requires c κs = search needs

@@ -1,4 +1,4 @@
-// Step 4: accepting a write.
+// A write accepted at the server (01, "Steps" 4): it stands, each INVALIDATE is sent, and it may complete.
 ghost use mathlib.Core.Path.{_≡_};
 ghost use mathlib.Core.Bool.{true};
 ghost use Prim.Native.Nat.{_≤_, _<_};
@@ -6,8 +6,7 @@ ghost use Rattle.protocol.specs.Setup.{inRange};
 ghost use Rattle.protocol.specs.Tables.{versionAt, withQueue};
 ghost use Rattle.protocol.specs.Writes.{begun, notified, writeStaged, settled};
 ghost use Rattle.words.specs.View.{tablesOf, recordsOf};
-ghost use Rattle.writes.specs.Invalidates.{invalidated};
-use crate::complete;
+ghost use Rattle.accept.specs.Invalidates.{invalidated};
 use leases::place;
 use leases::time;
 use protocol::message::Kind;
@@ -19,6 +18,7 @@ use words::Values;
 use words::Words;
 use words::network;
 use words::server;
+use writes::complete;
 
 // The write of `value` stands, with its latest end and whom it waits for.
 fn begin(s: Setup, words: &mut Words, values: &mut Values, object: usize, value: u64)

@@ -23,7 +23,7 @@ use Rattle.words.specs.Fields.{wordLengths, valueLengths, at, atValue, CLOCK, V
 use Rattle.words.specs.View.{tablesOf, recordsOf}
 use Rattle.waiting.specs.Triggers.{oneStaged}
 use Rattle.waiting.specs.Waiting.{waitingFor, waitingIn, waitsIn}
-use Rattle.writes.specs.Invalidates.{notifyOne, invalidated}
+use Rattle.accept.specs.Invalidates.{notifyOne, invalidated}
 
 -- ---- the write stands
 

@@ -1,7 +1,7 @@
-use Rattle.writes.proofs.Accepting.{begun-version, sent-version, accepts}
+use Rattle.accept.proofs.Accepting.{begun-version, sent-version, accepts}
 use borrow.Author.Needs.{needs}
-use Rattle.writes.proofs.accept.accept_write.Statement.{statement}
-use Rattle.writes.proofs.accept.accept_write.Tie as tie
+use Rattle.accept.proofs.accept_write.Statement.{statement}
+use Rattle.accept.proofs.accept_write.Tie as tie
 
 begin-requires : tie.Need-begin-requires
 begin-requires c κs = search needs
