@@ -19,7 +19,6 @@ use protocol::step::Step;
 use protocol::step::Sweep;
 use protocol::step::Turn;
 use queue::list;
-use server::restart;
 use words::Values;
 use words::Words;
 use writes::settle;

@@ -14,7 +14,7 @@ use Rattle.protocol.specs.declared.setup.Setup.{Setup}
 use Rattle.protocol.specs.Server.{serverRestarted}
 use Rattle.words.specs.Fields.{wordLengths, valueLengths, at, atValue, WORDS, VALUES, VOLUME-EPOCH, VOLUME-EXPIRY, GUARD, SEEN, SESSION-EXPIRY, UNREACHABLE, OFFER, OBJECT-EXPIRY, STANDING, END, LEASE, WAITING, PENDING}
 use Rattle.words.specs.View.{tablesOf, numbersOf, recordsOf}
-use Rattle.server.specs.Restart.{EpochsGrow, sessionsCleared, objectsCleared, holdersCleared}
+use Rattle.restart.specs.Restart.{EpochsGrow, sessionsCleared, objectsCleared, holdersCleared}
 
 -- ---- the bound on an epoch
 

@@ -6,10 +6,10 @@ use Rattle.laws.specs.Loop.{foldFrom, fold-end}
 use Rattle.laws.specs.Parts.{parts, Only, only-start, only-set}
 use Rattle.laws.specs.Store.{storeAt, storeEach, always}
 use Rattle.words.specs.Fields.{wordLengths, at, VOLUME-EXPIRY, GUARD}
-use Rattle.server.proofs.Restarting.{guard-again}
+use Rattle.restart.proofs.Restarting.{guard-again}
 use borrow.Author.Needs.{needs}
-use Rattle.server.proofs.restart.guard_expiries.Statement.{statement}
-use Rattle.server.proofs.restart.guard_expiries.Tie as tie
+use Rattle.restart.proofs.guard_expiries.Statement.{statement}
+use Rattle.restart.proofs.guard_expiries.Tie as tie
 
 abbrev Inv-loop : tie.InvT-loop
 Inv-loop words₀ v₀ words v = (v ≤ 8) × (Only wordLengths GUARD words₀ words × (foldFrom (storeAt always (λ (v : ℕ). at GUARD + v) (λ (v : ℕ). getD (parts wordLengths words₀ VOLUME-EXPIRY) v 0)) words v (8 - v) ≡ foldFrom (storeAt always (λ (v : ℕ). at GUARD + v) (λ (v : ℕ). getD (parts wordLengths words₀ VOLUME-EXPIRY) v 0)) words₀ 0 8))

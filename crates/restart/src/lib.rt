@@ -1,3 +1,4 @@
+// The server's restart (01, "Steps" 8).
 ghost use mathlib.Core.Path.{_≡_};
 ghost use mathlib.Core.Bool.{true};
 ghost use Prim.Native.Nat.{ℕ, _+_, _≤_, _<_};
@@ -8,7 +9,7 @@ ghost use Rattle.protocol.specs.Setup.{inRange};
 ghost use Rattle.protocol.specs.Server.{serverRestarted};
 ghost use Rattle.words.specs.Fields.{wordLengths, at, VOLUME-EPOCH, VOLUME-EXPIRY, GUARD};
 ghost use Rattle.words.specs.View.{tablesOf, numbersOf, recordsOf};
-ghost use Rattle.server.specs.Restart.{EpochsGrow, sessionsCleared, objectsCleared, holdersCleared};
+ghost use Rattle.restart.specs.Restart.{EpochsGrow, sessionsCleared, objectsCleared, holdersCleared};
 use protocol::setup::Setup;
 use words::Values;
 use words::Words;

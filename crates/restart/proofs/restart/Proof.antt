@@ -1,9 +1,9 @@
 use mathlib.Core.Path.{refl}
 use Rattle.protocol.specs.Ranges.{ranges}
-use Rattle.server.proofs.Restarting.{epochs-numbers, restarts}
+use Rattle.restart.proofs.Restarting.{epochs-numbers, restarts}
 use borrow.Author.Needs.{needs}
-use Rattle.server.proofs.restart.restart.Statement.{statement}
-use Rattle.server.proofs.restart.restart.Tie as tie
+use Rattle.restart.proofs.restart.Statement.{statement}
+use Rattle.restart.proofs.restart.Tie as tie
 
 sized-requires : tie.Need-sized-requires
 sized-requires c κs = search needs

@@ -8,10 +8,10 @@ use Rattle.laws.specs.Parts.{parts}
 use Rattle.laws.specs.Shift.{Above}
 use Rattle.laws.specs.Store.{storeAt, storeEach, always}
 use Rattle.words.specs.Fields.{wordLengths, at, VOLUME-EPOCH}
-use Rattle.server.proofs.Restarting.{epoch-grows, grow-keeps, grow-again}
+use Rattle.restart.proofs.Restarting.{epoch-grows, grow-keeps, grow-again}
 use borrow.Author.Needs.{needs}
-use Rattle.server.proofs.restart.grow_epochs.Statement.{statement}
-use Rattle.server.proofs.restart.grow_epochs.Tie as tie
+use Rattle.restart.proofs.grow_epochs.Statement.{statement}
+use Rattle.restart.proofs.grow_epochs.Tie as tie
 
 abbrev Inv-loop : tie.InvT-loop
 Inv-loop words₀ n v₀ words v = (v ≤ n) × (Above words₀ words (at VOLUME-EPOCH + v) × (foldFrom (storeAt always (λ (v : ℕ). at VOLUME-EPOCH + v) (λ (v : ℕ). getD (parts wordLengths words₀ VOLUME-EPOCH) v 0 + 1)) words v (n - v) ≡ foldFrom (storeAt always (λ (v : ℕ). at VOLUME-EPOCH + v) (λ (v : ℕ). getD (parts wordLengths words₀ VOLUME-EPOCH) v 0 + 1)) words₀ 0 n))
