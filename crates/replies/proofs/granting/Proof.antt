@@ -1,10 +1,10 @@
 use native.Mathlib.Omega.{arith}
 use Rattle.protocol.specs.Ranges.{ranges}
 use Rattle.words.specs.Reads.{clock-word}
-use Rattle.renewals.proofs.Answers.{sends-grant}
+use Rattle.replies.proofs.Replies.{sends-grant}
 use borrow.Author.Needs.{needs}
-use Rattle.renewals.proofs.answer.granting.Statement.{statement}
-use Rattle.renewals.proofs.answer.granting.Tie as tie
+use Rattle.replies.proofs.granting.Statement.{statement}
+use Rattle.replies.proofs.granting.Tie as tie
 
 volume-of-requires : tie.Need-volume-of-requires
 volume-of-requires c κs = search needs

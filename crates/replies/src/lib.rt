@@ -1,4 +1,6 @@
-// The messages that a RENEW is answered with.
+// The messages that a RENEW is answered with (01, "Messages received"), and the object that an INVALIDATE is resent for.
+pub mod lowest;
+
 ghost use mathlib.Core.Path.{_≡_};
 ghost use mathlib.Core.Bool.{true};
 ghost use Prim.Native.Nat.{_≤_, _<_};

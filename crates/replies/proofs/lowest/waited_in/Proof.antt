@@ -1,8 +1,8 @@
 use native.Mathlib.Omega.{arith}
-use Rattle.renewals.proofs.Answers.{waits-in}
+use Rattle.replies.proofs.Replies.{waits-in}
 use borrow.Author.Needs.{needs}
-use Rattle.renewals.proofs.lowest.waited_in.Statement.{statement}
-use Rattle.renewals.proofs.lowest.waited_in.Tie as tie
+use Rattle.replies.proofs.lowest.waited_in.Statement.{statement}
+use Rattle.replies.proofs.lowest.waited_in.Tie as tie
 
 volume-of-requires : tie.Need-volume-of-requires
 volume-of-requires c κs = search needs

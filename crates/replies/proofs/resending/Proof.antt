@@ -1,10 +1,10 @@
 use native.Mathlib.Omega.{arith}
 use mathlib.Core.List.{[]}
 use Rattle.words.specs.Reads.{version-word}
-use Rattle.renewals.proofs.Answers.{resends}
+use Rattle.replies.proofs.Replies.{resends}
 use borrow.Author.Needs.{needs}
-use Rattle.renewals.proofs.answer.resending.Statement.{statement}
-use Rattle.renewals.proofs.answer.resending.Tie as tie
+use Rattle.replies.proofs.resending.Statement.{statement}
+use Rattle.replies.proofs.resending.Tie as tie
 
 volume-of-requires : tie.Need-volume-of-requires
 volume-of-requires c κs = search needs

@@ -1,7 +1,7 @@
-use Rattle.renewals.proofs.Answers.{sends-offer}
+use Rattle.replies.proofs.Replies.{sends-offer}
 use borrow.Author.Needs.{needs}
-use Rattle.renewals.proofs.answer.offering.Statement.{statement}
-use Rattle.renewals.proofs.answer.offering.Tie as tie
+use Rattle.replies.proofs.offering.Statement.{statement}
+use Rattle.replies.proofs.offering.Tie as tie
 
 cast-t5 : tie.Need-cast-t5
 cast-t5 c = search needs

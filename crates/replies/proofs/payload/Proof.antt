@@ -1,7 +1,7 @@
-use Rattle.renewals.proofs.Answers.{pays-same, pays-value}
+use Rattle.replies.proofs.Replies.{pays-same, pays-value}
 use borrow.Author.Needs.{needs}
-use Rattle.renewals.proofs.answer.payload.Statement.{statement}
-use Rattle.renewals.proofs.answer.payload.Tie as tie
+use Rattle.replies.proofs.payload.Statement.{statement}
+use Rattle.replies.proofs.payload.Tie as tie
 
 add-if1 : tie.Need-add-if1
 add-if1 c = search needs

@@ -5,8 +5,8 @@ use Rattle.laws.specs.Loop.{firstFrom, first-again, first-end, first-stop}
 use Rattle.protocol.specs.Server.{waitedIn, lowestWaited}
 use Rattle.words.specs.View.{numbersOf}
 use borrow.Author.Needs.{needs}
-use Rattle.renewals.proofs.lowest.lowest_waited.Statement.{statement}
-use Rattle.renewals.proofs.lowest.lowest_waited.Tie as tie
+use Rattle.replies.proofs.lowest.lowest_waited.Statement.{statement}
+use Rattle.replies.proofs.lowest.lowest_waited.Tie as tie
 
 abbrev Inv-loop : tie.InvT-loop
 Inv-loop s words client volume n object₀ object = (object ≤ s .objects) × (firstFrom (waitedIn s (numbersOf words) client volume) object (s .objects - object) ≡ firstFrom (waitedIn s (numbersOf words) client volume) 0 (s .objects))
