@@ -1,7 +1,7 @@
-use Rattle.stored.proofs.Changing.{client-there, request-inside, request-past}
+use Rattle.change.proofs.Changing.{client-there, request-inside, request-past}
 use borrow.Author.Needs.{needs}
-use Rattle.stored.proofs.change.request_of.Statement.{statement}
-use Rattle.stored.proofs.change.request_of.Tie as tie
+use Rattle.change.proofs.request_of.Statement.{statement}
+use Rattle.change.proofs.request_of.Tie as tie
 
 cast-if1 : tie.Need-cast-if1
 cast-if1 c = search needs

@@ -1,7 +1,7 @@
-use Rattle.stored.proofs.Changing.{still-turns, changes}
+use Rattle.change.proofs.Changing.{still-turns, changes}
 use borrow.Author.Needs.{needs}
-use Rattle.stored.proofs.change.change.Statement.{statement}
-use Rattle.stored.proofs.change.change.Tie as tie
+use Rattle.change.proofs.change.Statement.{statement}
+use Rattle.change.proofs.change.Tie as tie
 
 change-copy-requires : tie.Need-change-copy-requires
 change-copy-requires c κs = search needs

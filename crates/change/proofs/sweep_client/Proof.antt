@@ -1,7 +1,7 @@
-use Rattle.stored.proofs.Changing.{own-there, sweep-own, sweep-past}
+use Rattle.change.proofs.Changing.{own-there, sweep-own, sweep-past}
 use borrow.Author.Needs.{needs}
-use Rattle.stored.proofs.change.sweep_client.Statement.{statement}
-use Rattle.stored.proofs.change.sweep_client.Tie as tie
+use Rattle.change.proofs.sweep_client.Statement.{statement}
+use Rattle.change.proofs.sweep_client.Tie as tie
 
 cast-if1 : tie.Need-cast-if1
 cast-if1 c = search needs

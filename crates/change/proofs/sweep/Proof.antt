@@ -1,7 +1,7 @@
-use Rattle.stored.proofs.Changing.{sweep-kept, sweep-expired, sweep-erased}
+use Rattle.change.proofs.Changing.{sweep-kept, sweep-expired, sweep-erased}
 use borrow.Author.Needs.{needs}
-use Rattle.stored.proofs.change.sweep.Statement.{statement}
-use Rattle.stored.proofs.change.sweep.Tie as tie
+use Rattle.change.proofs.sweep.Statement.{statement}
+use Rattle.change.proofs.sweep.Tie as tie
 
 enum-told : tie.Need-enum-told
 enum-told c = search needs

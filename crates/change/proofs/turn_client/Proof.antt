@@ -1,7 +1,7 @@
-use Rattle.stored.proofs.Changing.{client-there, can-turn, turn-inside, turn-past}
+use Rattle.change.proofs.Changing.{client-there, can-turn, turn-inside, turn-past}
 use borrow.Author.Needs.{needs}
-use Rattle.stored.proofs.change.turn_client.Statement.{statement}
-use Rattle.stored.proofs.change.turn_client.Tie as tie
+use Rattle.change.proofs.turn_client.Statement.{statement}
+use Rattle.change.proofs.turn_client.Tie as tie
 
 cast-if1 : tie.Need-cast-if1
 cast-if1 c = search needs

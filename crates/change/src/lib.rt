@@ -1,4 +1,4 @@
-// The records that a step can touch, and what a decision makes of them. A place that the setup has not holds no record, and nothing is stored there.
+// The clients' records in the words that a step can touch, and what a decision makes of them. A place that the setup has not holds no record, and nothing is stored there.
 ghost use mathlib.Core.Bool.{true};
 ghost use mathlib.Core.Path.{_≡_};
 ghost use Prim.Native.Nat.{_*_};
@@ -7,9 +7,7 @@ ghost use Rattle.protocol.specs.Setup.{inRange};
 ghost use Rattle.protocol.specs.Tables.{noCopy, noRequest};
 ghost use Rattle.protocol.specs.Client.{sweeps, CanTurn};
 ghost use Rattle.words.specs.View.{worldOf};
-ghost use Rattle.stored.specs.Stores.{copyPut, copyChanged, sweptOf, requestTurned, changedAt};
-use crate::copies;
-use crate::requests;
+ghost use Rattle.change.specs.Changes.{copyPut, copyChanged, sweptOf, requestTurned, changedAt};
 use cache::copy;
 use cache::request;
 use protocol::records::Copy;
@@ -20,6 +18,8 @@ use protocol::step::CopyChange;
 use protocol::step::Sweep;
 use protocol::step::Target;
 use protocol::step::Turn;
+use stored::copies;
+use stored::requests;
 use words::Values;
 use words::Words;
 

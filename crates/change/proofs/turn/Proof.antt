@@ -1,7 +1,7 @@
-use Rattle.stored.proofs.Changing.{turn-kept}
+use Rattle.change.proofs.Changing.{turn-kept}
 use borrow.Author.Needs.{needs}
-use Rattle.stored.proofs.change.turn.Statement.{statement}
-use Rattle.stored.proofs.change.turn.Tie as tie
+use Rattle.change.proofs.turn.Statement.{statement}
+use Rattle.change.proofs.turn.Tie as tie
 
 enum-told : tie.Need-enum-told
 enum-told c = search needs

@@ -1,7 +1,7 @@
-use Rattle.stored.proofs.Changing.{copy-kept, copy-filled, copy-erased}
+use Rattle.change.proofs.Changing.{copy-kept, copy-filled, copy-erased}
 use borrow.Author.Needs.{needs}
-use Rattle.stored.proofs.change.change_copy.Statement.{statement}
-use Rattle.stored.proofs.change.change_copy.Tie as tie
+use Rattle.change.proofs.change_copy.Statement.{statement}
+use Rattle.change.proofs.change_copy.Tie as tie
 
 enum-told : tie.Need-enum-told
 enum-told c = search needs

@@ -1,9 +1,9 @@
 use native.Mathlib.Omega.{arith}
 use Rattle.words.specs.Worlds.{few-copies}
-use Rattle.stored.proofs.Changing.{copy-there, copy-inside, copy-past}
+use Rattle.change.proofs.Changing.{copy-there, copy-inside, copy-past}
 use borrow.Author.Needs.{needs}
-use Rattle.stored.proofs.change.copy_of.Statement.{statement}
-use Rattle.stored.proofs.change.copy_of.Tie as tie
+use Rattle.change.proofs.copy_of.Statement.{statement}
+use Rattle.change.proofs.copy_of.Tie as tie
 
 cast-if1 : tie.Need-cast-if1
 cast-if1 c = search needs

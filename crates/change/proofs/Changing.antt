@@ -27,8 +27,9 @@ use Rattle.protocol.specs.Client.{CanTurn, turned, swept, sweeps, sweepAt, swep
 use Rattle.protocol.specs.World.{World}
 use Rattle.words.specs.View.{tablesOf, recordsOf, requestsOf, worldOf}
 use Rattle.words.specs.Worlds.{few-copies}
-use Rattle.stored.specs.Stores.{RequestPut, withCopy, sweptOver, copyPut, copyChanged, sweptOf, requestTurned, changedAt}
-use Rattle.stored.proofs.Reading.{request-stored}
+use Rattle.stored.specs.Stores.{RequestPut, withCopy, sweptOver}
+use Rattle.change.specs.Changes.{copyPut, copyChanged, sweptOf, requestTurned, changedAt}
+use Rattle.change.proofs.Requests.{request-stored}
 
 -- the setup's records are among those that there is room for
 module _ (s : Setup) (i : inRange s ≡ true) where
