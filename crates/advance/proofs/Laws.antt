@@ -28,7 +28,7 @@ use Rattle.protocol.specs.World.{World, target, decision, stepped, answerOf}
 use Rattle.protocol.specs.Soundness.Numbering.{performed-turns}
 use Rattle.protocol.specs.Soundness.Question.{SoundWorld, sounds}
 use Rattle.protocol.specs.Soundness.StepCases as cases
-use Rattle.stored.specs.Stores.{changedAt}
+use Rattle.change.specs.Changes.{changedAt}
 use Rattle.words.specs.View.{tablesOf, recordsOf, worldOf}
 
 first-place : (s : Setup) (t : Tables) (x : Step) → target s t x .first ≡ target s t x .client * s .objects

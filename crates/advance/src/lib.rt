@@ -10,7 +10,6 @@ use decide::target::target;
 use protocol::setup::Setup;
 use protocol::step::Answer;
 use protocol::step::Step;
-use stored::change;
 use words::Values;
 use words::Words;
 

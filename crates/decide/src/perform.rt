@@ -19,10 +19,8 @@ use protocol::step::Step;
 use protocol::step::Sweep;
 use protocol::step::Turn;
 use queue::list;
-use server::restart;
 use words::Values;
 use words::Words;
-use writes::accept;
 use writes::settle;
 
 // What becomes of the client's records, and the answer.

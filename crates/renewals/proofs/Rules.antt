@@ -19,7 +19,7 @@ use Rattle.protocol.specs.Server.{sent, noted, offered, offering, lowestWaited,
 use Rattle.leases.specs.Parts.{Placed}
 use Rattle.words.specs.Fields.{wordLengths, at, CLOCK, VOLUME-EXPIRY, SEEN, SESSION-EXPIRY, UNREACHABLE, OFFER, OBJECT-EXPIRY, LEASE}
 use Rattle.words.specs.View.{tablesOf, numbersOf, recordsOf}
-use Rattle.renewals.proofs.Answers.{drop-same, lowest-same, offering-same, resending-same}
+use Rattle.renewals.proofs.Reading.{drop-same, lowest-same, offering-same, resending-same}
 
 -- ---- what is stored; then a message m is sent, which leaves u and y
 

@@ -5,11 +5,10 @@ ghost use Rattle.protocol.specs.Setup.{inRange};
 ghost use Rattle.protocol.specs.SoundLaws.{Growing};
 ghost use Rattle.protocol.specs.Server.{sent, mustDrop, offered, offering, granted, renewedBy, renewed};
 ghost use Rattle.words.specs.View.{tablesOf, numbersOf, recordsOf};
-use crate::answer;
-use crate::lowest;
 use leases::place;
 use protocol::setup::Setup;
 use queue::list;
+use replies::lowest;
 use words::Values;
 use words::Words;
 use words::network;
@@ -32,7 +31,7 @@ fn offer(words: &mut Words, values: &mut Values, client: usize, volume: usize, n
     ensures { λ _. ⌜ tablesOf (now (words .exit)) (now (values .exit)) ≡ sent (offered (tablesOf (now (words .entry)) (now (values .entry))) client volume number) (offering (tablesOf (now (words .entry)) (now (values .entry))) client volume number) ⌝ }
     ensures { λ _. ⌜ recordsOf (now (words .exit)) (now (values .exit)) ≡ recordsOf (now (words .entry)) (now (values .entry)) ⌝ }
 {
-    let message = answer::offering(&*words, client, volume, number);
+    let message = replies::offering(&*words, client, volume, number);
     words[server::UNREACHABLE + (client * 8 + volume)] = 1;
     words[server::OFFER + (client * 8 + volume)] = number;
     list::push(&mut *words, &mut *values, message);
@@ -56,7 +55,7 @@ fn grant(
     ensures { λ _. ⌜ recordsOf (now (words .exit)) (now (values .exit)) ≡ recordsOf (now (words .entry)) (now (values .entry)) ⌝ }
 {
     let volume = place::volume_of(s, object);
-    let message = answer::granting(s, &*words, &*values, client, object, number, held);
+    let message = replies::granting(s, &*words, &*values, client, object, number, held);
     let volume_expiry = words[network::CLOCK] + s.tv;
     let object_expiry = words[network::CLOCK] + s.t;
     words[server::VOLUME_EXPIRY + volume] = volume_expiry;
@@ -92,7 +91,7 @@ fn renew_by(
     }
     let low = lowest::lowest_waited(s, &*words, client, volume);
     if low < s.objects as usize {
-        let message = answer::resending(s, &*words, client, low);
+        let message = replies::resending(s, &*words, client, low);
         list::push(&mut *words, &mut *values, message);
         return;
     }

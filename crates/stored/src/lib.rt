@@ -1,4 +1,3 @@
 // The clients' records in the words: copies, client by client in object order, and one request a client.
-pub mod change;
 pub mod copies;
 pub mod requests;

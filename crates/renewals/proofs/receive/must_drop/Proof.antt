@@ -1,4 +1,4 @@
-use Rattle.renewals.proofs.Answers.{drops}
+use Rattle.renewals.proofs.Reading.{drops}
 use borrow.Author.Needs.{needs}
 use Rattle.renewals.proofs.receive.must_drop.Statement.{statement}
 use Rattle.renewals.proofs.receive.must_drop.Tie as tie

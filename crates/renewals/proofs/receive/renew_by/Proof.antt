@@ -1,6 +1,6 @@
 use native.Mathlib.Omega.{arith}
 use Rattle.protocol.specs.Ranges.{ranges}
-use Rattle.renewals.proofs.Answers.{low-version, stands, rests}
+use Rattle.renewals.proofs.Reading.{low-version, stands, rests}
 use Rattle.renewals.proofs.Rules.{by-offer, by-resend, by-hold, by-grant}
 use borrow.Author.Needs.{needs}
 use Rattle.renewals.proofs.receive.renew_by.Statement.{statement}

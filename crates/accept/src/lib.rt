@@ -1,0 +1,121 @@
+// A write accepted at the server (01, "Steps" 4): it stands, each INVALIDATE is sent, and it may complete.
+ghost use mathlib.Core.Path.{_≡_};
+ghost use mathlib.Core.Bool.{true};
+ghost use Prim.Native.Nat.{_≤_, _<_};
+ghost use Rattle.protocol.specs.Setup.{inRange};
+ghost use Rattle.protocol.specs.Tables.{versionAt, withQueue};
+ghost use Rattle.protocol.specs.Writes.{begun, notified, writeStaged, settled};
+ghost use Rattle.words.specs.View.{tablesOf, recordsOf};
+ghost use Rattle.accept.specs.Invalidates.{invalidated};
+use leases::place;
+use leases::time;
+use protocol::message::Kind;
+use protocol::message::Message;
+use protocol::setup::Setup;
+use queue::list;
+use waiting::clients;
+use words::Values;
+use words::Words;
+use words::network;
+use words::server;
+use writes::complete;
+
+// The write of `value` stands, with its latest end and whom it waits for.
+fn begin(s: Setup, words: &mut Words, values: &mut Values, object: usize, value: u64)
+    requires { ⌜ inRange s ≡ true ⌝ }
+    requires { ⌜ tablesOf (now words) (now values) .clock ≤ 2147483647 ⌝ }
+    requires { ⌜ object < s .objects ⌝ }
+    ensures { λ _. ⌜ tablesOf (now (words .exit)) (now (values .exit)) ≡ begun s (tablesOf (now (words .entry)) (now (values .entry))) object value ⌝ }
+    ensures { λ _. ⌜ recordsOf (now (words .exit)) (now (values .exit)) ≡ recordsOf (now (words .entry)) (now (values .entry)) ⌝ }
+{
+    let volume = place::volume_of(s, object);
+    let end = time::latest_end(
+        words[network::CLOCK],
+        s.m,
+        words[server::VOLUME_EXPIRY + volume],
+        words[server::OBJECT_EXPIRY + object],
+        words[server::GUARD + volume],
+    );
+    clients::await_clients(&mut *words, volume, object, s.clients as usize);
+    words[server::STANDING + object] = 1;
+    words[server::END + object] = end;
+    values[server::PENDING + object] = value;
+}
+
+// "Send each INVALIDATE in dash order", with this epoch and new version, to those of the first n clients that are waited for.
+fn invalidate(
+    words: &mut Words,
+    values: &mut Values,
+    object: usize,
+    epoch: u32,
+    version: u32,
+    n: usize,
+)
+    requires { ⌜ object < 32 ⌝ }
+    requires { ⌜ n ≤ 16 ⌝ }
+    ensures { λ _. ⌜ tablesOf (now (words .exit)) (now (values .exit)) ≡ invalidated (tablesOf (now (words .entry)) (now (values .entry))) object epoch version n ⌝ }
+    ensures { λ _. ⌜ recordsOf (now (words .exit)) (now (values .exit)) ≡ recordsOf (now (words .entry)) (now (values .entry)) ⌝ }
+{
+    let mut from = 0;
+    loop {
+        let client = clients::next_waiting(&*words, object, from, n);
+        if n <= client {
+            break;
+        }
+        let kind = Kind::Invalidate {
+            object: object as u8,
+            epoch,
+            version,
+        };
+        list::push(
+            &mut *words,
+            &mut *values,
+            Message {
+                client: client as u8,
+                kind,
+            },
+        );
+        from = client + 1;
+    }
+}
+
+// To each client that the write of the object waits for.
+fn notify(s: Setup, words: &mut Words, values: &mut Values, object: usize)
+    requires { ⌜ inRange s ≡ true ⌝ }
+    requires { ⌜ object < s .objects ⌝ }
+    requires { ⌜ versionAt (tablesOf (now words) (now values)) object < 4294967295 ⌝ }
+    ensures { λ _. ⌜ tablesOf (now (words .exit)) (now (values .exit)) ≡ withQueue (tablesOf (now (words .entry)) (now (values .entry))) (notified s (tablesOf (now (words .entry)) (now (values .entry))) object) ⌝ }
+    ensures { λ _. ⌜ recordsOf (now (words .exit)) (now (values .exit)) ≡ recordsOf (now (words .entry)) (now (values .entry)) ⌝ }
+{
+    let volume = place::volume_of(s, object);
+    let epoch = words[server::VOLUME_EPOCH + volume];
+    let version = words[server::VERSION + object] + 1;
+    invalidate(
+        &mut *words,
+        &mut *values,
+        object,
+        epoch,
+        version,
+        s.clients as usize,
+    );
+}
+
+// Step 4: the write stands, each INVALIDATE is sent, and it completes "if none waits and the clock is at or past guard". How many writes completed.
+pub fn accept_write(
+    s: Setup,
+    words: &mut Words,
+    values: &mut Values,
+    object: usize,
+    value: u64,
+) -> u32
+    requires { ⌜ inRange s ≡ true ⌝ }
+    requires { ⌜ tablesOf (now words) (now values) .clock ≤ 2147483647 ⌝ }
+    requires { ⌜ object < s .objects ⌝ }
+    requires { ⌜ versionAt (tablesOf (now words) (now values)) object < 4294967295 ⌝ }
+    ensures { λ r. ⌜ record { count = r; tables = tablesOf (now (words .exit)) (now (values .exit)) } ≡ settled s (writeStaged s (tablesOf (now (words .entry)) (now (values .entry))) object value) ⌝ }
+    ensures { λ _. ⌜ recordsOf (now (words .exit)) (now (values .exit)) ≡ recordsOf (now (words .entry)) (now (values .entry)) ⌝ }
+{
+    begin(s, &mut *words, &mut *values, object, value);
+    notify(s, &mut *words, &mut *values, object);
+    complete::settle_one(s, &mut *words, &mut *values, object)
+}
