@@ -79,12 +79,12 @@ fn every_message_and_read_is_there() {
         let (picture, timeline) = (svg(&run, whole(&run)), Timeline::new(&run));
         let answered =
             |answer: u8| timeline.steps.iter().filter(|view| view.answer.numbers().0 == answer).count();
-        assert_eq!(count(&picture, "arrow "), timeline.flights.len() + 3, "run {number}");
+        assert_eq!(count(&picture, "arrow "), timeline.flights.len() + 4, "run {number}");
         assert_eq!(count(&picture, "shown\""), answered(1) + 1);
         assert_eq!(count(&picture, "ask-first\""), answered(2) + 1);
         assert_eq!(count(&picture, "refused\""), 2 * (answered(4) + 1));
         let copies = timeline.flights.iter().filter(|flight| flight.copy_of.is_some()).count();
-        assert_eq!(count(&picture, "twice "), copies);
+        assert_eq!(count(&picture, "doubled "), copies + 1);
     }
 }
 

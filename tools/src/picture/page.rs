@@ -16,8 +16,8 @@ const SIGNS: f64 = 1_180.0;
 pub fn page(run: &Run, window: Window) -> String {
     let timeline = Timeline::new(run);
     let parts = Parts::new(&timeline, window);
-    let (width, height) = (parts.layout.width, parts.layout.height);
-    let (title, subtitle) = titles(run, window);
+    let (width, height) = (parts.width(), parts.layout.height);
+    let (title, subtitle) = titles(&run.note, &timeline, window);
     let mut signs = Svg::default();
     let signs_height = legend::draw(&mut signs, SIGNS);
     let mut corner = Svg::default();
@@ -32,7 +32,7 @@ pub fn page(run: &Run, window: Window) -> String {
         ("{names}", part("names", NAMES, height, &parts.names)),
         ("{lanes}", part("lanes", width, height, &parts.lanes)),
         ("{title}", escaped(&title)),
-        ("{subtitle}", escaped(&subtitle)),
+        ("{subtitle}", escaped(&subtitle.join("; "))),
         ("{listing}", listing(&timeline, window)),
     ];
     fill(&filled)
