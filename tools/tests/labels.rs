@@ -141,6 +141,17 @@ fn windows_are_readable() {
     }
 }
 
+/// Whatever stands beside its steps.
+#[test]
+fn the_widest_picture_is_below_16_000_pixels() {
+    for number in [0, 50, 100] {
+        let timeline = with_longest_numbers(Timeline::new(&run(36, number)));
+        let widest = (1..3_000).step_by(300).map(|from| Window { from, to: timeline.steps.len() }.narrowed());
+        let sizes = widest.map(|window| parts(&drawn(b"", &timeline, window))[0].size);
+        assert!(sizes.into_iter().all(|(width, height)| width < 16_000.0 && height < 16_000.0));
+    }
+}
+
 fn receiver(message: &Message) -> String {
     let from_server = matches!(message.kind, Kind::Grant(_) | Kind::Invalidate { .. } | Kind::Offer { .. });
     if from_server {

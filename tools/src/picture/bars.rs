@@ -99,8 +99,8 @@ fn label(taken: &mut Taken, svg: &mut Svg, span: &Span, bar: Bar) {
 }
 
 /// A write has its latest end where the clock reaches it: a tick in the bar,
-/// or past its end with a thin line up to there. How far its words may go:
-/// they keep clear of the tick.
+/// or past its completion with a thin line up to there. How far its words may
+/// go: they keep clear of the tick.
 fn write(timeline: &Timeline, layout: &Layout, svg: &mut Svg, span: &Span, bar: Bar) -> f64 {
     let Bar { top, from, to } = bar;
     let ended = span.to.filter(|&step| step <= layout.window.to);
@@ -111,6 +111,9 @@ fn write(timeline: &Timeline, layout: &Layout, svg: &mut Svg, span: &Span, bar: 
         svg.shape("completed", &[at(to, top + 4.0), at(to + 6.0, top + 9.5), at(to, top + 15.0)]);
     }
     let (latest, reached) = latest_end(timeline, layout, span);
+    if latest > to && cut_off {
+        return to;
+    }
     if latest > to {
         svg.line("latest-rest", at(to, top + 9.5), at(latest.min(layout.width), top + 9.5));
     }

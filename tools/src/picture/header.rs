@@ -6,6 +6,7 @@ use super::about::About;
 use super::layout::{Layout, COLUMN};
 use super::letters::{width, VALUE, WORDS};
 use super::svg::{at, Point, Svg};
+use super::words::answered;
 use crate::timeline::{StepView, Timeline};
 use crate::{explain, names, text};
 
@@ -49,7 +50,8 @@ pub fn draw(timeline: &Timeline, layout: &Layout, height: f64, svg: &mut Svg) {
         let (view, x) = (timeline.step(number), layout.x(number));
         column(svg, view, layout.left(number), height);
         svg.titled(&view.line, About::step(view), |svg| {
-            let classes = ["step", "about", answer_class(view)];
+            let answer = format!("answer {}-text", answered(view));
+            let classes = ["step", "about", &answer];
             for ((words, class), line) in words(view).iter().zip(classes).zip(LINES) {
                 if !words.is_empty() {
                     svg.text_along(class, at(x + line, base - 5.0), UP, words);
@@ -68,16 +70,6 @@ pub fn column(svg: &mut Svg, view: &StepView, left: f64, height: f64) {
     }
     if matches!(view.answer, Answer::Refused(_)) {
         svg.rect("refusal", at(left, 0.0), COLUMN, height);
-    }
-}
-
-fn answer_class(view: &StepView) -> &'static str {
-    match view.answer.numbers().0 {
-        0 => "answer",
-        1 => "answer shown-text",
-        2 => "answer ask-text",
-        3 => "answer completed-text",
-        _ => "answer refused-text",
     }
 }
 

@@ -36,6 +36,10 @@ const MARGIN: f64 = 10.0;
 /// Between the messages under way at the right.
 const QUEUED: f64 = 11.0;
 
+/// Most steps of a picture alone: it stays narrower than 16,000 pixels, with
+/// all that stands beside them, so that any renderer draws the whole of it.
+const MOST: usize = 300;
+
 /// The steps shown, both included, counted from 1.
 #[derive(Clone, Copy, Debug, PartialEq, Eq)]
 pub struct Window {
@@ -173,6 +177,11 @@ impl Layout {
 }
 
 impl Window {
+    /// The first of its steps, as many as a picture alone may have.
+    pub fn narrowed(&self) -> Window {
+        Window { to: self.to.min(self.from + MOST - 1), ..*self }
+    }
+
     pub fn holds(&self, step: usize) -> bool {
         (self.from..=self.to).contains(&step)
     }

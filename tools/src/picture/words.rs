@@ -7,10 +7,21 @@ use crate::names;
 use crate::timeline::flights::{End, Flight};
 use crate::timeline::spans::Span;
 use crate::timeline::tracks::Track;
-use crate::timeline::Timeline;
+use crate::timeline::{StepView, Timeline};
 
 /// Room for a value where a write stands for one step.
 const VALUES: f64 = 40.0;
+
+/// The kind of a step's answer, as a class and as the page's buttons have it.
+pub fn answered(view: &StepView) -> &'static str {
+    match view.answer.numbers().0 {
+        0 => "done",
+        1 => "shown",
+        2 => "ask",
+        3 => "completed",
+        _ => "refused",
+    }
+}
 
 pub fn receiver(message: &Message) -> String {
     match names::from_server(&message.kind) {
