@@ -125,6 +125,27 @@ check('the filter by client leaves that client and the server', () => {
   pick('client', '');
 });
 
+check('what the filter leaves moves together', () => {
+  const place = element => [bounds(element).left, bounds(element).top].map(Math.round);
+  const places = () => some([...document.querySelectorAll('.lanes g *, .names text')]).map(place);
+  frame.scrollTo(0, 0);
+  const [before, high] = [places(), bounds(lanes).height];
+  pick('client', '7');
+  const line = name => bounds([...names.querySelectorAll('.lane-name')].find(text => text.textContent === name)).bottom;
+  same([bounds(lanes).height < high / 2, line('client 7') - line('server') < 200], [true, true], 'room');
+  const laneLine = bounds(lanes.querySelector('g[data-client="7"] > .lane')).top;
+  const arrows = [...lanes.querySelectorAll('g[data-client="7"] > .arrow')].map(bounds);
+  const server = bounds(lanes.querySelector('g:not([data-client]) > .lane')).top;
+  same(arrows.length > 0 && arrows.every(({ top, bottom }) => top >= server - 2 && bottom <= laneLine + 2), true, 'arrows');
+  for (const step of lines.filter(shows).slice(0, 20)) {
+    step.click();
+    same(inSight(spot), true, `step ${step.dataset.step} in sight`);
+  }
+  pick('client', '');
+  frame.scrollTo(0, 0);
+  same(places(), before, 'as before');
+});
+
 check('the filter by object leaves it and its volume', () => {
   const object = lines.find(line => line.dataset.object).dataset.object;
   pick('object', object);

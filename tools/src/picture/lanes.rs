@@ -11,18 +11,20 @@ const AGAIN: f64 = 24.0 * COLUMN;
 
 /// The names, left of the lanes.
 pub fn names(layout: &Layout, width: f64, svg: &mut Svg) {
-    for (lane, (name, y)) in lanes(layout) {
-        svg.group(lane, |svg| svg.text("lane-name", at(8.0, y + 4.0), &name));
+    for (lane, name, y) in lanes(layout) {
+        svg.name(lane, layout.reach(lane.client), |svg| svg.text("lane-name", at(8.0, y + 4.0), &name));
     }
     for (row, top) in &layout.rows {
-        svg.group(About::row(*row), |svg| svg.text("row-name", at(width - 8.0, top + 13.0), &row.name()));
+        svg.name(About::row(*row), (*top, top + ROW), |svg| {
+            svg.text("row-name", at(width - 8.0, top + 13.0), &row.name())
+        });
     }
 }
 
-fn lanes(layout: &Layout) -> Vec<(About, (String, f64))> {
-    let server = (About::default(), ("server".to_string(), layout.server));
+fn lanes(layout: &Layout) -> Vec<(About, String, f64)> {
+    let server = (About::default(), "server".to_string(), layout.server);
     let clients = layout.clients.iter().enumerate();
-    let clients = clients.map(|(client, y)| (About::client(client), (format!("client {client}"), *y)));
+    let clients = clients.map(|(client, y)| (About::client(client), format!("client {client}"), *y));
     std::iter::once(server).chain(clients).collect()
 }
 
@@ -31,14 +33,14 @@ pub fn lines(layout: &Layout, svg: &mut Svg) {
         let y = top + ROW;
         svg.group(About::row(*row), |svg| svg.line("row", at(0.0, y), at(layout.width, y)));
     }
-    for (lane, (_, y)) in lanes(layout) {
+    for (lane, _, y) in lanes(layout) {
         svg.group(lane, |svg| svg.line("lane", at(0.0, y), at(layout.width, y)));
     }
 }
 
 /// The lanes' names again, where there is room for them.
 pub fn again(layout: &Layout, taken: &mut Taken, svg: &mut Svg) {
-    for (lane, (name, y)) in lanes(layout) {
+    for (lane, name, y) in lanes(layout) {
         let mut x = AGAIN;
         while x + AGAIN / 2.0 < layout.width {
             let spots = (0..24).map(|column| at(x + f64::from(column) * COLUMN / 2.0, y - 4.0));

@@ -66,6 +66,8 @@ pub struct Layout {
     pub clients: Vec<f64>,
     /// The upper edge of each row.
     pub rows: BTreeMap<Row, f64>,
+    /// Below the last lane.
+    foot: f64,
     /// Where the flights end, by place in their list, that are under way
     /// after the last step shown, and what is said there.
     pub queue: BTreeMap<usize, (Point, String)>,
@@ -91,8 +93,8 @@ impl Layout {
             own.for_each(|(_, top)| (*top, y) = (y, y + ROW));
         }
         let width = (window.to + 1 - window.from) as f64 * COLUMN;
-        let (margin, queue) = (MARGIN, BTreeMap::new());
-        let mut layout = Layout { window, width, height: y + 14.0, margin, server, clients, rows, queue };
+        let (height, margin, foot, queue) = (y + 14.0, MARGIN, y, BTreeMap::new());
+        let mut layout = Layout { window, width, height, margin, server, clients, rows, foot, queue };
         layout.line_up(&timeline.flights);
         layout
     }
@@ -116,6 +118,15 @@ impl Layout {
             self.queue.insert(place, (at(self.width + 6.0, lowest), words));
         }
         self.height = self.height.max(lowest + QUEUED);
+    }
+
+    /// A lane's upper and lower edge.
+    pub fn reach(&self, client: Option<usize>) -> (f64, f64) {
+        let top = |client: usize| self.clients.get(client).map(|line| line - ABOVE_CLIENT);
+        match client {
+            Some(client) => (top(client).unwrap_or(self.foot), top(client + 1).unwrap_or(self.foot)),
+            None => (0.0, top(0).unwrap_or(self.foot)),
+        }
     }
 
     /// The line of the lane that a step is about: a message's receiver's, or

@@ -1,9 +1,5 @@
-const get = id => document.getElementById(id);
-const frame = get('frame');
-const part = name => document.querySelector(`#grid > svg.${name}`);
-const [corner, header, names, lanes] = ['corner', 'header', 'names', 'lanes'].map(part);
-const lines = [...document.querySelectorAll('#listing p')];
-const last = first + lines.length - 1;
+// Of the header: what stays where its words go.
+const numberRows = 40;
 let zoom = 1, chosen = 0;
 
 // Above 100 % all grows; below, only the columns get narrower.
@@ -14,12 +10,14 @@ const least = () => Math.min(1, room() / lanes.dataset.width);
 function setZoom(to) {
   const middle = (frame.scrollLeft + room() / 2) / zoom;
   zoom = Math.min(4, Math.max(least(), to));
+  const far = document.body.classList.toggle('far', zoom < 0.4);
   for (const svg of [corner, header, names, lanes]) {
     const wide = svg === header || svg === lanes ? zoom : tall();
+    const top = far && (svg === header || svg === corner) ? svg.dataset.height - numberRows : 0;
+    svg.setAttribute('viewBox', `0 ${top} ${svg.dataset.width} ${svg.dataset.height - top}`);
     svg.setAttribute('width', svg.dataset.width * wide);
-    svg.setAttribute('height', svg.dataset.height * tall());
+    svg.setAttribute('height', (svg.dataset.height - top) * tall());
   }
-  document.body.classList.toggle('far', zoom < 0.4);
   ruler();
   frame.scrollLeft = middle * zoom - room() / 2;
 }
@@ -50,15 +48,15 @@ function mark(line) {
     box.setAttribute('x', (line.dataset.step - first) * column);
     box.setAttribute('visibility', 'visible');
   }
-  spot.setAttribute('y', line.dataset.lane - 12);
+  spot.setAttribute('y', fold(+line.dataset.lane) - 12);
 }
 
 // Scrolls the step's column to the middle, and up or down to its lane unless
 // that is in sight.
 function find(line) {
   frame.scrollLeft = (line.dataset.step - first + 0.5) * column * zoom - room() / 2;
-  const high = frame.clientHeight - header.dataset.height * tall();
-  const y = line.dataset.lane * tall();
+  const high = frame.clientHeight - header.getAttribute('height');
+  const y = fold(+line.dataset.lane) * tall();
   const inSight = y - 30 >= frame.scrollTop && y + 30 <= frame.scrollTop + high;
   if (!inSight) frame.scrollTop = y - high / 2;
 }
@@ -81,21 +79,23 @@ function say(words) {
   get('said').textContent = words;
 }
 
-// What the filters leave. What names no client or object is about all.
-function wanted() {
-  const [client, object] = [get('client').value, get('object').value];
-  return Object.entries({ client, object, volume: object && String(volumeOf[object]) })
-    .filter(([, value]) => value);
-}
-
-function shows(line) {
-  return wanted().every(([name, value]) => (line.dataset[name] ?? value) === value);
-}
-
 function filter() {
+  const [client, object] = [get('client').value, get('object').value];
+  const wanted = { client, object, volume: object && String(volumeOf[object]) };
+  filters = Object.entries(wanted).filter(([, value]) => value);
   const hidden = ([name, value]) => `[data-${name}]:not([data-${name}="${value}"]) { display: none; }`;
-  get('filter').textContent = wanted().map(hidden).join('\n');
-  if (chosen) find(lines[chosen - first]);
+  get('filter').textContent = filters.map(hidden).join('\n');
+  foldAll();
+  setZoom(zoom);
+  if (chosen) {
+    mark(lines[chosen - first]);
+    find(lines[chosen - first]);
+  }
+}
+
+// What names no client, volume or object is about all of them.
+function shows(element) {
+  return filters.every(([name, value]) => (element.dataset[name] ?? value) === value);
 }
 
 // The next line, or the one before, that is shown and passes the test.

@@ -14,7 +14,7 @@ use crate::timeline::Timeline;
 
 const PAGE: &str = include_str!("page.html");
 const PAGE_STYLE: &str = include_str!("page.css");
-const SCRIPT: &str = include_str!("page.js");
+const SCRIPTS: [&str; 3] = [include_str!("parts.js"), include_str!("fold.js"), include_str!("page.js")];
 const SIGNS: f64 = 1_180.0;
 
 pub fn page(run: &Run, window: Window) -> String {
@@ -30,7 +30,7 @@ pub fn page(run: &Run, window: Window) -> String {
     let filled = [
         ("{style}", STYLE.to_string()),
         ("{page-style}", PAGE_STYLE.to_string()),
-        ("{script}", SCRIPT.to_string()),
+        ("{script}", SCRIPTS.concat()),
         ("{first}", window.from.to_string()),
         ("{column}", n(COLUMN)),
         ("{clients}", run.setup.clients.to_string()),

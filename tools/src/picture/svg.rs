@@ -104,6 +104,14 @@ impl Svg {
         self.put(format_args!("</g>"));
     }
 
+    /// A name, with how far down what it names reaches.
+    pub fn name(&mut self, about: About, (top, bottom): (f64, f64), inside: impl FnOnce(&mut Svg)) {
+        let (top, bottom) = (n(top), n(bottom));
+        self.put(format_args!("<g{about} data-top=\"{top}\" data-bottom=\"{bottom}\">"));
+        inside(self);
+        self.put(format_args!("</g>"));
+    }
+
     /// A part of the picture with its own coordinates, cut at its edges.
     pub fn part(&mut self, class: &str, a: Point, width: f64, height: f64, inside: &str) {
         let (x, y, width, height) = (n(a.x), n(a.y), n(width), n(height));
