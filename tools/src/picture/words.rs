@@ -10,7 +10,7 @@ use crate::timeline::tracks::Track;
 use crate::timeline::{StepView, Timeline};
 
 /// Room for a value where a write stands for one step.
-const VALUES: f64 = 40.0;
+const VALUES: f64 = 42.0;
 
 /// The kind of a step's answer, as a class and as the page's buttons have it.
 pub fn answered(view: &StepView) -> &'static str {
