@@ -79,12 +79,12 @@ fn every_message_and_read_is_there() {
         let (picture, timeline) = (svg(&run, whole(&run)), Timeline::new(&run));
         let answered =
             |answer: u8| timeline.steps.iter().filter(|view| view.answer.numbers().0 == answer).count();
-        assert_eq!(count(&picture, "arrow "), timeline.flights.len() + 3, "run {number}");
+        assert_eq!(count(&picture, "arrow "), timeline.flights.len() + 4, "run {number}");
         assert_eq!(count(&picture, "shown\""), answered(1) + 1);
         assert_eq!(count(&picture, "ask-first\""), answered(2) + 1);
         assert_eq!(count(&picture, "refused\""), 2 * (answered(4) + 1));
         let copies = timeline.flights.iter().filter(|flight| flight.copy_of.is_some()).count();
-        assert_eq!(count(&picture, "twice "), copies);
+        assert_eq!(count(&picture, "doubled "), copies + 1);
     }
 }
 
@@ -133,8 +133,21 @@ fn the_page_stands_alone() {
         1
     );
     assert_eq!(page.matches("<script>").count(), 1);
-    for mark in ["{first}", "{signs}", "{corner}", "{header}", "{names}", "{lanes}", "{title}", "{subtitle}"]
-    {
+    for mark in [
+        "{first}",
+        "{column}",
+        "{clients}",
+        "{volumes}",
+        "{signs}",
+        "{corner}",
+        "{header}",
+        "{names}",
+        "{lanes}",
+        "{title}",
+        "{subtitle}",
+        "{page-style}",
+        "{script}",
+    ] {
         assert!(!page.contains(mark), "{mark}");
     }
 }
@@ -144,6 +157,27 @@ fn a_run_without_steps_has_a_picture() {
     let empty = Run { note: vec![0], setup: model::gen::setups::sized(1, 1, 1), steps: Vec::new() };
     assert_well_formed(&svg(&empty, whole(&empty)));
     assert!(page(&empty, whole(&empty)).contains("note hex 00"));
+}
+
+/// A picture alone is cut where it would be too wide, and says so.
+#[test]
+fn a_picture_alone_is_narrow_enough() {
+    let run = run(1, 0);
+    let file = run.file();
+    for (options, from, to, cut) in [
+        (&["svg"][..], 1, 300, true),
+        (&["svg", "--from", "100", "--to", "4000"], 100, 399, true),
+        (&["svg", "--from", "100", "--to", "399"], 100, 399, false),
+        (&["svg", "--from", "3900"], 3_900, 4_000, false),
+    ] {
+        let ended = run_program(PICTURE, options, &file);
+        let picture = svg(&run, Window { from, to });
+        assert_eq!((ended.status, ended.output == picture.as_bytes()), (0, true), "{options:?}");
+        let said = format!("picture: steps {from} to {to} alone, up to 4000 ");
+        assert_eq!((ended.errors.starts_with(&said), ended.errors.is_empty()), (cut, !cut), "{options:?}");
+    }
+    let page = run_program(PICTURE, &["html"], &file);
+    assert_eq!((page.output == crate::page(&run, whole(&run)).as_bytes(), page.errors.as_str()), (true, ""));
 }
 
 #[test]

@@ -29,6 +29,20 @@ fn flights_follow_the_queue() {
     assert!(ends.iter().all(|&count| count > 50), "{ends:?}");
 }
 
+/// In their order, the flights under way after a step are the queue then.
+#[test]
+fn flights_know_when_they_are_under_way() {
+    for number in 2..50 {
+        let run = run(9, number);
+        let flights = Timeline::new(&run).flights;
+        walk(&run, |moment| {
+            let under_way = flights.iter().filter(|flight| flight.under_way_after(moment.number));
+            let queue = moment.after.tables.queue.messages();
+            assert!(under_way.map(|flight| flight.message).eq(queue.iter().copied()), "run {number}");
+        });
+    }
+}
+
 /// A full queue loses what an unfull one would have taken.
 #[test]
 fn messages_to_a_full_queue_are_noted() {

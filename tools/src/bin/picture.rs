@@ -17,9 +17,12 @@ leases are bars, messages arrows from sending to delivery, writes bars from
 acceptance to completion with their latest end, reads circles.
 
 --from and --to show the steps from N to N of the listing; what began before or
-ends after them is cut at the edge. For a long run take the page: it scrolls
-with the names in sight, zooms, and finds a step (also as run.html#120). It
-works offline.
+ends after them is cut at the edge. A picture alone has at most 300 steps, since
+no wider one is drawn everywhere; standard error says where it was cut. For a
+long run take the page: it scrolls with the names in sight, zooms out to all of
+the run, shows one client or object alone, and finds a step by its number (also
+as run.html#120) or the next one that was refused, shown or completed a write.
+It works offline.
 "#;
 
 fn main() -> ExitCode {
@@ -33,9 +36,18 @@ fn main() -> ExitCode {
         let (from, to) = range(options)?;
         let run = run_of_either(&standard_input()?)?;
         let window = window(from, to, run.steps.len())?;
-        let picture = if form == "svg" { svg(&run, window) } else { page(&run, window) };
+        let picture = if form == "svg" { svg(&run, narrowed(window)) } else { page(&run, window) };
         Ok(picture.into_bytes())
     })
+}
+
+fn narrowed(wanted: Window) -> Window {
+    let Window { from, to } = wanted.narrowed();
+    if to < wanted.to {
+        let last = wanted.to;
+        eprintln!("picture: steps {from} to {to} alone, up to {last} it is too wide for a picture: take --from and --to, or html");
+    }
+    Window { from, to }
 }
 
 fn wrong(message: &str) -> Failure {

@@ -1,107 +1,65 @@
 //! Messages as arrows, from the step that sent them to the step that ended
 //! them.
 
+use super::about::About;
 use super::layout::{Layout, COLUMN};
-use super::svg::{at, fitting, width, Point, Svg};
+use super::letters::{width, LABEL};
+use super::paths::{self, Path};
+use super::svg::{at, Point, Svg};
+use super::tiles::{Taken, Tile};
+use super::words::{addressed, anonymous, flight_title, receiver};
 use crate::names;
 use crate::timeline::flights::{End, Flight};
 use crate::timeline::Timeline;
 
-/// How far between the lanes a message gets that is lost or still under way:
-/// the first of these that keeps this far from every lane's line.
-const PARTS: [f64; 4] = [0.6, 0.5, 0.4, 0.7];
-const CLEAR: f64 = 18.0;
 const LONG: f64 = 8.0 * COLUMN;
+/// Labels are tried at spots this far from one another, so many of them.
+const APART: f64 = 11.0;
+const TRIES: usize = 24;
+/// From the line to words above it and below it.
+const SIDES: [f64; 2] = [-3.0, 9.5];
 
-#[derive(Clone, Copy)]
-struct Path {
-    from: Point,
-    to: Point,
-}
-
-impl Path {
-    fn length(&self) -> f64 {
-        let (x, y) = (self.to.x - self.from.x, self.to.y - self.from.y);
-        (x * x + y * y).sqrt()
-    }
-
-    /// The unit vector along the path.
-    fn way(&self) -> Point {
-        let length = self.length().max(1.0);
-        at((self.to.x - self.from.x) / length, (self.to.y - self.from.y) / length)
-    }
-
-    fn at_x(&self, x: f64) -> Point {
-        let part = (x - self.from.x) / (self.to.x - self.from.x).max(1.0);
-        at(x, self.from.y + part * (self.to.y - self.from.y))
-    }
-
-    fn along(&self, length: f64) -> Point {
-        let way = self.way();
-        at(self.from.x + length * way.x, self.from.y + length * way.y)
-    }
-}
-
-pub fn draw(timeline: &Timeline, layout: &Layout, svg: &mut Svg) {
-    let mut paths: Vec<Path> = Vec::with_capacity(timeline.flights.len());
-    for (place, flight) in timeline.flights.iter().enumerate() {
-        let path = path(timeline, layout, &paths, flight);
-        if layout.shows(path.from.x, path.to.x) {
-            let fan = place > 0 && timeline.flights[place - 1].sent == flight.sent;
-            svg.titled(&title(timeline, flight), |svg| {
-                arrow(svg, flight, &path);
-                labels(layout, svg, flight, &path, Spread { place, fan });
-            });
+pub fn draw(timeline: &Timeline, layout: &Layout, taken: &mut Taken, svg: &mut Svg) {
+    let paths = paths::all(layout, &timeline.flights);
+    let shown = |path: &Path| layout.shows(path.from.x, path.to.x);
+    let flights = timeline.flights.iter().enumerate().zip(&paths).filter(|(_, path)| shown(path));
+    let flights: Vec<((usize, &Flight), &Path)> = flights.collect();
+    for ((place, flight), _) in &flights {
+        if let Some(tile) = room_at_end(layout, *place, flight) {
+            taken.take(tile);
         }
-        paths.push(path);
     }
-}
-
-/// A copy branches off from the message that it is a copy of.
-fn path(timeline: &Timeline, layout: &Layout, paths: &[Path], flight: &Flight) -> Path {
-    let client = layout.clients[usize::from(flight.message.client)];
-    let (sender, receiver) = match names::from_server(&flight.message.kind) {
-        true => (layout.server, client),
-        false => (client, layout.server),
-    };
-    let x = layout.x(flight.sent);
-    let from = flight.copy_of.map_or(at(x, sender), |original| paths[original].at_x(x));
-    let short = short_of(layout, from.y, receiver);
-    let to = match flight.end {
-        End::Delivered(step) => at(layout.x(step), receiver),
-        End::Lost(step) => at(layout.x(step), short),
-        End::QueueFull => at(x + 14.0, from.y + if receiver > sender { 24.0 } else { -24.0 }),
-        End::UnderWay => at(layout.left(timeline.steps.len() + 1) - 3.0, short),
-    };
-    Path { from, to }
-}
-
-fn short_of(layout: &Layout, from: f64, to: f64) -> f64 {
-    let clear = |y: f64| layout.clients.iter().all(|lane| (lane - y).abs() >= CLEAR);
-    let stops = PARTS.map(|part| from + part * (to - from));
-    stops.into_iter().find(|&y| clear(y)).unwrap_or(stops[0])
+    for ((place, flight), path) in flights {
+        svg.titled(&flight_title(timeline, flight), About::message(&flight.message), |svg| {
+            arrow(svg, flight, path, layout.queue.contains_key(&place));
+            let named = labels(layout, taken, svg, flight, path);
+            end(layout, svg, place, flight, named);
+        });
+    }
 }
 
 /// An arrow over many columns is thin, to leave what it crosses readable.
-fn arrow(svg: &mut Svg, flight: &Flight, path: &Path) {
+fn arrow(svg: &mut Svg, flight: &Flight, path: &Path, under_way: bool) {
     let kind = names::kind(&flight.message.kind).to_lowercase();
-    let style = match (flight.end, flight.copy_of) {
-        (End::Lost(_) | End::QueueFull, _) => " lost",
+    let lost = !under_way && !matches!(flight.end, End::Delivered(_));
+    let style = match (lost, flight.copy_of) {
+        (true, _) => " lost",
         (_, Some(_)) => " copied",
         _ => "",
     };
     let long = if path.to.x - path.from.x > LONG { " long" } else { "" };
     svg.line(&format!("arrow {kind}{style}{long}"), path.from, path.to);
-    match flight.end {
-        End::Delivered(_) => head(svg, &kind, path),
-        End::Lost(_) | End::QueueFull => svg.cross("lost-mark", path.to, 4.5),
-        End::UnderWay => svg.circle(&format!("under-way {kind}"), path.to, 3.0),
+    if under_way {
+        svg.circle(&format!("under-way {kind}"), path.to, 3.0);
+    } else if lost {
+        svg.cross("lost-mark", path.to, 4.5);
+    } else {
+        head(svg, &kind, path);
     }
     if flight.copy_of.is_some() {
         let Point { x, y } = path.from;
         let diamond = [at(x - 5.0, y), at(x, y - 5.0), at(x + 5.0, y), at(x, y + 5.0)];
         svg.shape(&format!("doubled {kind}"), &diamond);
-        svg.text(&format!("twice {kind}"), at(x - 6.0, y - 6.0), "×2");
     }
 }
 
@@ -115,51 +73,83 @@ fn head(svg: &mut Svg, kind: &str, path: &Path) {
     );
 }
 
-/// What keeps labels apart: the flight's place in the list, and whether an
-/// arrow before it begins at the same spot.
-struct Spread {
-    place: usize,
-    fan: bool,
+/// Along the line, from its beginning on; a long one is named once more
+/// towards its end. Whether the receiver is named.
+fn labels(layout: &Layout, taken: &mut Taken, svg: &mut Svg, flight: &Flight, path: &Path) -> bool {
+    let visible = path.between(0.0, layout.width);
+    let class = format!("message {}", names::kind(&flight.message.kind).to_lowercase());
+    let mut put = |wordings: &[String], back: bool| {
+        let spot = wordings.iter().find_map(|words| spot(layout, taken, &visible, words, back));
+        spot.map(|(from, words)| svg.text_along(&class, from, visible.way(), words)).is_some()
+    };
+    let (addressed, anonymous) = (addressed(&flight.message), anonymous(&flight.message));
+    let named = put(&addressed, false);
+    if !named {
+        put(&anonymous, false);
+    }
+    if visible.to.x - visible.from.x > LONG {
+        put(&addressed, true);
+    }
+    named
 }
 
-/// Along the line, at its beginning, or at its end where several begin at
-/// one spot; a long one is named at both. Ends that come close together are
-/// named at different distances.
-fn labels(layout: &Layout, svg: &mut Svg, flight: &Flight, path: &Path, spread: Spread) {
-    let kind = names::kind(&flight.message.kind);
-    let wordings = [names::label(&flight.message), kind.to_string()];
-    let visible = Path { from: path.at_x(path.from.x.max(0.0)), to: path.at_x(path.to.x.min(layout.width)) };
-    let Some(words) = fitting(&wordings, visible.length() - 14.0) else {
-        return;
-    };
-    let (way, last) = (visible.way(), visible.length() - 12.0 - width(words));
-    let mut put = |length: f64| {
-        let place = visible.along(length);
-        let above = at(place.x + 3.0 * way.y, place.y - 3.0 * way.x);
-        svg.text_along(&format!("message {}", kind.to_lowercase()), above, way, words);
-    };
-    let long = visible.to.x - visible.from.x > LONG;
-    if !spread.fan || long {
-        put(if last < 16.0 { 7.0 } else { 11.0 });
+/// The first free spot for the words along the path, which is then taken.
+fn spot<'a>(
+    layout: &Layout,
+    taken: &mut Taken,
+    path: &Path,
+    words: &'a str,
+    back: bool,
+) -> Option<(Point, &'a str)> {
+    let (way, room) = (path.way(), path.length() - 20.0 - width(words, LABEL));
+    let tries = (0..TRIES).map(|n| n as f64 * APART).take_while(|&far| far <= room);
+    for far in tries {
+        let spot = path.along(8.0 + if back { room - far } else { far });
+        for side in SIDES {
+            let from = at(spot.x - side * way.y, spot.y + side * way.x);
+            let tile = Tile::of_words(from, way, words, LABEL);
+            if tile.within(layout.width, layout.height) && taken.try_take(tile) {
+                return Some((from, words));
+            }
+        }
     }
-    if spread.fan || long {
-        let back = if long { 30.0 + 60.0 * (spread.place % 4) as f64 } else { 0.0 };
-        put(last - back);
-    }
+    None
 }
 
-fn title(timeline: &Timeline, flight: &Flight) -> String {
-    let what = names::whole(&flight.message);
-    let line = |step: usize| &timeline.step(step).line;
-    let begin = match flight.copy_of {
-        Some(_) => format!("copied by step {}", line(flight.sent)),
-        None => format!("sent by step {}", line(flight.sent)),
+/// Room for the receiver's name where the flight ends in the window, or for
+/// all that is said of it at the right.
+fn room_at_end(layout: &Layout, place: usize, flight: &Flight) -> Option<Tile> {
+    if let Some((spot, words)) = layout.queue.get(&place) {
+        return Some(Tile::of_words(after(*spot), at(1.0, 0.0), words, LABEL));
+    }
+    let middle = name_at_end(layout, flight)?;
+    Some(Tile::of_centered(middle, &receiver(&flight.message), LABEL))
+}
+
+/// Beside the receiver's line, in the column of the step that ended it.
+fn name_at_end(layout: &Layout, flight: &Flight) -> Option<Point> {
+    let step = match flight.end {
+        End::Delivered(step) | End::Lost(step) => step,
+        End::QueueFull => flight.sent,
+        End::UnderWay => return None,
     };
-    let end = match flight.end {
-        End::Delivered(step) => format!("received in step {}", line(step)),
-        End::Lost(step) => format!("lost by step {}", line(step)),
-        End::QueueFull => "lost at once: the queue was full".into(),
-        End::UnderWay => "still under way at the end".into(),
-    };
-    format!("{what}\n{begin}\n{end}")
+    let (_, receiver) = layout.ends(&flight.message);
+    layout.window.holds(step).then(|| at(layout.x(step), layout.beside(receiver)))
+}
+
+fn after(ring: Point) -> Point {
+    at(ring.x + 7.0, ring.y + 3.0)
+}
+
+/// A message that does not arrive has its receiver's name at its end, and
+/// one that arrives where there was no room along its way.
+fn end(layout: &Layout, svg: &mut Svg, place: usize, flight: &Flight, named: bool) {
+    let class = format!("message {}", names::kind(&flight.message.kind).to_lowercase());
+    if let Some((spot, words)) = layout.queue.get(&place) {
+        svg.text(&class, after(*spot), words);
+    } else if let Some(middle) = name_at_end(layout, flight) {
+        if !named || !matches!(flight.end, End::Delivered(_)) {
+            svg.text(&format!("{class} receiver"), middle, &receiver(&flight.message));
+        }
+    }
 }

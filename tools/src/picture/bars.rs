@@ -2,9 +2,12 @@
 
 use model::step_record::{CLOCK, RESTART_SERVER, WRITE};
 
-use super::layout::{Layout, COLUMN};
-use super::svg::{at, fitting, Svg};
-use super::words::{title, wordings};
+use super::about::About;
+use super::layout::{row, Layout, COLUMN};
+use super::letters::{fitting, LABEL};
+use super::svg::{at, Svg};
+use super::tiles::{Taken, Tile};
+use super::words::{span_title, wordings};
 use crate::timeline::spans::Span;
 use crate::timeline::tracks::Track;
 use crate::timeline::Timeline;
@@ -12,24 +15,53 @@ use crate::timeline::Timeline;
 /// Columns after which a bar is named again.
 const AGAIN: f64 = 24.0 * COLUMN;
 
-pub fn draw(timeline: &Timeline, layout: &Layout, svg: &mut Svg) {
+/// A bar's upper edge and its ends.
+#[derive(Clone, Copy)]
+struct Bar {
+    top: f64,
+    from: f64,
+    to: f64,
+}
+
+pub fn draw(timeline: &Timeline, layout: &Layout, taken: &mut Taken, svg: &mut Svg) {
     for span in &timeline.spans {
         let (from, to) = (done(timeline, layout, span.from), end(timeline, layout, span));
         let Some(top) = layout.row(span.track).filter(|_| layout.shows(from, to)) else {
             continue;
         };
-        svg.titled(&title(timeline, span), |svg| match span.track {
-            Track::Write(_) => write(timeline, layout, svg, span, top, from, to),
-            Track::Guard(_) => bar(layout, svg, "guard", span, top, from, to),
-            Track::VolumeLease(..) => bar(layout, svg, "volume-lease", span, top, from, to),
-            Track::ObjectLease(..) => bar(layout, svg, "object-lease", span, top, from, to),
-            Track::Copy(..) => svg.line("copy", at(from, top + 16.3), at(to, top + 16.3)),
-            Track::ServerVolumeLease(..) | Track::ServerObjectLease(..) => {
-                svg.rect("noted", at(from, top + 2.0), to - from, 2.0)
+        let bar = Bar { top, from, to: to.min(layout.width) };
+        svg.titled(&span_title(timeline, span), About::row(row(span.track)), |svg| {
+            mark(svg, span, bar);
+            let room = match span.track {
+                Track::Write(_) => write(timeline, layout, svg, span, bar),
+                _ => bar.to,
+            };
+            if named(span.track) {
+                label(taken, svg, span, Bar { to: room, ..bar });
             }
-            Track::Unreachable(..) => svg.line("unreachable", at(from, top + 18.3), at(to, top + 18.3)),
         });
     }
+}
+
+fn mark(svg: &mut Svg, span: &Span, bar: Bar) {
+    let mut rect =
+        |class, down, height| svg.rect(class, at(bar.from, bar.top + down), bar.to - bar.from, height);
+    match span.track {
+        Track::Write(_) => (),
+        Track::Guard(_) => rect("guard", 4.0, 11.0),
+        Track::VolumeLease(..) => rect("volume-lease", 4.0, 11.0),
+        Track::ObjectLease(..) => rect("object-lease", 4.0, 11.0),
+        Track::ServerVolumeLease(..) | Track::ServerObjectLease(..) => rect("noted", 2.0, 2.0),
+        Track::Copy(..) => svg.line("copy", at(bar.from, bar.top + 16.3), at(bar.to, bar.top + 16.3)),
+        Track::Unreachable(..) => {
+            svg.line("unreachable", at(bar.from, bar.top + 18.3), at(bar.to, bar.top + 18.3))
+        }
+    }
+}
+
+fn named(track: Track) -> bool {
+    use Track::*;
+    matches!(track, Write(_) | Guard(_) | VolumeLease(..) | ObjectLease(..))
 }
 
 /// Where a step has done its work: a clock step at its column's right edge,
@@ -53,39 +85,46 @@ fn end(timeline: &Timeline, layout: &Layout, span: &Span) -> f64 {
     }
 }
 
-fn bar(layout: &Layout, svg: &mut Svg, class: &str, span: &Span, top: f64, from: f64, to: f64) {
-    svg.rect(class, at(from, top + 4.0), to - from, 11.0);
-    label(layout, svg, span, top, from, to);
-}
-
-fn label(layout: &Layout, svg: &mut Svg, span: &Span, top: f64, from: f64, to: f64) {
-    let (wordings, to) = (wordings(span), to.min(layout.width));
-    let mut x = from.max(0.0);
-    while x < to {
-        if let Some(words) = fitting(&wordings, to - x - 5.0) {
-            svg.text("bar-text", at(x + 3.0, top + 12.6), words);
+fn label(taken: &mut Taken, svg: &mut Svg, span: &Span, bar: Bar) {
+    let wordings = wordings(span);
+    let mut x = bar.from.max(0.0);
+    while x < bar.to {
+        if let Some(words) = fitting(&wordings, bar.to - x - 5.0, LABEL) {
+            let from = at(x + 3.0, bar.top + 12.4);
+            svg.text("bar-text", from, words);
+            taken.take(Tile::of_words(from, at(1.0, 0.0), words, LABEL));
         }
         x += AGAIN;
     }
 }
 
 /// A write has its latest end where the clock reaches it: a tick in the bar,
-/// or past its end with a thin line up to there. The words keep clear of it.
-fn write(timeline: &Timeline, layout: &Layout, svg: &mut Svg, span: &Span, top: f64, from: f64, to: f64) {
-    let cut_off = span.to.is_some_and(|step| timeline.step(step).step.kind == RESTART_SERVER);
+/// or past its completion with a thin line up to there. How far its words may
+/// go: they keep clear of the tick.
+fn write(timeline: &Timeline, layout: &Layout, svg: &mut Svg, span: &Span, bar: Bar) -> f64 {
+    let Bar { top, from, to } = bar;
+    let ended = span.to.filter(|&step| step <= layout.window.to);
+    let cut_off = ended.is_some_and(|step| timeline.step(step).step.kind == RESTART_SERVER);
     svg.rect(if cut_off { "write cut-off" } else { "write" }, at(from, top + 4.0), to - from, 11.0);
     svg.line("drop", at(from, top + 15.0), at(from, layout.server));
-    if span.to.is_some() && !cut_off {
+    if ended.is_some() && !cut_off {
         svg.shape("completed", &[at(to, top + 4.0), at(to + 6.0, top + 9.5), at(to, top + 15.0)]);
     }
-    let (x, reached) = latest_end(timeline, layout, span);
-    if x > to {
-        svg.line("latest-rest", at(to, top + 9.5), at(x, top + 9.5));
+    let (latest, reached) = latest_end(timeline, layout, span);
+    if latest > to && cut_off {
+        return to;
+    }
+    if latest > to {
+        svg.line("latest-rest", at(to, top + 9.5), at(latest.min(layout.width), top + 9.5));
+    }
+    if reached && latest <= layout.width {
+        svg.line("latest", at(latest, top + 2.0), at(latest, top + 17.0));
     }
     if reached {
-        svg.line("latest", at(x, top + 2.0), at(x, top + 17.0));
+        to.min(latest)
+    } else {
+        to
     }
-    label(layout, svg, span, top, from, if reached { to.min(x) } else { to });
 }
 
 /// Where the clock reaches a write's latest end, if it does so before the

@@ -2,34 +2,45 @@
 
 use model::answer::Answer;
 
+use super::about::About;
 use super::layout::{Layout, COLUMN};
-use super::svg::{at, shortened, width, Point, Svg};
+use super::letters::{width, VALUE, WORDS};
+use super::svg::{at, Point, Svg};
+use super::words::answered;
 use crate::timeline::{StepView, Timeline};
 use crate::{explain, names, text};
 
-const MOST: usize = 40;
 /// Rows of step numbers and of the clock, below the words.
 const NUMBERS: f64 = 34.0;
 const UP: Point = Point { x: 0.0, y: -1.0 };
 /// Columns after which the clock is told again.
 const AGAIN: usize = 20;
+/// Where in a column the step stands, the message that it is about, and the
+/// answer.
+const LINES: [f64; 3] = [-9.0, 3.0, 15.0];
 
-/// The step as in the text form, with the message that it is about; of an
-/// unknown kind only the kind.
-fn words(view: &StepView) -> String {
+/// The step as in the text form, with the way of its message; of an unknown
+/// kind only the kind.
+fn step(view: &StepView) -> String {
     let step = text::steps::line(&view.step);
-    let words = match &view.taken {
-        Some(message) => format!("{step}: {}", names::label(message)),
+    match &view.message {
+        Some(message) if names::from_server(&message.kind) => format!("{step} to client {}", message.client),
+        Some(message) => format!("{step} from client {}", message.client),
         None if step.starts_with("kind") => format!("kind {}", view.step.kind),
         None => step,
-    };
-    shortened(&words, MOST)
+    }
 }
 
+fn words(view: &StepView) -> [String; 3] {
+    let message = view.message.as_ref().map_or(String::new(), names::label);
+    [step(view), message, explain::answer(&view.answer)]
+}
+
+/// The longest words decide, so that none is cut.
 pub fn height(timeline: &Timeline, layout: &Layout) -> f64 {
     let views = &timeline.steps[layout.window.from - 1..layout.window.to];
-    let longest = views.iter().map(|view| width(&words(view))).fold(60.0, f64::max);
-    (longest * 10.0 / 9.0).ceil() + 10.0 + NUMBERS
+    let longest = views.iter().flat_map(words).map(|words| width(&words, WORDS)).fold(60.0, f64::max);
+    longest.ceil() + 10.0 + NUMBERS
 }
 
 pub fn draw(timeline: &Timeline, layout: &Layout, height: f64, svg: &mut Svg) {
@@ -38,12 +49,16 @@ pub fn draw(timeline: &Timeline, layout: &Layout, height: f64, svg: &mut Svg) {
     for number in layout.window.from..=layout.window.to {
         let (view, x) = (timeline.step(number), layout.x(number));
         column(svg, view, layout.left(number), height);
-        svg.titled(&view.line, |svg| {
-            svg.text_along("step", at(x - 4.0, base - 5.0), UP, &words(view));
-            let answer = shortened(&explain::answer(&view.answer), MOST);
-            svg.text_along(answer_class(view), at(x + 10.0, base - 5.0), UP, &answer);
-            svg.text("number", at(x, base + 12.0), &number.to_string());
+        svg.titled(&view.line, About::step(view), |svg| {
+            let answer = format!("answer {}-text", answered(view));
+            let classes = ["step", "about", &answer];
+            for ((words, class), line) in words(view).iter().zip(classes).zip(LINES) {
+                if !words.is_empty() {
+                    svg.text_along(class, at(x + line, base - 5.0), UP, words);
+                }
+            }
         });
+        svg.text("number", at(x, base + 12.0), &number.to_string());
         clock(svg, layout, number, view, height - 6.0);
     }
 }
@@ -58,21 +73,12 @@ pub fn column(svg: &mut Svg, view: &StepView, left: f64, height: f64) {
     }
 }
 
-fn answer_class(view: &StepView) -> &'static str {
-    match view.answer.numbers().0 {
-        0 => "answer",
-        1 => "answer shown-text",
-        2 => "answer ask-text",
-        3 => "answer completed-text",
-        _ => "answer refused-text",
-    }
-}
-
+/// In every column that moves it, and now and then.
 fn clock(svg: &mut Svg, layout: &Layout, number: usize, view: &StepView, y: f64) {
-    let x = layout.x(number);
-    if view.clock != view.clock_before {
-        svg.text("clock", at(x, y), &format!("to {}", view.clock));
-    } else if (number - layout.window.from).is_multiple_of(AGAIN) {
-        svg.text("clock again", at(x, y), &format!("at {}", view.clock));
+    let (clock, moved) = (view.clock.to_string(), view.clock != view.clock_before);
+    let class = if moved { "clock" } else { "clock again" };
+    let long = if width(&clock, VALUE) > COLUMN { " long" } else { "" };
+    if moved || (number - layout.window.from).is_multiple_of(AGAIN) {
+        svg.text(&format!("{class}{long}"), at(layout.x(number), y), &clock);
     }
 }

@@ -1,33 +1,53 @@
 //! The lanes' lines and names.
 
+use super::about::About;
 use super::layout::{Layout, COLUMN, ROW};
-use super::svg::{at, Svg};
+use super::letters::VALUE;
+use super::svg::{at, Point, Svg};
+use super::tiles::{Taken, Tile};
 
 /// Columns after which a lane is named again.
 const AGAIN: f64 = 24.0 * COLUMN;
 
 /// The names, left of the lanes.
 pub fn names(layout: &Layout, width: f64, svg: &mut Svg) {
-    svg.text("lane-name", at(8.0, layout.server + 4.0), "server");
-    for (client, y) in layout.clients.iter().enumerate() {
-        svg.text("lane-name", at(8.0, y + 4.0), &format!("client {client}"));
+    for (lane, name, y) in lanes(layout) {
+        svg.name(lane, layout.reach(lane.client), |svg| svg.text("lane-name", at(8.0, y + 4.0), &name));
     }
     for (row, top) in &layout.rows {
-        svg.text("row-name", at(width - 8.0, top + 13.0), &row.name());
+        svg.name(About::row(*row), (*top, top + ROW), |svg| {
+            svg.text("row-name", at(width - 8.0, top + 13.0), &row.name())
+        });
     }
 }
 
+fn lanes(layout: &Layout) -> Vec<(About, String, f64)> {
+    let server = (About::default(), "server".to_string(), layout.server);
+    let clients = layout.clients.iter().enumerate();
+    let clients = clients.map(|(client, y)| (About::client(client), format!("client {client}"), *y));
+    std::iter::once(server).chain(clients).collect()
+}
+
 pub fn lines(layout: &Layout, svg: &mut Svg) {
-    for row in layout.rows.values() {
-        svg.line("row", at(0.0, row + ROW), at(layout.width, row + ROW));
+    for (row, top) in &layout.rows {
+        let y = top + ROW;
+        svg.group(About::row(*row), |svg| svg.line("row", at(0.0, y), at(layout.width, y)));
     }
-    let lanes = std::iter::once(("server".to_string(), layout.server));
-    let clients = layout.clients.iter().enumerate().map(|(client, y)| (format!("client {client}"), *y));
-    for (name, y) in lanes.chain(clients) {
-        svg.line("lane", at(0.0, y), at(layout.width, y));
+    for (lane, _, y) in lanes(layout) {
+        svg.group(lane, |svg| svg.line("lane", at(0.0, y), at(layout.width, y)));
+    }
+}
+
+/// The lanes' names again, where there is room for them.
+pub fn again(layout: &Layout, taken: &mut Taken, svg: &mut Svg) {
+    for (lane, name, y) in lanes(layout) {
         let mut x = AGAIN;
         while x + AGAIN / 2.0 < layout.width {
-            svg.text("again", at(x, y + 10.0), &name);
+            let spots = (0..24).map(|column| at(x + f64::from(column) * COLUMN / 2.0, y - 4.0));
+            let free = |spot: &Point| taken.try_take(Tile::of_words(*spot, at(1.0, 0.0), &name, VALUE));
+            if let Some(spot) = spots.into_iter().find(free) {
+                svg.group(lane, |svg| svg.text("again", spot, &name));
+            }
             x += AGAIN;
         }
     }

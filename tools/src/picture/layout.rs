@@ -1,20 +1,44 @@
 //! Where everything is: a column for each step of the window, a lane for
 //! the server and one for each client, in it a row for each volume and
-//! object that the window has something of.
+//! object that the window has something of, and at the right the messages
+//! under way after the last step shown.
+//!
+//! Messages fall from the server's line and rise from the clients', so what
+//! steps say is on the other side of each line: above the server's, below a
+//! client's. One step says one thing on a lane, within its column.
 
 use std::collections::BTreeMap;
 
+use model::message::Message;
+use model::step_record::{ASK, READ, RESTART_CLIENT};
+
+use super::letters::{width, LABEL};
+use super::svg::{at, Point};
+use super::words;
+use crate::names;
+use crate::timeline::flights::Flight;
 use crate::timeline::spans::Span;
 use crate::timeline::tracks::Track;
-use crate::timeline::Timeline;
+use crate::timeline::{StepView, Timeline};
 
-pub const COLUMN: f64 = 44.0;
+pub const COLUMN: f64 = 48.0;
 pub const ROW: f64 = 21.0;
 /// From the server's line down to the first client's: room for a label along
 /// the steepest arrow.
-const FALL: f64 = 92.0;
-const ABOVE_CLIENT: f64 = 26.0;
-const BELOW_LINE: f64 = 12.0;
+const FALL: f64 = 132.0;
+const ABOVE_CLIENT: f64 = 24.0;
+/// Between a lane's line and its rows.
+const BESIDE_LINE: f64 = 19.0;
+/// How far from its receiver's line a message ends that does not arrive.
+const SHORT: f64 = 13.0;
+/// Right of the columns, at least.
+const MARGIN: f64 = 10.0;
+/// Between the messages under way at the right.
+const QUEUED: f64 = 11.0;
+
+/// Most steps of a picture alone: it stays narrower than 16,000 pixels, with
+/// all that stands beside them, so that any renderer draws the whole of it.
+const MOST: usize = 300;
 
 /// The steps shown, both included, counted from 1.
 #[derive(Clone, Copy, Debug, PartialEq, Eq)]
@@ -35,11 +59,18 @@ pub struct Layout {
     pub window: Window,
     pub width: f64,
     pub height: f64,
+    /// Right of the columns, for the messages under way.
+    pub margin: f64,
     /// The y of each lane's line, on which its steps and messages are.
     pub server: f64,
     pub clients: Vec<f64>,
     /// The upper edge of each row.
     pub rows: BTreeMap<Row, f64>,
+    /// Below the last lane.
+    foot: f64,
+    /// Where the flights end, by place in their list, that are under way
+    /// after the last step shown, and what is said there.
+    pub queue: BTreeMap<usize, (Point, String)>,
 }
 
 impl Layout {
@@ -52,17 +83,89 @@ impl Layout {
             .collect();
         let mut y = 8.0;
         rows.range_mut(..Row::Volume(0, 0)).for_each(|(_, top)| (*top, y) = (y, y + ROW));
-        let server = y + BELOW_LINE;
+        let server = y + BESIDE_LINE;
         y = server + FALL - ABOVE_CLIENT;
         let mut clients = Vec::new();
         for client in 0..usize::from(timeline.setup.clients) {
             clients.push(y + ABOVE_CLIENT);
-            y += ABOVE_CLIENT + BELOW_LINE;
+            y += ABOVE_CLIENT + BESIDE_LINE;
             let own = rows.iter_mut().filter(|(row, _)| row.client() == Some(client));
             own.for_each(|(_, top)| (*top, y) = (y, y + ROW));
         }
         let width = (window.to + 1 - window.from) as f64 * COLUMN;
-        Layout { window, width, height: y + 14.0, server, clients, rows }
+        let (height, margin, foot, queue) = (y + 14.0, MARGIN, y, BTreeMap::new());
+        let mut layout = Layout { window, width, height, margin, server, clients, rows, foot, queue };
+        layout.line_up(&timeline.flights);
+        layout
+    }
+
+    /// Each message under way near its receiver's line, below the one before
+    /// it.
+    fn line_up(&mut self, flights: &[Flight]) {
+        let under_way = |flight: &Flight| flight.under_way_after(self.window.to);
+        let queue = flights.iter().enumerate().filter(|(_, flight)| under_way(flight));
+        let mut queue: Vec<(f64, usize, String)> = queue
+            .enumerate()
+            .map(|(queued, (place, flight))| {
+                (self.short(&flight.message), place, words::queued(queued, &flight.message))
+            })
+            .collect();
+        queue.sort_by(|one, other| one.0.total_cmp(&other.0));
+        let mut lowest = 0.0;
+        for (y, place, words) in queue {
+            lowest = f64::max(y, lowest + QUEUED);
+            self.margin = self.margin.max(width(&words, LABEL) + 20.0);
+            self.queue.insert(place, (at(self.width + 6.0, lowest), words));
+        }
+        self.height = self.height.max(lowest + QUEUED);
+    }
+
+    /// A lane's upper and lower edge.
+    pub fn reach(&self, client: Option<usize>) -> (f64, f64) {
+        let top = |client: usize| self.clients.get(client).map(|line| line - ABOVE_CLIENT);
+        match client {
+            Some(client) => (top(client).unwrap_or(self.foot), top(client + 1).unwrap_or(self.foot)),
+            None => (0.0, top(0).unwrap_or(self.foot)),
+        }
+    }
+
+    /// The line of the lane that a step is about: a message's receiver's, or
+    /// that of a client that the step names.
+    pub fn lane(&self, view: &StepView) -> f64 {
+        let client = || self.clients.get(usize::from(view.step.client)).copied();
+        match (&view.message, view.step.kind) {
+            (Some(message), _) => self.ends(message).1,
+            (None, READ | ASK | RESTART_CLIENT) => client().unwrap_or(self.server),
+            _ => self.server,
+        }
+    }
+
+    /// The lines of a message's sender and receiver.
+    pub fn ends(&self, message: &Message) -> (f64, f64) {
+        let client = self.clients[usize::from(message.client)];
+        match names::from_server(&message.kind) {
+            true => (self.server, client),
+            false => (client, self.server),
+        }
+    }
+
+    /// Where a message is that does not reach its receiver's line.
+    pub fn short(&self, message: &Message) -> f64 {
+        let (sender, receiver) = self.ends(message);
+        if receiver > sender {
+            receiver - SHORT
+        } else {
+            receiver + SHORT
+        }
+    }
+
+    /// The line that words stand on, beside a lane's line.
+    pub fn beside(&self, lane: f64) -> f64 {
+        if lane == self.server {
+            lane - 9.0
+        } else {
+            lane + 15.5
+        }
     }
 
     /// The middle of a step's column; left or right of the picture for one
@@ -85,6 +188,15 @@ impl Layout {
 }
 
 impl Window {
+    /// The first of its steps, as many as a picture alone may have.
+    pub fn narrowed(&self) -> Window {
+        Window { to: self.to.min(self.from + MOST - 1), ..*self }
+    }
+
+    pub fn holds(&self, step: usize) -> bool {
+        (self.from..=self.to).contains(&step)
+    }
+
     /// A span that ended before the window, or begins after it, is not in it.
     fn shows(&self, span: &Span) -> bool {
         span.from <= self.to && span.to.is_none_or(|to| to >= self.from)

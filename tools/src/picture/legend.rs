@@ -1,6 +1,7 @@
 //! What the marks mean, in as many rows as the width needs.
 
-use super::svg::{at, width, Svg};
+use super::letters::{width, WORDS};
+use super::svg::{at, Svg};
 
 const ROW: f64 = 20.0;
 const SIGN: f64 = 34.0;
@@ -8,7 +9,8 @@ const SIGN: f64 = 34.0;
 /// Draws its sign into the room from x, around the middle line y.
 type Sign = fn(&mut Svg, f64, f64);
 
-const SIGNS: [(&str, Sign); 14] = [
+const SIGNS: [(&str, Sign); 19] = [
+    ("ask", |svg, x, y| svg.circle("asked", at(x + 14.0, y), 3.0)),
     ("read shown, with its value", |svg, x, y| svg.circle("shown", at(x + 14.0, y), 6.0)),
     ("ask first", |svg, x, y| {
         svg.circle("ask-first", at(x + 14.0, y), 6.0);
@@ -16,18 +18,31 @@ const SIGNS: [(&str, Sign); 14] = [
     }),
     ("refused, with its number", |svg, x, y| svg.cross("refused", at(x + 14.0, y), 5.5)),
     ("column of a clock step: time passes", |svg, x, y| svg.rect("time", at(x, y - 7.0), 28.0, 14.0)),
+    ("restart", |svg, x, y| svg.line("restart", at(x + 14.0, y - 7.0), at(x + 14.0, y + 7.0))),
     ("volume lease of the client", |svg, x, y| svg.rect("volume-lease", at(x, y - 5.5), 28.0, 11.0)),
     ("object lease of the client", |svg, x, y| svg.rect("object-lease", at(x, y - 5.5), 28.0, 11.0)),
     ("copy held", |svg, x, y| svg.line("copy", at(x, y), at(x + 28.0, y))),
     ("the same lease as the server notes it", |svg, x, y| svg.rect("noted", at(x, y - 1.0), 28.0, 2.0)),
     ("marked unreachable", |svg, x, y| svg.line("unreachable", at(x, y), at(x + 28.0, y))),
-    ("write, to completion; red: its latest end", |svg, x, y| {
-        svg.rect("write", at(x, y - 5.5), 22.0, 11.0);
-        svg.shape("completed", &[at(x + 22.0, y - 5.5), at(x + 28.0, y), at(x + 22.0, y + 5.5)]);
-        svg.line("latest", at(x + 17.0, y - 8.0), at(x + 17.0, y + 8.0));
+    ("guard after a restart of the server", |svg, x, y| svg.rect("guard", at(x, y - 5.5), 28.0, 11.0)),
+    ("write, from acceptance; red: its latest end", |svg, x, y| {
+        svg.line("drop", at(x + 4.0, y), at(x + 4.0, y + 6.0));
+        svg.rect("accepted", at(x, y + 3.0), 8.0, 6.0);
+        svg.rect("write", at(x + 4.0, y - 8.0), 24.0, 11.0);
+        svg.line("latest", at(x + 21.0, y - 9.0), at(x + 21.0, y + 5.0));
+    }),
+    ("write completed, then a line up to its latest end", |svg, x, y| {
+        svg.rect("write", at(x, y - 5.5), 8.0, 11.0);
+        svg.shape("completed", &[at(x + 8.0, y - 5.5), at(x + 14.0, y), at(x + 8.0, y + 5.5)]);
+        svg.line("latest-rest", at(x + 8.0, y), at(x + 27.0, y));
+        svg.line("latest", at(x + 27.0, y - 7.5), at(x + 27.0, y + 7.5));
     }),
     ("write cut off by a restart", |svg, x, y| svg.rect("write cut-off", at(x, y - 5.5), 28.0, 11.0)),
-    ("message lost", |svg, x, y| {
+    ("message, received", |svg, x, y| {
+        svg.line("arrow ack", at(x, y), at(x + 24.0, y));
+        svg.shape("head ack", &[at(x + 28.0, y), at(x + 19.0, y - 3.4), at(x + 19.0, y + 3.4)]);
+    }),
+    ("message lost, with its receiver", |svg, x, y| {
         svg.line("arrow invalidate lost", at(x, y), at(x + 22.0, y));
         svg.cross("lost-mark", at(x + 22.0, y), 4.5);
     }),
@@ -35,7 +50,7 @@ const SIGNS: [(&str, Sign); 14] = [
         svg.shape("doubled grant", &[at(x, y), at(x + 5.0, y - 5.0), at(x + 10.0, y), at(x + 5.0, y + 5.0)]);
         svg.line("arrow grant copied", at(x + 10.0, y), at(x + 28.0, y));
     }),
-    ("still under way", |svg, x, y| {
+    ("still under way, with its place in the queue", |svg, x, y| {
         svg.line("arrow renew", at(x, y), at(x + 22.0, y));
         svg.circle("under-way renew", at(x + 25.0, y), 3.0);
     }),
@@ -45,7 +60,7 @@ const SIGNS: [(&str, Sign); 14] = [
 pub fn draw(svg: &mut Svg, room: f64) -> f64 {
     let (mut x, mut y) = (8.0, ROW / 2.0);
     for (words, sign) in SIGNS {
-        let needed = SIGN + width(words) * 1.12 + 18.0;
+        let needed = SIGN + width(words, WORDS) + 18.0;
         if x + needed > room && x > 8.0 {
             (x, y) = (8.0, y + ROW);
         }

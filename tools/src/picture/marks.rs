@@ -4,9 +4,12 @@
 use model::answer::Answer;
 use model::step_record::*;
 
+use super::about::About;
 use super::header::column;
 use super::layout::{Layout, COLUMN};
-use super::svg::{at, shortened, Point, Svg};
+use super::letters::{cut, VALUE};
+use super::svg::{at, Point, Svg};
+use super::tiles::{Taken, Tile};
 use crate::timeline::{StepView, Timeline};
 
 /// Columns of time and refusals, behind everything.
@@ -19,62 +22,71 @@ pub fn columns(timeline: &Timeline, layout: &Layout, svg: &mut Svg) {
     }
 }
 
-pub fn draw(timeline: &Timeline, layout: &Layout, svg: &mut Svg) {
+pub fn draw(timeline: &Timeline, layout: &Layout, taken: &mut Taken, svg: &mut Svg) {
     for number in layout.window.from..=layout.window.to {
         let view = timeline.step(number);
-        svg.titled(&view.line, |svg| mark(layout, svg, view, number));
+        let spot = at(layout.x(number), layout.lane(view));
+        svg.titled(&view.line, About::step(view), |svg| {
+            mark(layout, taken, svg, view, spot);
+            if let Some((class, words)) = said(view) {
+                let beside = at(spot.x, layout.beside(spot.y));
+                svg.text(&format!("value {class}"), beside, &words);
+                taken.take(Tile::of_centered(beside, &words, VALUE));
+            }
+        });
     }
 }
 
-/// The line of the lane that a step is about.
-fn lane(layout: &Layout, view: &StepView) -> f64 {
-    match view.step.kind {
-        READ | ASK | RESTART_CLIENT => {
-            layout.clients.get(usize::from(view.step.client)).copied().unwrap_or(layout.server)
-        }
-        _ => layout.server,
-    }
-}
-
-fn mark(layout: &Layout, svg: &mut Svg, view: &StepView, number: usize) {
-    let spot = at(layout.x(number), lane(layout, view));
+fn mark(layout: &Layout, taken: &mut Taken, svg: &mut Svg, view: &StepView, spot: Point) {
+    let Point { x, y } = spot;
     match (view.answer, view.step.kind) {
-        (Answer::Refused(refusal), _) => {
-            svg.cross("refused", spot, 5.5);
-            svg.text("value refused-text", at(spot.x, spot.y - 9.0), &refusal.to_string());
-        }
-        (Answer::Shown(value), _) => {
-            svg.circle("shown", spot, 6.0);
-            svg.text("value shown-text", at(spot.x, spot.y - 9.0), &shortened(&value.to_string(), 8));
-        }
+        (Answer::Refused(_), _) => svg.cross("refused", spot, 5.5),
+        (Answer::Shown(_), _) => svg.circle("shown", spot, 6.0),
         (Answer::AskFirst, _) => {
             svg.circle("ask-first", spot, 6.0);
-            svg.text("question", at(spot.x, spot.y + 3.2), "?");
+            svg.text("question", at(x, y + 3.2), "?");
         }
-        (answer, WRITE) => write(svg, view, answer, spot),
-        (_, ASK) => svg.circle("asked", spot, 3.0),
-        (_, RESTART_SERVER | RESTART_CLIENT) => restart(layout, svg, view, spot),
-        _ => (),
+        (answer, WRITE) => write(svg, answer, spot),
+        (_, ASK) => return svg.circle("asked", spot, 3.0),
+        (_, RESTART_SERVER | RESTART_CLIENT) => return restart(layout, taken, svg, view, spot),
+        _ => return,
+    }
+    taken.take(Tile::level(at(x - 6.0, y - 6.0), at(x + 6.0, y + 6.0)));
+}
+
+/// What stands beside the lane's line, with its class. The answer of a write
+/// that is complete on acceptance is its value: it has no bar.
+fn said(view: &StepView) -> Option<(&'static str, String)> {
+    let value = |value: u64| cut(&value.to_string(), COLUMN - 2.0, VALUE);
+    match (view.answer, view.step.kind) {
+        (Answer::Refused(refusal), _) => Some(("refused-text", refusal.to_string())),
+        (Answer::Shown(shown), _) => Some(("shown-text", value(shown))),
+        (Answer::Completed(_), WRITE) => Some(("completed-text", value(view.step.value))),
+        (_, RESTART_SERVER | RESTART_CLIENT) => Some(("restart-text", "restart".into())),
+        _ => None,
     }
 }
 
-/// A write that is complete on acceptance has no bar: its value stands here.
-fn write(svg: &mut Svg, view: &StepView, answer: Answer, spot: Point) {
+fn write(svg: &mut Svg, answer: Answer, spot: Point) {
     let Point { x, y } = spot;
     svg.rect("accepted", at(x - 4.0, y - 4.0), 8.0, 8.0);
     if matches!(answer, Answer::Completed(_)) {
         svg.shape("completed", &[at(x + 4.0, y - 6.0), at(x + 11.0, y), at(x + 4.0, y + 6.0)]);
-        svg.text("value completed-text", at(x, y + 15.0), &shortened(&view.step.value.to_string(), 8));
     }
 }
 
-/// A bar over the lane's rows: the server's are above its line, a client's
-/// below.
-fn restart(layout: &Layout, svg: &mut Svg, view: &StepView, spot: Point) {
+/// A bar over the lane's rows, but for the word beside the line: the server's
+/// rows are above its line, a client's below.
+fn restart(layout: &Layout, taken: &mut Taken, svg: &mut Svg, view: &StepView, spot: Point) {
     let client = (view.step.kind == RESTART_CLIENT).then_some(usize::from(view.step.client));
     let rows = layout.rows.iter().filter(|(row, _)| row.client() == client);
-    let tops = rows.map(|(_, top)| *top).chain([spot.y]);
-    let (high, low) = tops.fold((spot.y, spot.y), |(high, low), top| (high.min(top), low.max(top + 17.0)));
-    svg.line("restart", at(spot.x, high), at(spot.x, if client.is_some() { low } else { spot.y + 5.0 }));
-    svg.text("value", at(spot.x, if client.is_some() { spot.y - 6.0 } else { spot.y + 15.0 }), "restart");
+    let mut bar = |high: f64, low: f64| {
+        svg.line("restart", at(spot.x, high), at(spot.x, low));
+        taken.take(Tile::level(at(spot.x - 3.0, high), at(spot.x + 3.0, low)));
+    };
+    bar(spot.y - 6.0, spot.y + 6.0);
+    let tops: Vec<f64> = rows.map(|(_, top)| *top).collect();
+    if let (Some(first), Some(last)) = (tops.first(), tops.last()) {
+        bar(*first, last + 17.0);
+    }
 }

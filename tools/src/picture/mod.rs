@@ -1,14 +1,18 @@
 //! A picture of a run over time, as SVG or as a page that holds it.
 
+mod about;
 mod arrows;
 mod bars;
 mod header;
 mod lanes;
 pub mod layout;
 mod legend;
+mod letters;
 mod marks;
 mod page;
+mod paths;
 pub mod svg;
+mod tiles;
 mod words;
 
 use model::gen::runs::Run;
@@ -16,13 +20,20 @@ use model::gen::runs::Run;
 use crate::text;
 use crate::timeline::Timeline;
 use layout::{Layout, Window};
-use svg::{at, n, shortened, Svg};
+use letters::{cut, width, TITLE, WORDS};
+use svg::{at, n, Svg};
+use tiles::Taken;
 
 pub use page::page;
 
 const STYLE: &str = include_str!("style.css");
 /// Room for the names left of the lanes.
 const NAMES: f64 = 112.0;
+
+/// A picture alone is not narrower, for its title and its legend.
+const NARROW: f64 = 700.0;
+/// Between the lines below the title.
+const LINE: f64 = 13.0;
 
 /// The parts, each with its own coordinates; all share the layout's width
 /// and height.
@@ -39,53 +50,84 @@ impl Parts {
         let layout = Layout::new(timeline, window);
         let header_height = header::height(timeline, &layout);
         let (mut header, mut names, mut body) = (Svg::default(), Svg::default(), Svg::default());
+        let (mut marks, mut taken) = (Svg::default(), Taken::default());
         header::draw(timeline, &layout, header_height, &mut header);
         lanes::names(&layout, NAMES, &mut names);
         marks::columns(timeline, &layout, &mut body);
         lanes::lines(&layout, &mut body);
-        bars::draw(timeline, &layout, &mut body);
-        arrows::draw(timeline, &layout, &mut body);
-        marks::draw(timeline, &layout, &mut body);
-        Parts { layout, header_height, header: header.0, names: names.0, lanes: body.0 }
+        bars::draw(timeline, &layout, &mut taken, &mut body);
+        marks::draw(timeline, &layout, &mut taken, &mut marks);
+        arrows::draw(timeline, &layout, &mut taken, &mut body);
+        lanes::again(&layout, &mut taken, &mut body);
+        Parts { layout, header_height, header: header.0, names: names.0, lanes: body.0 + &marks.0 }
+    }
+
+    /// Of the lanes, with what is right of the last column.
+    fn width(&self) -> f64 {
+        self.layout.width + self.layout.margin
     }
 }
 
-/// The setup, and the note as far as it can be read.
-fn titles(run: &Run, window: Window) -> (String, String) {
-    let note = text::note::lines(&run.note).first().cloned().unwrap_or("a run without a note".into());
-    let count = run.steps.len();
+/// The note as far as it can be read, then what is shown and the setup.
+fn titles(note: &[u8], timeline: &Timeline, window: Window) -> (String, Vec<String>) {
+    let note = text::note::lines(note).first().cloned().unwrap_or("a run without a note".into());
+    let count = timeline.steps.len();
     let shown = match (window.from, window.to) {
         (1, to) if to == count => format!("{count} steps"),
         (from, to) => format!("steps {from} to {to} of {count}"),
     };
-    (shortened(&note, 80), format!("{shown}; {}", text::setup::lines(&run.setup).join("; ")))
+    (note, std::iter::once(shown).chain(text::setup::lines(&timeline.setup)).collect())
+}
+
+/// The pieces in as many lines as they need.
+fn wrapped(pieces: &[String], room: f64) -> Vec<String> {
+    let mut lines: Vec<String> = Vec::new();
+    for piece in pieces {
+        match lines.last_mut() {
+            Some(line) if width(&format!("{line}; {piece}"), WORDS) <= room => {
+                *line = format!("{line}; {piece}");
+            }
+            _ => lines.push(piece.clone()),
+        }
+    }
+    lines
 }
 
 /// A picture that stands alone. The window must lie within the run.
 pub fn svg(run: &Run, window: Window) -> String {
-    let parts = Parts::new(&Timeline::new(run), window);
+    drawn(&run.note, &Timeline::new(run), window)
+}
+
+pub fn drawn(note: &[u8], timeline: &Timeline, window: Window) -> String {
+    let parts = Parts::new(timeline, window);
     let Parts { layout, header_height, .. } = &parts;
-    let width = NAMES + layout.width + 10.0;
-    let (title, subtitle) = titles(run, window);
-    let room = width.max(700.0);
+    let room = NARROW.max(NAMES + parts.width());
+    let (title, subtitle) = titles(note, timeline, window);
     let mut out = Svg::default();
-    out.text("title", at(8.0, 17.0), &title);
-    out.text("subtitle", at(8.0, 32.0), &shortened(&subtitle, (room / 5.2) as usize));
-    let (head, body) = (40.0, 40.0 + header_height);
+    out.text("title", at(8.0, 17.0), &cut(&title, room - 16.0, TITLE));
+    let mut y = 32.0;
+    for line in wrapped(&subtitle, room - 16.0) {
+        out.text("subtitle", at(8.0, y), &line);
+        y += LINE;
+    }
+    let (head, body) = (y, y + header_height);
     out.part("header", at(NAMES, head), layout.width, *header_height, &parts.header);
     out.part("names", at(0.0, body), NAMES, layout.height, &parts.names);
     out.text("row-name", at(NAMES - 8.0, body - 6.0), "clock");
     out.text("row-name", at(NAMES - 8.0, body - 22.0), "step");
-    out.part("lanes", at(NAMES, body), layout.width, layout.height, &parts.lanes);
+    out.part("lanes", at(NAMES, body), parts.width(), layout.height, &parts.lanes);
     let mut signs = Svg::default();
     let signs_height = legend::draw(&mut signs, room);
     let foot = body + layout.height + 8.0;
     out.part("signs", at(0.0, foot), room, signs_height, &signs.0);
-    let (room, height) = (n(room), n(foot + signs_height));
+    alone(room, foot + signs_height, &out.0)
+}
+
+fn alone(width: f64, height: f64, inside: &str) -> String {
+    let (width, height) = (n(width), n(height));
     format!(
-        "<svg xmlns=\"http://www.w3.org/2000/svg\" width=\"{room}\" height=\"{height}\" \
-         viewBox=\"0 0 {room} {height}\">\n<style>\n{STYLE}</style>\n\
-         <rect class=\"paper\" width=\"{room}\" height=\"{height}\"/>\n{}</svg>\n",
-        out.0
+        "<svg xmlns=\"http://www.w3.org/2000/svg\" width=\"{width}\" height=\"{height}\" \
+         viewBox=\"0 0 {width} {height}\">\n<style>\n{STYLE}</style>\n\
+         <rect class=\"paper\" width=\"{width}\" height=\"{height}\"/>\n{inside}</svg>\n"
     )
 }

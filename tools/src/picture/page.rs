@@ -5,19 +5,23 @@ use std::fmt::Write;
 
 use model::gen::runs::Run;
 
-use super::layout::Window;
+use super::about::About;
+use super::layout::{Layout, Window, COLUMN};
 use super::svg::{at, escaped, n, Svg};
+use super::words::answered;
 use super::{legend, titles, Parts, NAMES, STYLE};
 use crate::timeline::Timeline;
 
 const PAGE: &str = include_str!("page.html");
+const PAGE_STYLE: &str = include_str!("page.css");
+const SCRIPTS: [&str; 3] = [include_str!("parts.js"), include_str!("fold.js"), include_str!("page.js")];
 const SIGNS: f64 = 1_180.0;
 
 pub fn page(run: &Run, window: Window) -> String {
     let timeline = Timeline::new(run);
     let parts = Parts::new(&timeline, window);
-    let (width, height) = (parts.layout.width, parts.layout.height);
-    let (title, subtitle) = titles(run, window);
+    let (width, height) = (parts.width(), parts.layout.height);
+    let (title, subtitle) = titles(&run.note, &timeline, window);
     let mut signs = Svg::default();
     let signs_height = legend::draw(&mut signs, SIGNS);
     let mut corner = Svg::default();
@@ -25,15 +29,20 @@ pub fn page(run: &Run, window: Window) -> String {
     corner.text("row-name", at(NAMES - 8.0, parts.header_height - 6.0), "clock");
     let filled = [
         ("{style}", STYLE.to_string()),
+        ("{page-style}", PAGE_STYLE.to_string()),
+        ("{script}", SCRIPTS.concat()),
         ("{first}", window.from.to_string()),
+        ("{column}", n(COLUMN)),
+        ("{clients}", run.setup.clients.to_string()),
+        ("{volumes}", format!("{:?}", &run.setup.volume_of[..usize::from(run.setup.objects)])),
         ("{signs}", part("signs", SIGNS, signs_height, &signs.0)),
         ("{corner}", part("corner", NAMES, parts.header_height, &corner.0)),
         ("{header}", part("header", width, parts.header_height, &parts.header)),
         ("{names}", part("names", NAMES, height, &parts.names)),
         ("{lanes}", part("lanes", width, height, &parts.lanes)),
         ("{title}", escaped(&title)),
-        ("{subtitle}", escaped(&subtitle)),
-        ("{listing}", listing(&timeline, window)),
+        ("{subtitle}", escaped(&subtitle.join("; "))),
+        ("{listing}", listing(&timeline, &parts.layout)),
     ];
     fill(&filled)
 }
@@ -55,19 +64,27 @@ fn fill(filled: &[(&str, String)]) -> String {
     page + rest
 }
 
+/// The page may make it narrower alone.
 fn part(class: &str, width: f64, height: f64, inside: &str) -> String {
     let (width, height) = (n(width), n(height));
     format!(
         "<svg class=\"{class}\" data-width=\"{width}\" data-height=\"{height}\" width=\"{width}\" \
-         height=\"{height}\" viewBox=\"0 0 {width} {height}\">\n{inside}</svg>"
+         height=\"{height}\" viewBox=\"0 0 {width} {height}\" preserveAspectRatio=\"none\">\n{inside}</svg>"
     )
 }
 
-fn listing(timeline: &Timeline, window: Window) -> String {
+/// Each line with what it is about, its kind of answer and the y of its lane.
+fn listing(timeline: &Timeline, layout: &Layout) -> String {
     let mut lines = String::new();
-    for number in window.from..=window.to {
-        let line = escaped(&timeline.step(number).line);
-        writeln!(lines, "<p data-step=\"{number}\">{line}</p>").expect("a string takes every line");
+    for number in layout.window.from..=layout.window.to {
+        let view = timeline.step(number);
+        let (about, answer, lane) = (About::step(view), answered(view), n(layout.lane(view)));
+        let line = escaped(&view.line);
+        writeln!(
+            lines,
+            "<p data-step=\"{number}\"{about} data-answer=\"{answer}\" data-lane=\"{lane}\">{line}</p>"
+        )
+        .expect("a string takes every line");
     }
     lines
 }

@@ -3,6 +3,8 @@
 
 use std::fmt::Write;
 
+use super::about::About;
+
 #[derive(Clone, Copy, Debug, PartialEq)]
 pub struct Point {
     pub x: f64,
@@ -89,8 +91,23 @@ impl Svg {
     }
 
     /// Elements that show these words when pointed at.
-    pub fn titled(&mut self, title: &str, inside: impl FnOnce(&mut Svg)) {
-        self.put(format_args!("<g><title>{}</title>", escaped(title)));
+    pub fn titled(&mut self, title: &str, about: About, inside: impl FnOnce(&mut Svg)) {
+        self.group(about, |svg| {
+            svg.put(format_args!("<title>{}</title>", escaped(title)));
+            inside(svg);
+        });
+    }
+
+    pub fn group(&mut self, about: About, inside: impl FnOnce(&mut Svg)) {
+        self.put(format_args!("<g{about}>"));
+        inside(self);
+        self.put(format_args!("</g>"));
+    }
+
+    /// A name, with how far down what it names reaches.
+    pub fn name(&mut self, about: About, (top, bottom): (f64, f64), inside: impl FnOnce(&mut Svg)) {
+        let (top, bottom) = (n(top), n(bottom));
+        self.put(format_args!("<g{about} data-top=\"{top}\" data-bottom=\"{bottom}\">"));
         inside(self);
         self.put(format_args!("</g>"));
     }
@@ -103,32 +120,4 @@ impl Svg {
              viewBox=\"0 0 {width} {height}\">\n{inside}</svg>"
         ));
     }
-}
-
-/// Room that words take in a sans-serif font of 9 pixels, rather too much
-/// than too little.
-pub fn width(words: &str) -> f64 {
-    words.chars().map(character_width).sum()
-}
-
-fn character_width(c: char) -> f64 {
-    match c {
-        'i' | 'j' | 'l' | 'I' => 2.6,
-        ' ' | 't' | 'f' | 'r' | ',' | '.' | ':' | ';' | '(' | ')' => 2.9,
-        'm' | 'w' => 7.2,
-        'A'..='Z' => 6.2,
-        _ => 5.1,
-    }
-}
-
-/// The first of these wordings that fits.
-pub fn fitting(wordings: &[String], room: f64) -> Option<&str> {
-    wordings.iter().map(String::as_str).find(|words| width(words) <= room)
-}
-
-pub fn shortened(words: &str, most: usize) -> String {
-    if words.chars().count() <= most {
-        return words.into();
-    }
-    words.chars().take(most - 1).chain(['…']).collect()
 }

@@ -1,14 +1,71 @@
-//! What a bar says on itself, and when pointed at.
+//! What messages and bars say, on themselves and when pointed at.
 
-use super::svg::shortened;
+use model::message::Message;
+
+use super::letters::{cut, LABEL};
+use crate::names;
+use crate::timeline::flights::{End, Flight};
 use crate::timeline::spans::Span;
 use crate::timeline::tracks::Track;
-use crate::timeline::Timeline;
+use crate::timeline::{StepView, Timeline};
 
-/// From the fullest wording to the shortest.
+/// Room for a value where a write stands for one step.
+const VALUES: f64 = 42.0;
+
+/// The kind of a step's answer, as a class and as the page's buttons have it.
+pub fn answered(view: &StepView) -> &'static str {
+    match view.answer.numbers().0 {
+        0 => "done",
+        1 => "shown",
+        2 => "ask",
+        3 => "completed",
+        _ => "refused",
+    }
+}
+
+pub fn receiver(message: &Message) -> String {
+    match names::from_server(&message.kind) {
+        true => format!("client {}", message.client),
+        false => "server".into(),
+    }
+}
+
+/// With the receiver: from the fullest wording to the shortest.
+pub fn addressed(message: &Message) -> Vec<String> {
+    let receiver = receiver(message);
+    anonymous(message).iter().map(|words| format!("{words} to {receiver}")).collect()
+}
+
+/// Where the receiver is named elsewhere.
+pub fn anonymous(message: &Message) -> Vec<String> {
+    vec![names::label(message), names::kind(&message.kind).into()]
+}
+
+/// At this place of the queue.
+pub fn queued(place: usize, message: &Message) -> String {
+    format!("{place}: {} to {}", names::label(message), receiver(message))
+}
+
+pub fn flight_title(timeline: &Timeline, flight: &Flight) -> String {
+    let what = names::whole(&flight.message);
+    let line = |step: usize| &timeline.step(step).line;
+    let begin = match flight.copy_of {
+        Some(_) => format!("copied by step {}", line(flight.sent)),
+        None => format!("sent by step {}", line(flight.sent)),
+    };
+    let end = match flight.end {
+        End::Delivered(step) => format!("received in step {}", line(step)),
+        End::Lost(step) => format!("lost by step {}", line(step)),
+        End::QueueFull => "lost at once: the queue was full".into(),
+        End::UnderWay => "still under way at the end".into(),
+    };
+    format!("{what}\n{begin}\n{end}")
+}
+
+/// Of a bar, from the fullest wording to the shortest.
 pub fn wordings(span: &Span) -> Vec<String> {
     let (until, version) = (span.detail.until, span.detail.version);
-    let value = shortened(&span.detail.value.to_string(), 8);
+    let value = span.detail.value.to_string();
     match span.track {
         Track::VolumeLease(_, volume) => {
             vec![
@@ -26,13 +83,13 @@ pub fn wordings(span: &Span) -> Vec<String> {
             format!("object {object}: write {value}, latest end {until}"),
             format!("write {value}, to {until}"),
             format!("write {value}"),
-            value,
+            cut(&value, VALUES, LABEL),
         ],
         _ => vec![format!("guard to {until}, epoch {version}"), format!("to {until}")],
     }
 }
 
-pub fn title(timeline: &Timeline, span: &Span) -> String {
+pub fn span_title(timeline: &Timeline, span: &Span) -> String {
     let detail = &span.detail;
     let what = match span.track {
         Track::Guard(volume) => {

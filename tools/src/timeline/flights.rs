@@ -26,6 +26,17 @@ pub struct Flight {
     pub end: End,
 }
 
+impl Flight {
+    pub fn under_way_after(&self, step: usize) -> bool {
+        let ended = match self.end {
+            End::UnderWay => false,
+            End::Delivered(end) | End::Lost(end) => end <= step,
+            End::QueueFull => true,
+        };
+        self.sent <= step && !ended
+    }
+}
+
 #[derive(Default)]
 pub struct Flights {
     pub all: Vec<Flight>,

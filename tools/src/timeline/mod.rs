@@ -10,10 +10,10 @@ use model::answer::Answer;
 use model::gen::runs::Run;
 use model::message::Message;
 use model::setup::Setup;
-use model::step_record::Step;
+use model::step_record::{Step, DELIVER, DOUBLE, LOSE};
 
 use crate::explain;
-use crate::trace::walk;
+use crate::trace::{walk, Moment};
 use flights::{Flight, Flights};
 use spans::{Span, Spans};
 
@@ -22,8 +22,8 @@ pub struct StepView {
     pub answer: Answer,
     pub clock_before: u32,
     pub clock: u32,
-    /// The message that the step delivered or lost.
-    pub taken: Option<Message>,
+    /// The message that the step delivered, lost or doubled.
+    pub message: Option<Message>,
     /// Its line of the explained listing.
     pub line: String,
 }
@@ -49,7 +49,7 @@ impl Timeline {
                 answer: moment.answer,
                 clock_before: moment.before.tables.clock,
                 clock: moment.clock(),
-                taken: moment.taken().copied(),
+                message: message(moment),
                 line: explain::line(moment),
             });
         });
@@ -68,4 +68,9 @@ impl Timeline {
         let inside = view.clock_before < time && time <= view.clock;
         inside.then(|| f64::from(time - view.clock_before) / f64::from(view.clock - view.clock_before))
     }
+}
+
+fn message(moment: &Moment) -> Option<Message> {
+    let names_one = [DELIVER, LOSE, DOUBLE].contains(&moment.step.kind) && !moment.refused();
+    names_one.then(|| moment.before.tables.queue.messages()[usize::from(moment.step.place)])
 }

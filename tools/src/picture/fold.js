@@ -1,0 +1,108 @@
+// Without the lanes and rows that the filters hide, the others move up.
+
+// How far down something is, by how far down it was drawn.
+let fold = y => y;
+
+const pictured = [...document.querySelectorAll('.names text, .lanes line, .lanes rect, .lanes circle, .lanes polygon, .lanes text')];
+const drawn = new Map(pictured.map(element =>
+  [element, Object.fromEntries([...element.attributes].map(one => [one.name, one.value]))]));
+const flights = new Set([...lanes.querySelectorAll('.arrow')].map(arrow => arrow.parentNode));
+const laneLines = new Map([...names.querySelectorAll('.lane-name')].map(name =>
+  [name.parentNode.dataset.client ?? 'server', drawn.get(name).y - 4]));
+const fullHeight = +lanes.dataset.height;
+
+// Those of what the filters hide, the higher first, none within another.
+function hiddenBands() {
+  const groups = [...names.querySelectorAll('[data-top]')].filter(group => !shows(group));
+  const bands = groups.map(group => [+group.dataset.top, +group.dataset.bottom]).sort((a, b) => a[0] - b[0]);
+  return bands.filter(([, bottom], place) => bands.slice(0, place).every(other => other[1] < bottom));
+}
+
+function foldAll() {
+  const bands = hiddenBands();
+  fold = y => bands.reduce((to, [top, bottom]) => to - Math.max(0, Math.min(y, bottom) - top), y);
+  for (const element of pictured) {
+    const group = element.parentNode;
+    if (!flights.has(group) && shows(group)) place(element, drawn.get(element));
+  }
+  const lowest = reroute([...flights].filter(shows));
+  for (const svg of [names, lanes]) {
+    svg.dataset.height = Math.max(fold(fullHeight), lowest);
+    svg.setAttribute('viewBox', `0 0 ${svg.dataset.width} ${svg.dataset.height}`);
+  }
+}
+
+// The columns' backgrounds reach over the bands and get shorter.
+function place(element, was) {
+  for (const name of ['y', 'y1', 'y2', 'cy'].filter(name => name in was)) {
+    element.setAttribute(name, fold(+was[name]));
+  }
+  if ('height' in was) element.setAttribute('height', fold(+was.y + +was.height) - fold(+was.y));
+  if ('points' in was) {
+    const y = +was.points.split(/[ ,]/)[1];
+    element.setAttribute('transform', `translate(0 ${fold(y) - y})`);
+  }
+}
+
+// Messages keep to the lines of their lanes. How far down they get.
+function reroute(groups) {
+  const end = group => +drawn.get(group.querySelector('.arrow')).y2;
+  let lowest = 0;
+  worded.clear();
+  for (const group of groups.sort((a, b) => end(a) - end(b))) {
+    let y = fold(end(group));
+    if (group.querySelector('.under-way')) y = lowest = Math.max(y, lowest + 11);
+    turn(group, y);
+  }
+  return lowest + 11;
+}
+
+// A copy begins on the way between two lanes, all others on a line.
+function beginning(group, y) {
+  if (!group.querySelector('.doubled')) return fold(y);
+  const [server, client] = [laneLines.get('server'), laneLines.get(group.dataset.client)];
+  return fold(server) + (y - server) * (fold(client) - fold(server)) / (client - server);
+}
+
+// Cells of the picture that have words along an arrow. Words are left out
+// where others are: the arrow still tells all when it is pointed at.
+const worded = new Set();
+function free(x, y, angle, from, wide, across) {
+  const cells = [];
+  for (let along = from; along < from + wide; along += 5) {
+    const [right, down] = [along * Math.cos(angle) - across * Math.sin(angle), along * Math.sin(angle) + across * Math.cos(angle)];
+    cells.push(`${Math.round((x + right) / 10)} ${Math.round((y + down) / 10)}`);
+  }
+  const good = !cells.some(cell => worded.has(cell));
+  if (good) cells.forEach(cell => worded.add(cell));
+  return good;
+}
+
+// From the beginning to the end at this y, with all that is at either end or
+// along the way.
+function turn(group, toY) {
+  const arrow = group.querySelector('.arrow');
+  const [x1, y1, x2, y2] = ['x1', 'y1', 'x2', 'y2'].map(name => +drawn.get(arrow)[name]);
+  const fromY = beginning(group, y1);
+  const [was, is] = [Math.atan2(y2 - y1, x2 - x1), Math.atan2(toY - fromY, x2 - x1)];
+  const [length, degrees] = [Math.hypot(toY - fromY, x2 - x1), angle => angle * 180 / Math.PI];
+  arrow.setAttribute('y1', fromY);
+  arrow.setAttribute('y2', toY);
+  for (const element of [...group.children].filter(one => one !== arrow && drawn.has(one))) {
+    const { class: name, transform } = drawn.get(element);
+    if (transform) {
+      const [e, f] = transform.match(/[-0-9.]+/g).slice(4).map(Number);
+      const along = (e - x1) * Math.cos(was) + (f - y1) * Math.sin(was);
+      const across = (f - y1) * Math.cos(was) - (e - x1) * Math.sin(was);
+      const wide = element.textContent.length * 5.185;
+      const there = Math.max(8, Math.min(along, length - 12 - wide));
+      element.setAttribute('transform', `translate(${x1} ${fromY}) rotate(${degrees(is)}) translate(${there} ${across})`);
+      const fits = there + wide < length && free(x1, fromY, is, there, wide, across);
+      element.setAttribute('visibility', fits || !filters.length ? 'visible' : 'hidden');
+    } else if (name.startsWith('head')) {
+      element.setAttribute('transform', `translate(${x2} ${toY}) rotate(${degrees(is - was)}) translate(${-x2} ${-y2})`);
+    } else {
+      element.setAttribute('transform', `translate(0 ${name.startsWith('doubled') ? fromY - y1 : toY - y2})`);
+    }
+  }
+}

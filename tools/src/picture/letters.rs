@@ -1,0 +1,46 @@
+//! Room that words take. All of them are in a fixed-width font, so that it
+//! can be known without the font: one letter advances by 0.602 of the size
+//! in the widest of the common ones.
+
+/// Of the size, for each letter.
+pub const ADVANCE: f64 = 0.61;
+/// A letter outside ASCII, but for the two that the pictures use, may come
+/// from any font.
+const FOREIGN: f64 = 2.0;
+/// How far letters reach from their line, of the size.
+pub const ABOVE: f64 = 0.8;
+pub const BELOW: f64 = 0.25;
+
+/// The sizes of `style.css`.
+pub const TITLE: f64 = 12.0;
+pub const WORDS: f64 = 10.0;
+pub const VALUE: f64 = 9.0;
+pub const LABEL: f64 = 8.5;
+
+pub fn width(words: &str, size: f64) -> f64 {
+    words.chars().map(|c| advance(c) * size).sum()
+}
+
+fn advance(c: char) -> f64 {
+    match c {
+        ' '..='~' | '…' => ADVANCE,
+        _ => FOREIGN,
+    }
+}
+
+/// The first of these wordings that fits.
+pub fn fitting(wordings: &[String], room: f64, size: f64) -> Option<&str> {
+    wordings.iter().map(String::as_str).find(|words| width(words, size) <= room)
+}
+
+/// What fits, and a sign that there is more.
+pub fn cut(words: &str, room: f64, size: f64) -> String {
+    let mut kept = words.to_string();
+    if width(words, size) > room {
+        while !kept.is_empty() && width(&kept, size) + advance('…') * size > room {
+            kept.pop();
+        }
+        kept.push('…');
+    }
+    kept
+}

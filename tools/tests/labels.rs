@@ -1,0 +1,249 @@
+//! Every text of a picture fits where it stands, no two share any room, and
+//! every message names its receiver.
+
+mod boxes;
+mod common;
+
+use boxes::{number, parts, Part};
+use common::example;
+use model::answer::Answer;
+use model::gen::runs::{run, Run};
+use model::message::{Kind, Message};
+use tools::picture::layout::{Window, COLUMN};
+use tools::picture::{drawn, svg};
+use tools::text::from_file;
+use tools::timeline::flights::{End, Flight};
+use tools::timeline::Timeline;
+
+fn whole(timeline: &Timeline) -> Window {
+    Window { from: 1, to: timeline.steps.len() }
+}
+
+fn examples() -> impl Iterator<Item = Run> {
+    let file = |name: &str| from_file(&example(&format!("{name}.run"))).unwrap();
+    model::examples::all().into_iter().map(move |example| file(example.name))
+}
+
+/// Scenes and steps by chance, with small and large setups.
+fn generated() -> impl Iterator<Item = Run> {
+    (2..50).map(|number| run(31, number))
+}
+
+/// Scenes and steps by chance.
+fn long() -> impl Iterator<Item = Run> {
+    [run(32, 0), run(33, 51)].into_iter()
+}
+
+/// The numbers of a run cannot grow so far in 4,000 steps: here they have.
+fn with_longest_numbers(mut timeline: Timeline) -> Timeline {
+    for flight in &mut timeline.flights {
+        longest(&mut flight.message);
+    }
+    for span in &mut timeline.spans {
+        (span.detail.until, span.detail.version, span.detail.value) = (u32::MAX, u32::MAX, u64::MAX);
+    }
+    for view in &mut timeline.steps {
+        view.message.as_mut().map(longest);
+        (view.step.value, view.step.clock) = (u64::MAX, u32::MAX);
+        let moved = view.clock != view.clock_before;
+        (view.clock_before, view.clock) = (u32::MAX - u32::from(moved), u32::MAX);
+        if let Answer::Shown(value) = &mut view.answer {
+            *value = u64::MAX;
+        }
+    }
+    timeline
+}
+
+fn longest(message: &mut Message) {
+    match &mut message.kind {
+        Kind::Renew { number, epoch, version, .. } => {
+            (*number, *epoch, *version) = (u32::MAX, u32::MAX, u32::MAX)
+        }
+        Kind::Offer { number, epoch, .. } | Kind::Dropped { number, epoch, .. } => {
+            (*number, *epoch) = (u32::MAX, u32::MAX)
+        }
+        Kind::Invalidate { version, epoch, .. } | Kind::Ack { version, epoch, .. } => {
+            (*version, *epoch) = (u32::MAX, u32::MAX)
+        }
+        Kind::Grant(grant) => {
+            (grant.number, grant.version, grant.epoch) = (u32::MAX, u32::MAX, u32::MAX);
+            grant.value = grant.value.map(|_| u64::MAX);
+        }
+    }
+}
+
+fn assert_readable(picture: &str, name: &str) {
+    for part in parts(picture) {
+        for text in &part.texts {
+            assert!(text.within((0.0, 0.0), part.size), "{name}, {} cuts {text:?}", part.name);
+        }
+        if let Some((one, other)) = part.overlap() {
+            panic!("{name}, {}: {one:?} meets {other:?}", part.name);
+        }
+        match part.name.as_str() {
+            "header" => assert_in_columns(&part, name),
+            "lanes" => assert_in_bars(&part, name),
+            _ => (),
+        }
+    }
+}
+
+/// Nothing in the header is shortened, and each column keeps to itself.
+fn assert_in_columns(header: &Part, name: &str) {
+    for text in &header.texts {
+        assert!(!text.words.contains('…'), "{name}: {text:?}");
+        let ((left, _), (right, _)) = text.bounds();
+        let column = ((left + right) / 2.0 / COLUMN).floor() * COLUMN;
+        assert!(text.within((column, 0.0), (column + COLUMN, header.size.1)), "{name}: {text:?}");
+    }
+}
+
+/// What a bar says is inside it, and what a step says inside its column.
+fn assert_in_bars(lanes: &Part, name: &str) {
+    let mut texts = lanes.texts.iter();
+    for group in &lanes.groups {
+        let count = group.iter().filter(|element| element.starts_with("<text ")).count();
+        let bar = group.iter().find(|element| element.starts_with("<rect "));
+        for text in texts.by_ref().take(count) {
+            let ((left, top), (right, bottom)) = text.bounds();
+            if text.class == "bar-text" {
+                let (x, y) = (number(bar.unwrap(), "x"), number(bar.unwrap(), "y"));
+                let end = (x + number(bar.unwrap(), "width"), y + number(bar.unwrap(), "height"));
+                assert!(text.within((x, y), end), "{name}: {text:?} outside {bar:?}");
+            } else if text.class.starts_with("value") || text.class.ends_with("receiver") {
+                let column = ((left + right) / 2.0 / COLUMN).floor() * COLUMN;
+                assert!(text.within((column, top), (column + COLUMN, bottom)), "{name}: {text:?}");
+            }
+        }
+    }
+}
+
+#[test]
+fn every_text_fits_and_no_two_meet() {
+    for (place, run) in examples().chain(generated()).chain(long()).enumerate() {
+        let timeline = Timeline::new(&run);
+        assert_readable(&svg(&run, whole(&timeline)), &format!("run {place}"));
+    }
+}
+
+#[test]
+fn the_longest_numbers_fit_too() {
+    for (place, run) in examples().chain(generated()).enumerate() {
+        let timeline = with_longest_numbers(Timeline::new(&run));
+        let picture = drawn(&[b'w'; 200], &timeline, whole(&timeline));
+        assert_readable(&picture, &format!("run {place}"));
+    }
+}
+
+#[test]
+fn windows_are_readable() {
+    for number in 2..20 {
+        let run = run(34, number);
+        let timeline = Timeline::new(&run);
+        for from in (1..=run.steps.len()).step_by(17) {
+            let window = Window { from, to: (from + 20).min(run.steps.len()) };
+            assert_readable(&drawn(&run.note, &timeline, window), &format!("run {number} from {from}"));
+        }
+    }
+}
+
+/// Whatever stands beside its steps.
+#[test]
+fn the_widest_picture_is_below_16_000_pixels() {
+    for number in [0, 50, 100] {
+        let timeline = with_longest_numbers(Timeline::new(&run(36, number)));
+        let widest = (1..3_000).step_by(300).map(|from| Window { from, to: timeline.steps.len() }.narrowed());
+        let sizes = widest.map(|window| parts(&drawn(b"", &timeline, window))[0].size);
+        assert!(sizes.into_iter().all(|(width, height)| width < 16_000.0 && height < 16_000.0));
+    }
+}
+
+fn receiver(message: &Message) -> String {
+    let from_server = matches!(message.kind, Kind::Grant(_) | Kind::Invalidate { .. } | Kind::Offer { .. });
+    if from_server {
+        format!("client {}", message.client)
+    } else {
+        "server".into()
+    }
+}
+
+fn lanes(picture: &str) -> Part {
+    parts(picture).into_iter().find(|part| part.name == "lanes").unwrap()
+}
+
+/// The elements of each message, in the order of the flights.
+fn arrows(lanes: &Part) -> impl Iterator<Item = &Vec<String>> {
+    lanes
+        .groups
+        .iter()
+        .filter(|group| group.iter().any(|element| element.starts_with("<line class=\"arrow ")))
+}
+
+#[test]
+fn every_message_names_its_receiver() {
+    for (place, run) in examples().chain(generated()).enumerate() {
+        let timeline = Timeline::new(&run);
+        let lanes = lanes(&svg(&run, whole(&timeline)));
+        assert_eq!(arrows(&lanes).count(), timeline.flights.len());
+        for (group, flight) in arrows(&lanes).zip(&timeline.flights) {
+            let named = format!("{}</text>", receiver(&flight.message));
+            assert!(group.iter().any(|element| element.ends_with(&named)), "run {place}: {group:?}");
+        }
+    }
+}
+
+/// A lost message ends nearest to its receiver's line, short of it.
+#[test]
+fn lost_messages_end_at_their_receivers_lane() {
+    let mut count = 0;
+    for run in examples().chain(generated()) {
+        let timeline = Timeline::new(&run);
+        let lanes = lanes(&svg(&run, whole(&timeline)));
+        let lines: Vec<f64> = lanes
+            .groups
+            .iter()
+            .flatten()
+            .filter(|line| line.starts_with("<line class=\"lane\""))
+            .map(|line| number(line, "y1"))
+            .collect();
+        let lost = |flight: &Flight| matches!(flight.end, End::Lost(_) | End::QueueFull);
+        for (group, flight) in arrows(&lanes).zip(&timeline.flights).filter(|(_, flight)| lost(flight)) {
+            let arrow = group.iter().find(|element| element.starts_with("<line class=\"arrow ")).unwrap();
+            let end = number(arrow, "y2");
+            let far = |y: f64| (y - end).abs();
+            let nearest = (0..lines.len()).min_by(|&a, &b| far(lines[a]).total_cmp(&far(lines[b]))).unwrap();
+            let names: Vec<String> = std::iter::once("server".into())
+                .chain((0..16).map(|client| format!("client {client}")))
+                .collect();
+            assert_eq!(names[nearest], receiver(&flight.message));
+            assert!(far(lines[nearest]) > 5.0);
+            count += 1;
+        }
+    }
+    assert!(count > 100, "{count}");
+}
+
+/// Whatever is drawn in lanes has its sign in the legend.
+#[test]
+fn every_mark_is_in_the_legend() {
+    let classes = |part: &Part, tag: &str| -> Vec<String> {
+        let elements = part.groups.iter().flatten().filter(|element| element.starts_with(tag));
+        elements.map(|element| boxes::attribute(element, "class").unwrap().to_string()).collect()
+    };
+    let first = |class: &String| class.split(' ').next().unwrap().to_string();
+    let run = run(35, 50);
+    let picture = svg(&run, whole(&Timeline::new(&run)));
+    let legend = picture.rsplit_once("<svg class=\"signs\"").unwrap().1;
+    let lanes = lanes(&picture);
+    let drawn: std::collections::BTreeSet<String> = ["<line", "<rect", "<circle", "<polygon"]
+        .iter()
+        .flat_map(|tag| classes(&lanes, tag))
+        .map(|class| first(&class))
+        .collect();
+    assert!(drawn.len() > 15, "{drawn:?}");
+    for class in drawn.iter().filter(|class| !["lane", "row", "column", "refusal"].contains(&class.as_str()))
+    {
+        assert!(legend.contains(&format!("class=\"{class}")), "{class}");
+    }
+    assert!(drawn.contains("latest-rest"));
+}

@@ -1,0 +1,213 @@
+// What a page must do, asked of its own state. tools/browser-test puts this
+// after the page's script; each check leaves a line.
+const checks = [];
+
+function check(words, test) {
+  checks.push([words, test]);
+}
+
+function same(found, expected, what) {
+  if (JSON.stringify(found) !== JSON.stringify(expected)) {
+    throw `${what}: found ${JSON.stringify(found)}, expected ${JSON.stringify(expected)}`;
+  }
+}
+
+const bounds = element => element.getBoundingClientRect();
+const seen = element => element.getClientRects().length > 0;
+const press = (key, shiftKey = false) =>
+  document.dispatchEvent(new KeyboardEvent('keydown', { key, shiftKey, bubbles: true }));
+const button = answer => document.querySelector(`[data-seek="${answer}"]`);
+// Steps with such an answer, by the words of the listing.
+const answered = word => lines.filter(line => new RegExp(`^[0-9]+ [^:]*: ${word}`).test(line.textContent));
+const numbers = some => some.map(line => +line.dataset.step);
+const some = all => all.filter((_, place) => place % Math.ceil(all.length / 50) === 0);
+
+function pick(id, value) {
+  get(id).value = value;
+  get(id).dispatchEvent(new Event('change'));
+}
+
+// Goes on while there is a step to go to.
+function visited(go) {
+  const steps = [];
+  for (go(); get('said').textContent === '' && steps.length < 100; go()) steps.push(chosen);
+  return steps;
+}
+
+function inSight(box) {
+  const [spot, all] = [bounds(box), bounds(frame)];
+  return spot.left >= bounds(names).right - 1 && spot.right <= all.right + 1 &&
+    spot.top >= bounds(header).bottom - 1 && spot.bottom <= all.bottom + 1;
+}
+
+check('the address names a step', () => same(chosen, 7, 'step'));
+
+check('the address of an open page does too', async () => {
+  const changed = new Promise(done => window.addEventListener('hashchange', done, { once: true }));
+  location.hash = '#13';
+  await changed;
+  same([chosen, get('step').value, lines[12].className], [13, '13', 'on'], 'step');
+});
+
+check('a chosen step is in the address', () => {
+  choose(11, true);
+  same(location.hash, '#11', 'address');
+});
+
+check('a step that is not there is said', () => {
+  choose(4, true);
+  choose(lines.length + 1, true);
+  same([chosen, get('said').textContent], [4, `the steps here are 1 to ${lines.length}`], 'step');
+});
+
+check('choosing a step scrolls to its lane and its line', () => {
+  for (const line of some(lines)) {
+    line.click();
+    const at = bounds(line);
+    const listed = at.top >= bounds(get('listing')).top - 1 && at.bottom <= bounds(get('listing')).bottom + 1;
+    same([inSight(spot), listed], [true, true], `step ${line.dataset.step} in sight`);
+  }
+});
+
+check('each step is on the lane of its client or of the server', () => {
+  const line = name => [...names.querySelectorAll('.lane-name')].find(text => text.textContent === name);
+  for (const step of some(lines)) {
+    const words = step.textContent;
+    const asked = words.match(/^[0-9]+ (?:read|ask|restart) client ([0-9]+)/);
+    if (!asked || +asked[1] >= clients) continue;
+    same(+line(`client ${asked[1]}`).getAttribute('y') - 4, +step.dataset.lane, words);
+  }
+});
+
+check('the overview shows the whole run and is as high as before', () => {
+  get('full').click();
+  const [wide, high] = [bounds(lanes).width, bounds(lanes).height];
+  get('overview').click();
+  const all = bounds(lanes);
+  same(Math.round(all.height), Math.round(high), 'height');
+  same([all.left >= bounds(names).right - 1, all.right <= bounds(frame).right + 1], [true, true], 'in sight');
+  same([zoom <= 1, all.width <= wide], [true, true], 'narrower');
+  same(frame.scrollWidth <= frame.clientWidth + 1, true, 'nothing to scroll');
+  get('full').click();
+  same(Math.round(bounds(lanes).width), Math.round(wide), 'width again');
+});
+
+check('from afar the words go and numbers stay apart', () => {
+  get('overview').click();
+  const far = zoom < 0.4;
+  const words = [...lanes.querySelectorAll('text')].filter(seen).length;
+  same(words === 0, far, 'words hidden');
+  const ticks = [...header.querySelectorAll('.tick')].map(bounds);
+  same(ticks.length > 2, far, 'ticks');
+  same(ticks.every((tick, place) => place === 0 || tick.left > ticks[place - 1].right), true, 'apart');
+  get('full').click();
+  same(header.querySelectorAll('.tick').length, 0, 'ticks at 100 %');
+});
+
+check('a click in the picture chooses its column at any zoom', () => {
+  for (const at of [1, 0.6, 2]) {
+    setZoom(at);
+    frame.scrollLeft = 0;
+    const { left, top } = bounds(lanes);
+    lanes.dispatchEvent(new MouseEvent('click', { clientX: left + 5.5 * column * zoom, clientY: top + 5 }));
+    same(chosen, 6, `step at zoom ${at}`);
+  }
+  get('full').click();
+});
+
+check('the filter by client leaves that client and the server', () => {
+  pick('client', '7');
+  const left = [...document.querySelectorAll('[data-client]')].filter(seen);
+  same(left.every(element => element.dataset.client === '7'), true, 'only client 7');
+  same(left.some(element => element.closest('.lanes')) && left.some(element => element.closest('#listing')), true, 'some');
+  const lanesLeft = [...names.querySelectorAll('.lane-name')].filter(seen).map(text => text.textContent);
+  same(lanesLeft, ['server', 'client 7'], 'lanes');
+  pick('client', '');
+});
+
+check('what the filter leaves moves together', () => {
+  const place = element => [bounds(element).left, bounds(element).top].map(Math.round);
+  const places = () => some([...document.querySelectorAll('.lanes g *, .names text')]).map(place);
+  frame.scrollTo(0, 0);
+  const [before, high] = [places(), bounds(lanes).height];
+  pick('client', '7');
+  const line = name => bounds([...names.querySelectorAll('.lane-name')].find(text => text.textContent === name)).bottom;
+  same([bounds(lanes).height < high / 2, line('client 7') - line('server') < 200], [true, true], 'room');
+  const laneLine = bounds(lanes.querySelector('g[data-client="7"] > .lane')).top;
+  const arrows = [...lanes.querySelectorAll('g[data-client="7"] > .arrow')].map(bounds);
+  const server = bounds(lanes.querySelector('g:not([data-client]) > .lane')).top;
+  same(arrows.length > 0 && arrows.every(({ top, bottom }) => top >= server - 2 && bottom <= laneLine + 2), true, 'arrows');
+  for (const step of lines.filter(shows).slice(0, 20)) {
+    step.click();
+    same(inSight(spot), true, `step ${step.dataset.step} in sight`);
+  }
+  pick('client', '');
+  frame.scrollTo(0, 0);
+  same(places(), before, 'as before');
+});
+
+check('the filter by object leaves it and its volume', () => {
+  const object = lines.find(line => line.dataset.object).dataset.object;
+  pick('object', object);
+  const wrong = [...document.querySelectorAll('[data-object], [data-volume]')].filter(seen).filter(element =>
+    ![undefined, object].includes(element.dataset.object) ||
+    ![undefined, String(volumeOf[object])].includes(element.dataset.volume));
+  same(wrong.length, 0, 'others');
+  same(lines.filter(line => line.dataset.object === object).every(seen), true, 'its lines');
+  pick('object', '');
+  same(lines.every(seen), true, 'all again');
+});
+
+check('the buttons go to every refused, shown and completed step', () => {
+  for (const [answer, words] of [['refused', 'refused'], ['shown', 'shown'], ['completed', 'completed']]) {
+    choose(1, true);
+    const expected = numbers(answered(words)).filter(step => step > 1).slice(0, 100);
+    same(visited(() => button(answer).click()), expected, answer);
+    same(expected.length === 100 || get('said').textContent === `no ${answer} step after this one`, true, 'end');
+  }
+});
+
+check('the keys go both ways', () => {
+  choose(lines.length, true);
+  const expected = numbers(answered('shown')).reverse().filter(step => step < lines.length).slice(0, 100);
+  same(visited(() => press('S', true)), expected, 'shown, backwards');
+  choose(5, true);
+  press('ArrowRight');
+  press('ArrowRight');
+  press('ArrowLeft');
+  same(chosen, 6, 'arrows');
+});
+
+check('what is filtered out is passed over', () => {
+  pick('client', '7');
+  choose(1, true);
+  const expected = numbers(lines.filter(line => [undefined, '7'].includes(line.dataset.client)));
+  same(visited(() => press('ArrowRight')), expected.filter(step => step > 1).slice(0, 100), 'steps');
+  pick('client', '');
+});
+
+check('every text is as wide as was reckoned, or narrower', () => {
+  for (const text of document.querySelectorAll('svg text')) {
+    const reckoned = 0.61 * parseFloat(getComputedStyle(text).fontSize) * [...text.textContent].length;
+    if (text.getComputedTextLength() > reckoned) throw `${text.textContent}: ${text.getComputedTextLength()} of ${reckoned}`;
+  }
+});
+
+check('the page asks for nothing outside itself', () =>
+  same(performance.getEntriesByType('resource').length, 0, 'requests'));
+
+(async () => {
+  const verdicts = [];
+  for (const [words, test] of checks) {
+    try {
+      await test();
+      verdicts.push(`ok ${words}`);
+    } catch (trouble) {
+      verdicts.push(`wrong ${words}: ${trouble}`);
+    }
+  }
+  const out = document.createElement('pre');
+  out.id = 'verdicts';
+  out.textContent = `\n${verdicts.join('\n')}\n`;
+  document.body.append(out);
+})();
