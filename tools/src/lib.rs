@@ -4,10 +4,19 @@
 //! All state comes from the model: the tools run it step by step and put
 //! into words or lines what its tables hold before and after each step.
 
+pub mod arguments;
+pub mod check;
 pub mod command;
+pub mod difference;
 pub mod explain;
+pub mod input;
+pub mod listed;
 pub mod names;
+pub mod output;
 pub mod picture;
+pub mod proved;
+pub mod refusals;
+pub mod refused_file;
 pub mod text;
 pub mod timeline;
 pub mod trace;

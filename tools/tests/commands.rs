@@ -12,7 +12,7 @@ fn runtext_goes_both_ways() {
     let text = run_program(RUNTEXT, &["decode"], &file);
     assert_eq!((text.status, text.errors.as_str()), (0, ""));
     let back = run_program(RUNTEXT, &["encode"], &text.output);
-    assert_eq!((back.status, back.output), (0, file));
+    assert_eq!((back.status, back.output, back.errors.as_str()), (0, file, "20 steps, none refused\n"));
     let formatted = run_program(RUNTEXT, &["format"], &[b"# a comment\n", &text.output[..]].concat());
     assert_eq!(formatted.output, text.output);
 }
@@ -22,7 +22,10 @@ fn a_bad_line_leaves_nothing_written() {
     let text = run_program(RUNTEXT, &["decode"], &example("0-document.run")).output;
     let bad = run_program(RUNTEXT, &["encode"], &[&text[..], b"deliver it\n"].concat());
     assert_eq!((bad.status, bad.output.len()), (1, 0));
-    assert_eq!(bad.errors, "line 20: found `it`, expected a place in the queue from 0 to 255\n");
+    assert_eq!(
+        bad.errors,
+        "line 20: found `it`, expected a message as `GRANT to client 0`, or a place in the queue from 0 to 255\n"
+    );
 }
 
 #[test]
@@ -30,7 +33,7 @@ fn a_refused_file_leaves_nothing_written() {
     let file = example("0-document.run");
     let bad = run_program(RUNTEXT, &["decode"], &file[1..]);
     assert_eq!((bad.status, bad.output.len()), (1, 0));
-    assert!(bad.errors.starts_with("run file of 295 bytes refused (9): "), "{}", bad.errors);
+    assert!(bad.errors.starts_with("run file refused (9): trailer: "), "{}", bad.errors);
 }
 
 #[test]
@@ -38,8 +41,17 @@ fn help_and_wrong_calls() {
     let help = run_program(RUNTEXT, &["--help"], b"");
     assert_eq!(help.status, 0);
     assert!(help.output.starts_with(b"runtext: "));
-    for arguments in [&[][..], &["code"], &["encode", "more"]] {
+    for (arguments, told) in [
+        (&[][..], "found no argument, expected encode, check, format or decode"),
+        (&["code"], "found \"code\", expected encode, check, format or decode"),
+        (&["encode", "one", "two"], "found 2 files, expected one or standard input"),
+        (&["encode", "--expand"], "unknown option \"--expand\""),
+        (&["encode", "-o"], "-o: found nothing after it, expected a file to write"),
+        (&["encode", "-o", "one", "-o", "two"], "-o: found twice, expected once"),
+    ] {
         let wrong = run_program(RUNTEXT, arguments, b"");
-        assert_eq!((wrong.status, wrong.output.len()), (2, 0));
+        assert_eq!((wrong.status, wrong.output.len()), (2, 0), "{arguments:?}");
+        assert_eq!(wrong.errors.lines().next(), Some(told));
+        assert!(wrong.errors.contains("\n\nruntext: the text form of runs\n"));
     }
 }
