@@ -6,7 +6,9 @@
 
 pub mod arguments;
 pub mod check;
+pub mod child;
 pub mod command;
+pub mod compare;
 pub mod difference;
 pub mod explain;
 pub mod input;

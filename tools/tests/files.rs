@@ -12,6 +12,7 @@ use common::{example, example_path, run_program};
 
 const RUNTEXT: &str = env!("CARGO_BIN_EXE_runtext");
 const EXPLAIN: &str = env!("CARGO_BIN_EXE_explain");
+const COMPARE: &str = env!("CARGO_BIN_EXE_compare");
 
 /// A folder of this test alone.
 fn folder(name: &str) -> PathBuf {
@@ -133,7 +134,7 @@ fn odd_arguments_and_inputs() {
         }
     }
     for (program, call) in
-        [RUNTEXT, EXPLAIN].iter().flat_map(|program| calls.iter().map(move |call| (program, call)))
+        [RUNTEXT, EXPLAIN, COMPARE].iter().flat_map(|program| calls.iter().map(move |call| (program, call)))
     {
         let mut command = Command::new(program);
         let ended = command.args(call).current_dir(&folder).stdin(Stdio::null()).output().unwrap();
