@@ -6,10 +6,9 @@ use std::io;
 use model::gen::{damage, runs};
 use model::listing::{listing, listing_trusting, listing_with};
 use model::mistakes::Mistakes;
-use model::runfile::parts;
 use model::shrink::shrink;
 
-use crate::{difference, refused_file, text};
+use crate::{difference, text};
 
 /// How a comparison ended.
 pub enum Ended {
@@ -67,22 +66,15 @@ fn difference(
     Ok(Some(told(&small, &theirs)))
 }
 
-/// A run as text, with the first difference; what is no run as its bytes.
+/// The first difference, below the run as text; what is no run as its bytes.
 fn told(small: &[u8], theirs: &[u8]) -> String {
-    let ours = listing(small);
-    match parts(small) {
-        Ok(_) => {
-            let run = text::from_file(small).expect("read before");
-            let first = difference::first(&run, &ours, theirs).unwrap_or_default();
-            format!("the smallest such run:\n\n{}\n{first}", text::print(&run))
-        }
-        Err(fault) => {
+    let run = text::from_file(small);
+    let first = difference::first(&run, &listing(small), theirs).unwrap_or_default();
+    match run {
+        Ok(run) => format!("the smallest such run:\n\n{}\n{first}", text::print(&run)),
+        Err(_) => {
             let hex: String = small.iter().map(|byte| format!("{byte:02x}")).collect();
-            let (why, theirs) = (refused_file::told(&fault), String::from_utf8_lossy(theirs));
-            format!(
-                "the smallest such file, in hex:\n\n{hex}\n\nours:   {why}\ntheirs:\n{}",
-                theirs.trim_end()
-            )
+            format!("the smallest such file, in hex:\n\n{hex}\n\n{first}")
         }
     }
 }

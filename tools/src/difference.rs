@@ -1,14 +1,16 @@
-//! The first difference between another maker's listing of a run and ours,
-//! in words.
+//! The first difference between another maker's listing of a run file and
+//! ours, in words.
 
 use model::gen::runs::Run;
+use model::runfile::Fault;
 
-use crate::explain;
 use crate::listed::line;
 use crate::text::words::quoted;
+use crate::{explain, refused_file};
 
-/// Nothing where the two are the same bytes.
-pub fn first(run: &Run, ours: &[u8], theirs: &[u8]) -> Option<String> {
+/// Nothing where the two are the same bytes. The run is there to explain our
+/// answer, or the fault for which the file is refused.
+pub fn first(run: &Result<Run, Fault>, ours: &[u8], theirs: &[u8]) -> Option<String> {
     let (mut our_lines, mut their_lines) = (lines(ours), lines(theirs));
     let mut number = 0;
     loop {
@@ -26,15 +28,16 @@ fn lines(listing: &[u8]) -> impl Iterator<Item = &[u8]> {
 }
 
 /// The line of step 0 is the header.
-fn told(run: &Run, step: usize, ours: Option<&[u8]>, theirs: Option<&[u8]>) -> String {
+fn told(run: &Result<Run, Fault>, step: usize, ours: Option<&[u8]>, theirs: Option<&[u8]>) -> String {
     let theirs = match theirs {
         None => "the listing ends".into(),
         Some(theirs) => answer(step, &String::from_utf8_lossy(theirs)),
     };
-    let ours = match (step, ours) {
-        (_, None) => "the listing ends".into(),
-        (0, Some(header)) => quoted(&String::from_utf8_lossy(header)),
-        _ => explain::line_at(run, step).unwrap_or_default(),
+    let ours = match (ours, run) {
+        (None, _) => "the listing ends".into(),
+        (Some(header), _) if step == 0 => quoted(&String::from_utf8_lossy(header)),
+        (_, Ok(run)) => explain::line_at(run, step).unwrap_or_default(),
+        (_, Err(fault)) => refused_file::told(fault),
     };
     format!("first difference at line {} of the listing\ntheirs: {theirs}\nours:   {ours}", step + 1)
 }

@@ -4,6 +4,7 @@ use std::fs::File;
 use std::io::{self, Read};
 
 use model::gen::runs::Run;
+use model::runfile::Fault;
 
 use crate::command::Failure;
 use crate::refused_file;
@@ -76,10 +77,15 @@ impl Input {
     /// A run file or a text. Every accepted run file has a zero byte, in its
     /// setup, and no text has one.
     pub fn run_of_either(&self) -> Result<Run, Failure> {
+        self.run_or_fault()?.map_err(|fault| self.failure(&[refused_file::told(&fault)]))
+    }
+
+    /// The same where a refused run file is a case like any other.
+    pub fn run_or_fault(&self) -> Result<Result<Run, Fault>, Failure> {
         if self.bytes.contains(&0) {
-            self.run_of_file()
+            Ok(text::from_file(&self.bytes))
         } else {
-            Ok(self.written_out()?.run)
+            Ok(Ok(self.written_out()?.run))
         }
     }
 }

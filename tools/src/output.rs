@@ -2,7 +2,7 @@
 //! standard error.
 
 use std::ffi::OsString;
-use std::fs;
+use std::fs::{self, Permissions};
 use std::io::{self, Write};
 use std::path::Path;
 use std::process;
@@ -39,15 +39,16 @@ pub fn to_standard_output(bytes: &[u8]) -> io::Result<()> {
 pub fn to_file(name: &str, bytes: &[u8]) -> io::Result<()> {
     let path = Path::new(name);
     match fs::metadata(path) {
-        Err(_) => replace(path, bytes),
+        Err(_) => replace(path, None, bytes),
         // A link stays, and what it leads to is replaced.
-        Ok(found) if found.is_file() => replace(&path.canonicalize()?, bytes),
+        Ok(found) if found.is_file() => replace(&path.canonicalize()?, Some(found.permissions()), bytes),
         Ok(found) if found.is_dir() => Err(io::Error::other("it is a folder")),
         Ok(_) => fs::OpenOptions::new().write(true).open(path)?.write_all(bytes),
     }
 }
 
-fn replace(path: &Path, bytes: &[u8]) -> io::Result<()> {
+/// The new file has the permissions of the one that was there.
+fn replace(path: &Path, permissions: Option<Permissions>, bytes: &[u8]) -> io::Result<()> {
     let Some(name) = path.file_name() else {
         return Err(io::Error::other("it is no name of a file"));
     };
@@ -55,7 +56,9 @@ fn replace(path: &Path, bytes: &[u8]) -> io::Result<()> {
     beside.push(name);
     beside.push(format!(".{}.part", process::id()));
     let beside = path.with_file_name(beside);
-    let written = fs::write(&beside, bytes).and_then(|()| fs::rename(&beside, path));
+    let written = fs::write(&beside, bytes)
+        .and_then(|()| permissions.map_or(Ok(()), |kept| fs::set_permissions(&beside, kept)))
+        .and_then(|()| fs::rename(&beside, path));
     if written.is_err() {
         // The first error is the one to tell.
         let _ = fs::remove_file(&beside);

@@ -58,7 +58,16 @@ fn a_difference_in_a_refused_file_is_told_with_the_reason() {
         Err(_) => b"what?\n".to_vec(),
     });
     assert!(words.starts_with("seed 1, damaged file "), "{words}");
-    assert!(words.contains("ours:   run file refused (9): ") && words.ends_with("theirs:\nwhat?"), "{words}");
+    let first = "theirs: `what?\\n`, which is no line of step 0\nours:   `step answer value\\n`";
+    assert!(
+        words.contains(" differs; the smallest such file, in hex:\n\n") && words.ends_with(first),
+        "{words}"
+    );
+    let words = different(400, |file| match read(file) {
+        Ok(_) => listing(file),
+        Err(_) => b"step answer value\n".to_vec(),
+    });
+    assert!(words.contains("theirs: the listing ends\nours:   run file refused (9): "), "{words}");
 }
 
 #[test]

@@ -8,7 +8,7 @@ use tools::text::from_file;
 
 /// The first difference, if the listing of the document's run is changed so.
 fn changed(change: impl Fn(&str) -> String) -> Option<String> {
-    let run = from_file(&example("0-document.run")).unwrap();
+    let run = from_file(&example("0-document.run"));
     let ours = String::from_utf8(example("0-document.listing")).unwrap();
     first(&run, ours.as_bytes(), change(&ours).as_bytes())
 }
@@ -71,13 +71,33 @@ fn header_length_and_refused_files() {
         .contains("theirs: the listing ends\nours:   `step answer value\\n`"));
 }
 
+/// A file that we refuse too is no difference; shown as a run, it is one.
+#[test]
+fn a_refused_file_has_a_listing_too() {
+    const EXPLAIN: &str = env!("CARGO_BIN_EXE_explain");
+    let file = &example("0-document.run")[1..];
+    let listing = |lines: &str| {
+        let path = std::path::Path::new(env!("CARGO_TARGET_TMPDIR")).join("refused.listing");
+        std::fs::write(&path, format!("step answer value\n{lines}")).unwrap();
+        run_program(EXPLAIN, &["--listing", &path.display().to_string()], file)
+    };
+    let same = listing("0 4 9\n");
+    assert_eq!((same.status, &same.output[..]), (0, &b"no difference\n"[..]));
+    assert!(same.errors.starts_with("run file refused (9): trailer: "), "{}", same.errors);
+    let differs = listing("1 2 0\n");
+    assert_eq!(differs.status, 1);
+    let expected =
+        "first difference at line 2 of the listing\ntheirs: 1 ask first\nours:   run file refused (9): ";
+    assert!(String::from_utf8(differs.output).unwrap().starts_with(expected));
+}
+
 #[test]
 fn the_program_ends_with_1_at_a_difference() {
     const EXPLAIN: &str = env!("CARGO_BIN_EXE_explain");
     let path = |name: &str| example_path(name).display().to_string();
     let (run, other) = (path("0-document.run"), path("1-one-lease-alone.listing"));
     let same = run_program(EXPLAIN, &["--listing", &path("0-document.listing"), &run], b"");
-    assert_eq!((same.status, &same.output[..]), (0, &b"no difference, 15 steps\n"[..]));
+    assert_eq!((same.status, &same.output[..]), (0, &b"no difference\n"[..]));
     let differs = run_program(EXPLAIN, &["--listing", &other, &run], b"");
     assert_eq!(differs.status, 1);
     assert!(differs.output.starts_with(b"first difference at line 2 of the listing\ntheirs: 1 done\n"));

@@ -5,6 +5,7 @@ mod common;
 use std::ffi::OsStr;
 use std::fs;
 use std::os::unix::ffi::OsStrExt;
+use std::os::unix::fs::PermissionsExt;
 use std::path::PathBuf;
 use std::process::{Command, Stdio};
 
@@ -47,6 +48,10 @@ fn files_are_read_and_written() {
     assert_eq!((ended.status, ended.errors.as_str()), (0, ""));
     assert!(fs::read(&out).unwrap().starts_with(b"note \"line 1 of the sheet\"\n"));
     assert_eq!(names(&folder), ["out.run"]);
+    // As private as it was.
+    fs::set_permissions(&out, fs::Permissions::from_mode(0o600)).unwrap();
+    run_program(RUNTEXT, &["format", &path("0-document.runtext"), "-o", &out], b"");
+    assert_eq!(fs::metadata(&out).unwrap().permissions().mode() & 0o777, 0o600);
     let dash = run_program(RUNTEXT, &["encode", "-"], &example("0-document.runtext"));
     assert_eq!(dash.output, example("0-document.run"));
 }

@@ -10,7 +10,7 @@ use tools::explain::{at, line, listing, tables};
 use tools::input::Input;
 use tools::listed::Listed;
 use tools::output::Output;
-use tools::{difference, proved, refusals, trace};
+use tools::{difference, proved, refusals, refused_file, trace};
 
 const HELP: &str = r#"explain: the listing of a run in words
 
@@ -44,39 +44,52 @@ fn main() -> ExitCode {
         let step = arguments.number("--tables", "the number of a step")?;
         let theirs = arguments.option("--listing", "the file of a listing")?;
         let input = Input::read(arguments.file()?.as_deref())?;
-        let run = input.run_of_either()?;
-        let output = match (step, theirs) {
-            (None, None) => listing(&run).into(),
-            (Some(step), None) => tables_after(&run, step).map_err(|told| input.failure(&[told]))?,
-            (None, Some(theirs)) => differences(&run, &Input::read(Some(&theirs))?.bytes),
-            _ => return Err(Failure::Usage("found --tables and --listing, expected one of them".into())),
-        };
-        Ok(Output { told: vec![counted(&run)], ..output })
+        match (step, theirs) {
+            (None, None) => {
+                let run = input.run_of_either()?;
+                Ok(counted(&run, listing(&run).into()))
+            }
+            (Some(step), None) => tables_after(&input, step),
+            (None, Some(theirs)) => differences(&input, &Input::read(Some(&theirs))?.bytes),
+            _ => Err(Failure::Usage("found --tables and --listing, expected one of them".into())),
+        }
     })
 }
 
-fn counted(run: &Run) -> String {
+/// With the line that counts the run's refused steps.
+fn counted(run: &Run, output: Output) -> Output {
     let mut answers = Vec::new();
     trace::walk(run, |moment| answers.push(Listed::of(&moment.answer)));
-    refusals::counted(answers)
+    Output { told: vec![refusals::counted(answers)], ..output }
 }
 
-fn tables_after(run: &Run, step: u64) -> Result<Output, String> {
-    if step == 0 {
-        return Ok(tables::print(&run.setup, &State::fresh()).into());
-    }
+fn tables_after(input: &Input, step: u64) -> Result<Output, Failure> {
+    let run = input.run_of_either()?;
     let see = |moment: &trace::Moment| {
         format!("after step {}\n\n{}", line(moment), tables::print(moment.setup, moment.after))
     };
-    match at(run, step as usize, see) {
-        Some(text) => Ok(text.into()),
-        None => Err(format!("--tables: found {step}, expected a step from 0 to {}", run.steps.len())),
-    }
+    let text = match step {
+        0 => Some(tables::print(&run.setup, &State::fresh())),
+        _ => at(&run, step as usize, see),
+    };
+    let wrong = || format!("--tables: found {step}, expected a step from 0 to {}", run.steps.len());
+    let text = text.ok_or_else(|| input.failure(&[wrong()]))?;
+    Ok(counted(&run, text.into()))
 }
 
-fn differences(run: &Run, theirs: &[u8]) -> Output {
-    match difference::first(run, &proved::listing(run), theirs) {
-        None => format!("no difference, {} steps\n", run.steps.len()).into(),
+/// Of a refused file, ours is what roadrun prints.
+fn differences(input: &Input, theirs: &[u8]) -> Result<Output, Failure> {
+    let run = input.run_or_fault()?;
+    let ours = match &run {
+        Ok(run) => proved::listing(run),
+        Err(_) => model::listing::listing(&input.bytes),
+    };
+    let output = match difference::first(&run, &ours, theirs) {
+        None => Output::from("no difference\n".to_string()),
         Some(words) => Output { holds: false, ..Output::from(words + "\n") },
-    }
+    };
+    Ok(match run {
+        Ok(run) => counted(&run, output),
+        Err(fault) => Output { told: vec![refused_file::told(&fault)], ..output },
+    })
 }
