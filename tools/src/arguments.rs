@@ -3,6 +3,7 @@
 use crate::command::Failure;
 
 pub struct Arguments {
+    /// What was not taken out yet.
     pub rest: Vec<String>,
 }
 
@@ -11,15 +12,17 @@ impl Arguments {
         Arguments { rest: arguments.to_vec() }
     }
 
-    /// Takes out `name VALUE`.
+    /// Takes out `name VALUE`. Another option is no value.
     pub fn option(&mut self, name: &str, value: &str) -> Result<Option<String>, Failure> {
         let Some(place) = self.rest.iter().position(|word| word == name) else {
             return Ok(None);
         };
-        self.rest.remove(place);
-        if place == self.rest.len() {
-            return Err(Failure::Usage(format!("{name}: found nothing after it, expected {value}")));
-        }
+        let wrong = |found: &str| Err(Failure::Usage(format!("{name}: found {found}, expected {value}")));
+        match self.rest.get(place + 1) {
+            None => return wrong("nothing after it"),
+            Some(found) if is_option(found) => return wrong(&format!("{found:?}")),
+            Some(_) => self.rest.remove(place),
+        };
         let found = self.rest.remove(place);
         if self.rest.iter().any(|word| word == name) {
             return Err(Failure::Usage(format!("{name}: found twice, expected once")));
@@ -44,7 +47,7 @@ impl Arguments {
 
     /// What is left: files, `-` for standard input.
     pub fn files(self) -> Result<Vec<String>, Failure> {
-        match self.rest.iter().find(|word| word.starts_with('-') && *word != "-") {
+        match self.rest.iter().find(|word| is_option(word)) {
             None => Ok(self.rest),
             Some(unknown) => Err(Failure::Usage(format!("unknown option {unknown:?}"))),
         }
@@ -58,4 +61,8 @@ impl Arguments {
             count => Err(Failure::Usage(format!("found {count} files, expected one or standard input"))),
         }
     }
+}
+
+fn is_option(word: &str) -> bool {
+    word.starts_with('-') && word != "-"
 }

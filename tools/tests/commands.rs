@@ -17,6 +17,30 @@ fn runtext_goes_both_ways() {
     assert_eq!(formatted.output, text.output);
 }
 
+/// Short forms and expectations are kept, or written out; a run file has
+/// exact steps alone.
+#[test]
+fn runtext_formats_and_expands() {
+    let text = example("3-restart-inside-write.runtext");
+    let kept = run_program(RUNTEXT, &["format"], &text).output;
+    let expanded = run_program(RUNTEXT, &["format", "--expand"], &text).output;
+    let (kept, expanded) = (String::from_utf8(kept).unwrap(), String::from_utf8(expanded).unwrap());
+    assert!(
+        kept.contains("\njoin client 0 object 0\n") && kept.contains("\ndeliver ACK from client 0 => done\n")
+    );
+    assert!(expanded.ends_with(
+        "\nwrite object 0 value 8 => done\ndeliver 0 => done\nread client 0 object 0 => shown 0\n"
+    ));
+    let exact = run_program(RUNTEXT, &["decode"], &example("3-restart-inside-write.run")).output;
+    let plain: String =
+        expanded.lines().map(|line| line.split(" =>").next().unwrap().to_string() + "\n").collect();
+    assert_eq!(plain.as_bytes(), exact);
+    for text in [&kept, &expanded] {
+        let file = run_program(RUNTEXT, &["encode"], text.as_bytes()).output;
+        assert_eq!(file, example("3-restart-inside-write.run"));
+    }
+}
+
 #[test]
 fn a_bad_line_leaves_nothing_written() {
     let text = run_program(RUNTEXT, &["decode"], &example("0-document.run")).output;
@@ -47,6 +71,7 @@ fn help_and_wrong_calls() {
         (&["encode", "one", "two"], "found 2 files, expected one or standard input"),
         (&["encode", "--expand"], "unknown option \"--expand\""),
         (&["encode", "-o"], "-o: found nothing after it, expected a file to write"),
+        (&["encode", "-o", "--expand"], "-o: found \"--expand\", expected a file to write"),
         (&["encode", "-o", "one", "-o", "two"], "-o: found twice, expected once"),
     ] {
         let wrong = run_program(RUNTEXT, arguments, b"");
