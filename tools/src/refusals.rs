@@ -16,12 +16,13 @@ pub fn counted(answers: impl IntoIterator<Item = Listed>) -> String {
             *refused.entry(number).or_insert(0) += 1;
         }
     }
+    let steps = if steps == 1 { "1 step".into() } else { format!("{steps} steps") };
     if refused.is_empty() {
-        return format!("{steps} steps, none refused");
+        return format!("{steps}, none refused");
     }
     let total: usize = refused.values().sum();
     let each = refused.iter().map(|(number, count)| format!("{count} with {number} ({})", what(*number)));
-    format!("{steps} steps, {total} refused: {}", each.collect::<Vec<_>>().join(", "))
+    format!("{steps}, {total} refused: {}", each.collect::<Vec<_>>().join(", "))
 }
 
 fn what(number: u64) -> &'static str {
@@ -32,5 +33,21 @@ fn what(number: u64) -> &'static str {
         WRITE_STANDS => "a write stands",
         NO_NUMBER_LEFT => "no number left",
         _ => "unsound tables",
+    }
+}
+
+#[cfg(test)]
+mod tests {
+    use super::*;
+
+    #[test]
+    fn refused_steps_are_counted_by_their_numbers() {
+        let refused = Listed::refused;
+        assert_eq!(counted([]), "0 steps, none refused");
+        assert_eq!(counted([Listed::DONE]), "1 step, none refused");
+        assert_eq!(
+            counted([refused(5), Listed::ASK_FIRST, refused(2), refused(5), Listed::shown(4)]),
+            "5 steps, 3 refused: 1 with 2 (unknown kind), 2 with 5 (a write stands)"
+        );
     }
 }
