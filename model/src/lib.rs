@@ -6,7 +6,6 @@
 pub mod answer;
 pub mod bits;
 pub mod cases;
-pub mod child;
 pub mod client;
 pub mod copies;
 pub mod examples;

@@ -5,6 +5,11 @@ pub const CLIENTS: usize = 16;
 pub const VOLUMES: usize = 8;
 pub const OBJECTS: usize = 32;
 
+/// Most ticks of volume lease, object lease and message timeout (01, Tables).
+pub const VOLUME_LEASE: u32 = 3_600;
+pub const OBJECT_LEASE: u32 = 1_000_000;
+pub const TIMEOUT: u32 = 60;
+
 /// Most messages under way (01, Tables).
 pub const QUEUE: usize = 64;
 

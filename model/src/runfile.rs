@@ -1,7 +1,7 @@
 //! The run file reader (01, Frame, run file and listing).
 
 use crate::limits::{BAD_FILE, FILE_BYTES, OBJECTS, SETUP_BYTES, STEPS, STEP_BYTES, TRAILER_BYTES};
-use crate::setup::Setup;
+use crate::setup::{OutOfRange, Setup};
 use crate::step_record::Step;
 
 /// The parts of a run file; note and step records are parts of the
@@ -32,29 +32,77 @@ pub fn distance(count: usize) -> usize {
     SETUP_BYTES + TRAILER_BYTES + STEP_BYTES * count
 }
 
-/// The file's parts, or refusal 9. The trailer is read first: the note may
-/// have any length, so only the distance tells where the setup begins.
+/// Why a file is refused: the first thing that is wrong with it. The numbers
+/// are what was found.
+#[derive(Clone, Copy, Debug, PartialEq, Eq)]
+pub enum Fault {
+    TooLong(usize),
+    TooShort(usize),
+    /// The trailer's step count, over the most.
+    Count(u32),
+    /// The trailer's distance, another one than its count makes.
+    Distance {
+        count: usize,
+        found: u32,
+    },
+    /// The file is too short for the trailer's steps.
+    Missing {
+        count: usize,
+        len: usize,
+    },
+    /// The setup's fourth byte is not 0.
+    Spare(u8),
+    Setup(OutOfRange),
+    /// A field that the step's kind does not use is not 0; steps from 1.
+    Unused {
+        number: usize,
+        step: Step,
+    },
+}
+
+/// The file's parts, or refusal 9.
 pub fn read(file: &[u8]) -> Result<RunFile<'_>, u8> {
-    if file.len() > FILE_BYTES || file.len() < distance(0) {
-        return Err(BAD_FILE);
+    parts(file).map_err(|_| BAD_FILE)
+}
+
+/// The same with the reason. The trailer is read first: the note may have
+/// any length, so only the distance tells where the setup begins.
+pub fn parts(file: &[u8]) -> Result<RunFile<'_>, Fault> {
+    if file.len() > FILE_BYTES {
+        return Err(Fault::TooLong(file.len()));
+    }
+    if file.len() < distance(0) {
+        return Err(Fault::TooShort(file.len()));
     }
     let (rest, trailer) = file.split_at(file.len() - TRAILER_BYTES);
-    let count = word(trailer, 0) as usize;
-    if count > STEPS || word(trailer, 4) as usize != distance(count) || distance(count) > file.len() {
-        return Err(BAD_FILE);
-    }
-    let (note, shaped) = rest.split_at(file.len() - distance(count));
+    let note_len = file.len() - distance_back(trailer, file.len())?;
+    let (note, shaped) = rest.split_at(note_len);
     let (setup, records) = shaped.split_at(SETUP_BYTES);
-    let setup = read_setup(setup).ok_or(BAD_FILE)?;
-    let run = RunFile { note, setup, records };
-    if run.steps().all(|step| step == step.used_fields()) {
-        Ok(run)
-    } else {
-        Err(BAD_FILE)
+    let run = RunFile { note, setup: read_setup(setup)?, records };
+    let mut numbered = run.steps().zip(1..);
+    match numbered.find(|(step, _)| *step != step.used_fields()) {
+        Some((step, number)) => Err(Fault::Unused { number, step }),
+        None => Ok(run),
     }
 }
 
-fn read_setup(bytes: &[u8]) -> Option<Setup> {
+/// The distance that the trailer tells, if it is right.
+fn distance_back(trailer: &[u8], len: usize) -> Result<usize, Fault> {
+    let (count, found) = (word(trailer, 0), word(trailer, 4));
+    if count as usize > STEPS {
+        return Err(Fault::Count(count));
+    }
+    let count = count as usize;
+    if found as usize != distance(count) {
+        return Err(Fault::Distance { count, found });
+    }
+    if distance(count) > len {
+        return Err(Fault::Missing { count, len });
+    }
+    Ok(distance(count))
+}
+
+fn read_setup(bytes: &[u8]) -> Result<Setup, Fault> {
     let mut volume_of = [0; OBJECTS];
     volume_of.copy_from_slice(&bytes[16..SETUP_BYTES]);
     let setup = Setup {
@@ -66,7 +114,11 @@ fn read_setup(bytes: &[u8]) -> Option<Setup> {
         timeout: word(bytes, 12),
         volume_of,
     };
-    (bytes[3] == 0 && setup.in_range()).then_some(setup)
+    match (bytes[3], setup.out_of_range()) {
+        (0, None) => Ok(setup),
+        (0, Some(out)) => Err(Fault::Setup(out)),
+        (spare, _) => Err(Fault::Spare(spare)),
+    }
 }
 
 fn read_step(bytes: &[u8]) -> Step {

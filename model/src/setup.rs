@@ -1,7 +1,7 @@
 //! The setup of a run (01, Tables).
 
 use crate::bits::below;
-use crate::limits::{BAD_SETUP, CLIENTS, OBJECTS, VOLUMES};
+use crate::limits::{BAD_SETUP, CLIENTS, OBJECTS, OBJECT_LEASE, TIMEOUT, VOLUMES, VOLUME_LEASE};
 
 #[derive(Clone, Copy, Debug, PartialEq, Eq)]
 pub struct Setup {
@@ -18,6 +18,27 @@ pub struct Setup {
     pub volume_of: [u8; OBJECTS],
 }
 
+#[derive(Clone, Copy, Debug, PartialEq, Eq)]
+pub enum Field {
+    Clients,
+    Volumes,
+    Objects,
+    VolumeLease,
+    ObjectLease,
+    Timeout,
+    /// The volume of this object.
+    VolumeOf(usize),
+}
+
+/// A field with what it holds and what it may hold.
+#[derive(Clone, Copy, Debug, PartialEq, Eq)]
+pub struct OutOfRange {
+    pub field: Field,
+    pub found: u32,
+    pub least: u32,
+    pub most: u32,
+}
+
 impl Setup {
     /// The refusal of every call but step and run file: 7.
     pub fn check(&self) -> Result<(), u8> {
@@ -29,18 +50,33 @@ impl Setup {
     }
 
     pub fn in_range(&self) -> bool {
-        (1..=CLIENTS).contains(&(self.clients as usize))
-            && (1..=VOLUMES).contains(&(self.volumes as usize))
-            && (1..=OBJECTS).contains(&(self.objects as usize))
-            && (1..=3_600).contains(&self.volume_lease)
-            && (1..=1_000_000).contains(&self.object_lease)
-            && (1..=60).contains(&self.timeout)
-            && self.volumes_in_range()
+        self.out_of_range().is_none()
     }
 
-    fn volumes_in_range(&self) -> bool {
-        let (used, unused) = self.volume_of.split_at(self.objects as usize);
-        used.iter().all(|&v| v < self.volumes) && unused.iter().all(|&v| v == 0)
+    /// The first field that is out of its range.
+    pub fn out_of_range(&self) -> Option<OutOfRange> {
+        let fields = [
+            (Field::Clients, self.clients.into(), CLIENTS as u32),
+            (Field::Volumes, self.volumes.into(), VOLUMES as u32),
+            (Field::Objects, self.objects.into(), OBJECTS as u32),
+            (Field::VolumeLease, self.volume_lease, VOLUME_LEASE),
+            (Field::ObjectLease, self.object_lease, OBJECT_LEASE),
+            (Field::Timeout, self.timeout, TIMEOUT),
+        ];
+        let out = fields.into_iter().find(|(_, found, most)| !(1..=*most).contains(found));
+        match out {
+            Some((field, found, most)) => Some(OutOfRange { field, found, least: 1, most }),
+            None => self.volume_out_of_range(),
+        }
+    }
+
+    /// With the counts in range: an object's volume that does not exist, or a
+    /// volume past the object count.
+    fn volume_out_of_range(&self) -> Option<OutOfRange> {
+        let last = |object| if object < usize::from(self.objects) { self.volumes - 1 } else { 0 };
+        let object = (0..OBJECTS).find(|&object| self.volume_of[object] > last(object))?;
+        let (found, most) = (self.volume_of[object].into(), last(object).into());
+        Some(OutOfRange { field: Field::VolumeOf(object), found, least: 0, most })
     }
 
     #[inline]

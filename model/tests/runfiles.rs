@@ -2,7 +2,8 @@
 
 mod common;
 
-use model::runfile::read;
+use model::runfile::{parts, read, Fault};
+use model::setup::Field;
 use model::step_record::*;
 use model::write_runfile::write;
 
@@ -91,5 +92,48 @@ fn unused_fields_of_a_known_kind_must_be_0() {
         assert_eq!(with(Step { place: 64, ..zero }), unknown || [5, 6, 7].contains(&kind));
         assert_eq!(with(Step { clock: 1 << 31, ..zero }), unknown || kind == 1);
         assert_eq!(with(Step { value: 1 << 63, ..zero }), unknown || kind == 4);
+    }
+}
+
+/// Each file has one thing wrong, and that is told.
+#[test]
+fn the_reason_is_the_first_thing_wrong() {
+    let file = write(b"a note", &common::setup(), &steps(2));
+    let fault = |change: &dyn Fn(&mut Vec<u8>)| {
+        let mut file = file.clone();
+        change(&mut file);
+        parts(&file).unwrap_err()
+    };
+    let end = file.len();
+    assert_eq!(fault(&|file| file.resize(65_537, 0)), Fault::TooLong(65_537));
+    assert_eq!(fault(&|file| file.truncate(55)), Fault::TooShort(55));
+    assert_eq!(fault(&|file| file[end - 6] = 1), Fault::Count(65_538));
+    assert_eq!(fault(&|file| file[end - 4] += 1), Fault::Distance { count: 2, found: 89 });
+    assert_eq!(fault(&|file| drop(file.drain(..7))), Fault::Missing { count: 2, len: 87 });
+    assert_eq!(fault(&|file| file[6 + 3] = 5), Fault::Spare(5));
+    let unused = Step { client: 1, ..Step::clock(0) };
+    let odd = write(b"", &common::setup(), &[Step::clock(3), unused]);
+    assert_eq!(parts(&odd).unwrap_err(), Fault::Unused { number: 2, step: unused });
+}
+
+#[test]
+fn the_field_out_of_range_is_told_with_its_range() {
+    let file = write(b"", &common::setup(), &[]);
+    for (place, byte, field, range) in [
+        (0, 17, Field::Clients, (17, 1, 16)),
+        (1, 0, Field::Volumes, (0, 1, 8)),
+        (2, 33, Field::Objects, (33, 1, 32)),
+        (5, 16, Field::VolumeLease, (4_106, 1, 3_600)),
+        (11, 1, Field::ObjectLease, (16_777_316, 1, 1_000_000)),
+        (12, 61, Field::Timeout, (61, 1, 60)),
+        (17, 2, Field::VolumeOf(1), (2, 0, 1)),
+        (20, 1, Field::VolumeOf(4), (1, 0, 0)),
+    ] {
+        let mut file = file.clone();
+        file[place] = byte;
+        let Err(Fault::Setup(out)) = parts(&file) else {
+            panic!("byte {place} as {byte}");
+        };
+        assert_eq!((out.field, (out.found, out.least, out.most)), (field, range));
     }
 }

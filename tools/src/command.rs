@@ -1,16 +1,14 @@
-//! What the commands have in common: input, output, help, exit status.
+//! What the commands have in common: help, `-o`, exit status.
 
 use std::env;
-use std::io::{self, Read, Write};
+use std::io::{self, Write};
 use std::process::ExitCode;
 
 use model::gen::runs::Run;
 
-use crate::text;
-use crate::text::words::Trouble;
-
-/// Most lines of an error message.
-const TOLD: usize = 20;
+use crate::arguments::Arguments;
+use crate::input::Input;
+use crate::output::{to_file, to_standard_output, Output};
 
 /// Why a command ends without its output.
 pub enum Failure {
@@ -20,67 +18,66 @@ pub enum Failure {
     Usage(String),
 }
 
-/// Runs a command: its output goes out whole or not at all.
-pub fn main(help: &str, command: impl FnOnce(&[String]) -> Result<Vec<u8>, Failure>) -> ExitCode {
-    let arguments: Vec<String> = env::args().skip(1).collect();
-    if arguments.iter().any(|argument| argument == "--help" || argument == "-h") {
-        return written(help.as_bytes());
-    }
-    match command(&arguments) {
-        Ok(output) => written(&output),
+/// Runs a command: its output goes out whole or not at all, to the file
+/// after `-o` or to standard output.
+pub fn main<O: Into<Output>>(help: &str, command: impl FnOnce(&[String]) -> Result<O, Failure>) -> ExitCode {
+    let ended = words().and_then(|mut words| {
+        if words.iter().any(|word| word == "--help" || word == "-h") {
+            return written(None, &help.to_string().into());
+        }
+        let file = file_after_o(&mut words)?;
+        written(file.as_deref(), &command(&words)?.into())
+    });
+    match ended {
+        Ok(true) => ExitCode::SUCCESS,
+        Ok(false) => ExitCode::from(1),
         Err(Failure::Input(message)) => {
-            eprintln!("{message}");
+            tell(&message);
             ExitCode::from(1)
         }
         Err(Failure::Usage(message)) => {
-            eprint!("{message}\n\n{help}");
+            tell(&format!("{message}\n\n{}", help.trim_end()));
             ExitCode::from(2)
         }
     }
 }
 
-fn written(output: &[u8]) -> ExitCode {
-    match io::stdout().lock().write_all(output) {
-        Ok(()) => ExitCode::SUCCESS,
-        Err(error) => {
-            eprintln!("cannot write: {error}");
-            ExitCode::from(1)
-        }
-    }
+/// The arguments as text. A file of another name is read by `<`.
+fn words() -> Result<Vec<String>, Failure> {
+    let word = |argument: std::ffi::OsString| {
+        let wrong = |other| Failure::Usage(format!("found {other:?}, expected arguments that are UTF-8"));
+        argument.into_string().map_err(wrong)
+    };
+    env::args_os().skip(1).map(word).collect()
+}
+
+fn file_after_o(words: &mut Vec<String>) -> Result<Option<String>, Failure> {
+    let mut arguments = Arguments::new(words);
+    let file = arguments.option("-o", "a file to write")?;
+    *words = arguments.rest;
+    Ok(file)
+}
+
+fn written(file: Option<&str>, output: &Output) -> Result<bool, Failure> {
+    let (name, written) = match file {
+        None | Some("-") => ("standard output", to_standard_output(&output.bytes)),
+        Some(name) => (name, to_file(name, &output.bytes)),
+    };
+    written.map_err(|error| Failure::Input(format!("cannot write {name}: {error}")))?;
+    output.told.iter().for_each(|line| tell(line));
+    Ok(output.holds)
+}
+
+/// Where standard error takes nothing, there is nobody to tell.
+fn tell(message: &str) {
+    let _ = writeln!(io::stderr(), "{message}");
 }
 
 pub fn standard_input() -> Result<Vec<u8>, Failure> {
-    let mut input = Vec::new();
-    let read = io::stdin().lock().read_to_end(&mut input);
-    read.map_err(|error| Failure::Input(format!("cannot read: {error}")))?;
-    Ok(input)
+    Input::read(None).map(|input| input.bytes)
 }
 
-pub fn run_of_file(file: &[u8]) -> Result<Run, Failure> {
-    text::from_file(file).map_err(|number| {
-        let why = "it is not shaped as a run file, or its setup is out of range";
-        Failure::Input(format!("run file of {} bytes refused ({number}): {why}", file.len()))
-    })
-}
-
-pub fn run_of_text(text: &[u8]) -> Result<Run, Failure> {
-    text::parse(text).map_err(|troubles| Failure::Input(told(&troubles)))
-}
-
-/// A run file or a text. Every accepted run file has a zero byte, in its
-/// setup, and no text has one.
+/// The run of standard input's bytes, a run file or a text.
 pub fn run_of_either(input: &[u8]) -> Result<Run, Failure> {
-    if input.contains(&0) {
-        run_of_file(input)
-    } else {
-        run_of_text(input)
-    }
-}
-
-fn told(troubles: &[Trouble]) -> String {
-    let mut lines: Vec<String> = troubles.iter().take(TOLD).map(Trouble::to_string).collect();
-    if troubles.len() > TOLD {
-        lines.push(format!("and {} bad lines more", troubles.len() - TOLD));
-    }
-    lines.join("\n")
+    Input::of_standard_input(input).run_of_either()
 }

@@ -1,13 +1,25 @@
 //! Tools for whoever writes or reads runs: a text form of run files, a
-//! listing in words, a picture over time.
+//! listing in words, a picture over time, a program beside the model.
 //!
 //! All state comes from the model: the tools run it step by step and put
 //! into words or lines what its tables hold before and after each step.
+//! What a text expects is held to the proved library.
 
+pub mod arguments;
+pub mod check;
+pub mod child;
 pub mod command;
+pub mod compare;
+pub mod difference;
 pub mod explain;
+pub mod input;
+pub mod listed;
 pub mod names;
+pub mod output;
 pub mod picture;
+pub mod proved;
+pub mod refusals;
+pub mod refused_file;
 pub mod text;
 pub mod timeline;
 pub mod trace;

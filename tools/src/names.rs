@@ -3,20 +3,25 @@
 use model::bits::members;
 use model::message::{Kind, Message};
 
+/// The kinds in the order of their numbers in a frame.
+pub const KINDS: [&str; 6] = ["RENEW", "GRANT", "INVALIDATE", "ACK", "OFFER", "DROPPED"];
+
 pub fn kind(kind: &Kind) -> &'static str {
+    KINDS[usize::from(kind.code()) - 1]
+}
+
+/// The way of a kind by its name: the server sends to a client, or a message
+/// is from one.
+pub fn way(kind: &str) -> &'static str {
     match kind {
-        Kind::Renew { .. } => "RENEW",
-        Kind::Grant(_) => "GRANT",
-        Kind::Invalidate { .. } => "INVALIDATE",
-        Kind::Ack { .. } => "ACK",
-        Kind::Offer { .. } => "OFFER",
-        Kind::Dropped { .. } => "DROPPED",
+        "GRANT" | "INVALIDATE" | "OFFER" => "to",
+        _ => "from",
     }
 }
 
 /// Whether the server sends this kind.
-pub fn from_server(kind: &Kind) -> bool {
-    matches!(kind, Kind::Grant(_) | Kind::Invalidate { .. } | Kind::Offer { .. })
+pub fn from_server(message: &Kind) -> bool {
+    way(kind(message)) == "to"
 }
 
 /// The kind with what tells two messages of it apart.
@@ -35,8 +40,7 @@ pub fn label(message: &Message) -> String {
 
 /// The label with the way it goes.
 pub fn routed(message: &Message) -> String {
-    let way = if from_server(&message.kind) { "to" } else { "from" };
-    format!("{} {way} client {}", label(message), message.client)
+    format!("{} {} client {}", label(message), way(kind(&message.kind)), message.client)
 }
 
 /// Every field that the label leaves out.

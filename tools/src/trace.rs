@@ -22,16 +22,34 @@ pub struct Moment<'a> {
     pub answer: Answer,
 }
 
-/// Takes every step of the run, question 1 asked before each.
+/// A run under way: the state that its steps so far have led to.
+pub struct Walk<'a> {
+    setup: &'a Setup,
+    pub state: State,
+    pub taken: usize,
+}
+
+impl<'a> Walk<'a> {
+    pub fn fresh(setup: &'a Setup) -> Walk<'a> {
+        Walk { setup, state: State::fresh(), taken: 0 }
+    }
+
+    /// Takes a step, question 1 asked before.
+    pub fn take<T>(&mut self, record: Step, seen: impl FnOnce(&Moment) -> T) -> T {
+        let before = self.state;
+        let (tables, copies, requests) = self.state.parts(self.setup);
+        let answer = step(self.setup, tables, copies, requests, &record);
+        self.taken += 1;
+        let (number, setup, after) = (self.taken, self.setup, &self.state);
+        seen(&Moment { number, step: record, setup, before: &before, after, answer })
+    }
+}
+
+/// Takes every step of the run.
 pub fn walk(run: &Run, mut each: impl FnMut(&Moment)) {
-    let mut before = State::fresh();
-    for (place, record) in run.steps.iter().enumerate() {
-        let mut after = before;
-        let (tables, copies, requests) = after.parts(&run.setup);
-        let answer = step(&run.setup, tables, copies, requests, record);
-        let (number, setup, step) = (place + 1, &run.setup, *record);
-        each(&Moment { number, step, setup, before: &before, after: &after, answer });
-        before = after;
+    let mut walk = Walk::fresh(&run.setup);
+    for &step in &run.steps {
+        walk.take(step, &mut each);
     }
 }
 

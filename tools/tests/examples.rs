@@ -6,7 +6,7 @@ use common::{example, example_path};
 use model::examples::all;
 use tools::picture::layout::Window;
 use tools::picture::svg;
-use tools::text::{from_file, parse, print};
+use tools::text::{from_file, parse, script};
 
 fn stored(name: &str, ending: &str) -> Vec<u8> {
     example(&format!("{name}.{ending}"))
@@ -27,8 +27,8 @@ fn texts_are_canonical() {
     for example in all() {
         let text = String::from_utf8(stored(example.name, "runtext")).unwrap();
         let lines: Vec<&str> = text.lines().filter(|line| !line.starts_with('#')).collect();
-        let run = from_file(&stored(example.name, "run")).unwrap();
-        assert_eq!(format!("{}\n", lines.join("\n")), print(&run), "{}", example.name);
+        let canonical = script(text.as_bytes()).unwrap().print();
+        assert_eq!(format!("{}\n", lines.join("\n")), canonical, "{}", example.name);
     }
 }
 

@@ -103,10 +103,11 @@ fn the_program_takes_a_run_file_or_its_text() {
     let text = tools::text::print(&from_file(&file).unwrap());
     let (by_file, by_text) = (run_program(EXPLAIN, &[], &file), run_program(EXPLAIN, &[], text.as_bytes()));
     assert_eq!((by_file.status, by_text.status), (0, 0));
+    assert_eq!(by_file.errors, "15 steps, 1 refused: 1 with 4 (a time out of range)\n");
     assert_eq!(by_file.output, by_text.output);
     assert_eq!(by_file.output, listing(&from_file(&file).unwrap()).as_bytes());
     let refused = run_program(EXPLAIN, &[], &file[1..]);
     assert_eq!((refused.status, refused.output.len()), (1, 0));
     assert_eq!(run_program(EXPLAIN, &["--help"], b"").status, 0);
-    assert_eq!(run_program(EXPLAIN, &["more"], b"").status, 2);
+    assert_eq!(run_program(EXPLAIN, &["--more"], b"").status, 2);
 }

@@ -6,7 +6,7 @@ use model::gen::{damage, runs, setups};
 use model::runfile::read;
 use model::step_record::Step;
 use model::write_runfile::write;
-use tools::text::{from_file, parse, print};
+use tools::text::{from_file, parse, print, script};
 
 fn there_and_back(file: &[u8]) {
     let text = print(&from_file(file).expect("an accepted file"));
@@ -57,4 +57,50 @@ fn notes_of_any_characters() {
             .collect();
         there_and_back(&write(note.as_bytes(), &setups::sized(1, 1, 1), &[]));
     }
+}
+
+/// Lines of words by chance: whatever is read has one canonical form, and
+/// whatever is written out is a run file of the same steps.
+#[test]
+fn lines_of_any_words() {
+    const SETUP: &str =
+        "dashes 2 regions 1 notices 2\nregion lease 10 notice lease 100 timeout 3\nregion 0 notices 0 1\n";
+    const WORDS: &str = "clock read ask write deliver lose double restart kind join client dash object notice value place \
+        server GRANT RENEW INVALIDATE ACK OFFER DROPPED to from => done shown ask first completed refused 0 1 2 64 256 #";
+    const LINES: [&str; 9] = [
+        "join dash 0 notice 1",
+        "join client 1 object 1 # again",
+        "read client 0 object 1 => shown 0",
+        "ask client 1 object 0",
+        "deliver RENEW from client 1 => done",
+        "double 0 => refused 3",
+        "write notice 1 value 2 => completed 1",
+        "lose INVALIDATE to client 0",
+        "restart client 0",
+    ];
+    let (mut rng, words) = (Rng::new(5), WORDS.split_whitespace().collect::<Vec<_>>());
+    let (mut read, mut written) = (0, 0);
+    for _ in 0..4_000 {
+        let mut text = SETUP.to_string();
+        for _ in 0..rng.range(1, 4) {
+            let mut line: Vec<&str> = rng.pick(&LINES).split(' ').collect();
+            if rng.percent(30) {
+                let place = rng.below(line.len());
+                line[place] = rng.pick(&words);
+            }
+            text += &(line.join(" ") + "\n");
+        }
+        let Ok(first) = script(text.as_bytes()) else {
+            continue;
+        };
+        read += 1;
+        let canonical = first.print();
+        assert_eq!(script(canonical.as_bytes()).unwrap().print(), canonical, "{text}");
+        if let Ok(steps) = first.written_out() {
+            written += 1;
+            assert_eq!(parse(steps.print().as_bytes()).unwrap().steps, steps.run.steps, "{text}");
+            there_and_back(&steps.run.file());
+        }
+    }
+    assert!(read > 1_000 && written > 300, "{read} read, {written} written out");
 }

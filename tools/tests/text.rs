@@ -2,7 +2,7 @@
 
 use model::step_record::Step;
 use tools::text::words::Trouble;
-use tools::text::{note, parse, print, steps};
+use tools::text::{note, parse, print, script, steps};
 
 const SETUP: &str = "\
 clients 2 volumes 3 objects 4
@@ -50,6 +50,38 @@ fn every_line_both_ways() {
 }
 
 #[test]
+fn every_expectation_and_short_form_both_ways() {
+    let lines = [
+        "clock 10 => done",
+        "read client 0 object 3 => shown 18446744073709551615",
+        "read client 0 object 3 => ask first",
+        "write object 3 value 7 => completed 32",
+        "deliver 9 => refused 3",
+        "deliver RENEW from client 0",
+        "lose GRANT to client 255 => done",
+        "double INVALIDATE to client 1",
+        "deliver ACK from client 1 => completed 1",
+        "deliver OFFER to client 1",
+        "lose DROPPED from client 1",
+        "join client 1 object 3",
+    ];
+    let text = format!("{SETUP}\n{}\n", lines.join("\n"));
+    assert_eq!(script(text.as_bytes()).unwrap().print(), text);
+}
+
+/// The paper's dash, region and notice.
+#[test]
+fn the_papers_words_are_understood() {
+    let steps = "read client 0 object 3 => ask first\njoin client 1 object 0\nrestart client 1\n";
+    let plain = format!("{SETUP}\n{steps}write object 0 value 7\n");
+    let paper = plain.replace("client", "dash").replace("volume", "region").replace("object", "notice");
+    let paper = paper.replace("dashs", "dashes");
+    assert!(paper.contains("dashes 2 regions 3 notices 4\nregion lease 10 notice lease 100"));
+    assert_eq!(script(paper.as_bytes()).unwrap().print(), plain);
+    assert_eq!(trouble("read dash 0 dash 3"), "line 5: found `dash`, expected `object`");
+}
+
+#[test]
 fn spaces_comments_and_line_ends_are_free() {
     let text = format!("# first\r\n  {}\tclock  007 # why\r\n\n#\ndeliver 1", SETUP.replace('\n', " #x\r\n"));
     let run = parse(text.as_bytes()).unwrap();
@@ -89,7 +121,7 @@ fn every_short_note_comes_back() {
 
 #[test]
 fn a_bad_step_is_told() {
-    let end = "expected the end of the line";
+    let end = "expected `=>` or the end of the line";
     for (line, wrong) in [
         ("reed client 0", "found `reed`, expected `volume V objects O ...` or a step: clock, read, "),
         ("read client 0 objct 3", "found `objct`, expected `object`"),
@@ -101,9 +133,18 @@ fn a_bad_step_is_told() {
             "write object 1 value 18446744073709551616",
             "found `18446744073709551616`, expected a value from 0",
         ),
-        ("deliver", "found the end of the line, expected a place in the queue from 0 to 255"),
+        ("deliver", "found the end of the line, expected a message as `GRANT to client 0`, or a place"),
         ("restart all", "found `all`, expected `server` or `client`"),
         ("kind 9 client 0", "found `kind 9`, expected an unknown kind: 0, or 10 to 255"),
+        ("deliver GRANT from client 0", "found `from`, expected `to`"),
+        ("lose ACK client 0", "found `client`, expected `from`"),
+        ("deliver grant to client 0", "found `grant`, expected a message as `GRANT to client 0`, or a place"),
+        ("join client 0 object 0 => done", "found `=>`, expected the end of the line"),
+        ("clock 1 =>", "found the end of the line, expected `done`, `shown V`, `ask first`, "),
+        ("clock 1 => completed 0", "found `0`, expected a number of writes from 1 to 32"),
+        ("clock 1 => refused 7", "found `7`, expected a refusal's number from 1 to 6"),
+        ("clock 1 => ask last", "found `last`, expected `first`"),
+        ("clock 1 => done 1", "found `1`, expected the end of the line"),
     ] {
         let told = trouble(line);
         assert!(told.starts_with(&format!("line 5: {wrong}")), "{told}");
@@ -167,4 +208,10 @@ fn the_file_keeps_its_limits() {
     let noted = |len: usize| format!("note \"{}\"\n{SETUP}", "n".repeat(len));
     assert_eq!(parse(noted(65_480).as_bytes()).unwrap().file().len(), 65_536);
     assert!(troubles(&noted(65_481))[0].contains("found a note of 65481 bytes, expected at most 65480"));
+    assert_eq!(
+        troubles(&(noted(65_470) + "clock 0\n")),
+        ["line 6: found step 1 after a note of 65470 bytes, expected a note of at most 65464 bytes with so many steps"]
+    );
+    let joins = format!("{}{}", steps(3_999), "join client 0 object 0\n");
+    assert_eq!(troubles(&joins), ["line 4004: found step 4001, expected at most 4000 steps"]);
 }

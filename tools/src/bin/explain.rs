@@ -2,28 +2,94 @@
 
 use std::process::ExitCode;
 
-use tools::command::{self, run_of_either, standard_input, Failure};
-use tools::explain::listing;
+use model::gen::runs::Run;
+use model::run::State;
+use tools::arguments::Arguments;
+use tools::command::{self, Failure};
+use tools::explain::{at, line, listing, tables};
+use tools::input::Input;
+use tools::listed::Listed;
+use tools::output::Output;
+use tools::{difference, proved, refusals, refused_file, trace};
 
 const HELP: &str = r#"explain: the listing of a run in words
 
-  explain < run.run          a run file, or
-  explain < run.runtext      its text form
+  explain [FILE]                    a line for each step
+  explain --tables N [FILE]         the tables after step N; 0 is before the first
+  explain --listing THEIRS [FILE]   the first difference from another listing
 
-Prints a line for each step: its number, the step as in the text form, roadrun's
-answer in words, and what in the model's tables shows why.
+FILE is a run file or its text; without one, standard input is read. -o OUT
+writes a file instead of standard output.
 
-  12 clock 10: done
+A line has the step's number, the step as in the text form, roadrun's answer in
+words, and what in the model's tables shows why:
+
+  12 clock 10: done: write of object 0 stands, latest end 10, waits for client 0
   13 read client 0 object 0: ask first: volume lease ended at 10
 
 The answers: done (0), shown V (1), ask first (2), completed N writes (3),
-refused N (4). A file that the reader refuses, or a bad line of a text, is told
-on standard error, with exit status 1.
+refused N (4). Standard error ends with a line that counts the refused steps.
+
+--listing compares the listing in THEIRS with the proved library's. Where they
+differ, the line is told with both answers and why ours is so, and the exit
+status is 1.
+
+A file that the reader refuses, or a bad line of a text, is told on standard
+error, with exit status 1; 2 is a wrong call.
 "#;
 
 fn main() -> ExitCode {
-    command::main(HELP, |arguments| match arguments {
-        [] => Ok(listing(&run_of_either(&standard_input()?)?).into_bytes()),
-        [other, ..] => Err(Failure::Usage(format!("explain: unknown argument {other}"))),
+    command::main(HELP, |arguments| {
+        let mut arguments = Arguments::new(arguments);
+        let step = arguments.number("--tables", "the number of a step")?;
+        let theirs = arguments.option("--listing", "the file of a listing")?;
+        let input = Input::read(arguments.file()?.as_deref())?;
+        match (step, theirs) {
+            (None, None) => {
+                let run = input.run_of_either()?;
+                Ok(counted(&run, listing(&run).into()))
+            }
+            (Some(step), None) => tables_after(&input, step),
+            (None, Some(theirs)) => differences(&input, &Input::read(Some(&theirs))?.bytes),
+            _ => Err(Failure::Usage("found --tables and --listing, expected one of them".into())),
+        }
+    })
+}
+
+/// With the line that counts the run's refused steps.
+fn counted(run: &Run, output: Output) -> Output {
+    let mut answers = Vec::new();
+    trace::walk(run, |moment| answers.push(Listed::of(&moment.answer)));
+    Output { told: vec![refusals::counted(answers)], ..output }
+}
+
+fn tables_after(input: &Input, step: u64) -> Result<Output, Failure> {
+    let run = input.run_of_either()?;
+    let see = |moment: &trace::Moment| {
+        format!("after step {}\n\n{}", line(moment), tables::print(moment.setup, moment.after))
+    };
+    let text = match step {
+        0 => Some(tables::print(&run.setup, &State::fresh())),
+        _ => at(&run, step as usize, see),
+    };
+    let wrong = || format!("--tables: found {step}, expected a step from 0 to {}", run.steps.len());
+    let text = text.ok_or_else(|| input.failure(&[wrong()]))?;
+    Ok(counted(&run, text.into()))
+}
+
+/// Of a refused file, ours is what roadrun prints.
+fn differences(input: &Input, theirs: &[u8]) -> Result<Output, Failure> {
+    let run = input.run_or_fault()?;
+    let ours = match &run {
+        Ok(run) => proved::listing(run),
+        Err(_) => model::listing::listing(&input.bytes),
+    };
+    let output = match difference::first(&run, &ours, theirs) {
+        None => Output::from("no difference\n".to_string()),
+        Some(words) => Output { holds: false, ..Output::from(words + "\n") },
+    };
+    Ok(match run {
+        Ok(run) => counted(&run, output),
+        Err(fault) => Output { told: vec![refused_file::told(&fault)], ..output },
     })
 }

@@ -1,46 +1,116 @@
-//! Turns the text form of a run into a run file, and back.
+//! Turns the text form of a run into a run file and back, and checks what a
+//! text expects.
 
 use std::process::ExitCode;
 
-use tools::command::{self, run_of_file, run_of_text, standard_input, Failure};
-use tools::text::print;
+use tools::arguments::Arguments;
+use tools::check::verdict;
+use tools::command::{self, Failure};
+use tools::input::Input;
+use tools::output::Output;
+use tools::refusals::counted;
+use tools::text::{print, to_file};
 
 const HELP: &str = r#"runtext: the text form of runs
 
-  runtext encode < run.runtext > run.run     text to run file
-  runtext decode < run.run > run.runtext     run file to text, in canonical form
-  runtext format < run.runtext               text to canonical form, without comments
+  runtext encode [FILE]              text to run file
+  runtext check [FILE..]             are the text's expectations met? by the proved library
+  runtext format [--expand] [FILE]   text to canonical form, without comments
+  runtext decode [FILE]              run file to text, in canonical form
 
-A text has these lines, in this order; `#` begins a comment:
+Without a FILE, standard input is read. -o OUT writes a file instead of standard
+output, whole or not at all. A text has lines as these, in this order:
 
-  note "any text\n"                          or: note hex 00 ff ...; any number of lines
-  clients 2 volumes 1 objects 3
+  note "two clients, one object"         # or: note hex 00 ff ..; any number of lines
+  clients 2 volumes 1 objects 1
   volume lease 10 object lease 100 timeout 3
-  volume 0 objects 0 1 2                     a line for each volume that has objects
+  volume 0 objects 0                     # a line for each volume that has objects
 
-  clock 10
-  read client 0 object 3
-  ask client 0 object 3
-  write object 3 value 7
-  deliver 0                                  the message at place 0 of the queue
+  read client 0 object 0 => ask first    # what is expected of a step, wherever you like
+  join client 0 object 0                 # asks and deliveries until it holds the object
+  read client 0 object 0 => shown 0
+  ask client 1 object 0
+  double RENEW from client 1             # the first such message under way
+  deliver 0                              # the message at place 0 of those under way
+  deliver OFFER to client 1
   lose 0
-  double 0
+  write object 0 value 7 => done
+  deliver INVALIDATE to client 0
+  deliver ACK from client 0 => completed 1
+  clock 10
   restart server
-  restart client 2
-  kind 12 client 0 object 0 place 0 clock 0 value 0     a step of an unknown kind
+  restart client 1
 
-Numbers are decimal. A bad line is told with its number, what was found and what
-was expected; then nothing is written and the exit status is 1 (2 for a wrong call).
+`#` begins a comment; numbers are decimal. Expectations are done, shown V, ask
+first, completed N and refused N. A step of an unknown kind has all its fields:
+kind 12 client 0 object 0 place 0 clock 0 value 0. The messages are RENEW, ACK,
+DROPPED from a client and GRANT, INVALIDATE, OFFER to one; deliver, lose and
+double take them by name. --expand writes names and joins out as exact steps.
+The paper's dash, region and notice are understood as client, volume and object.
+
+encode and check end with a line on standard error that counts refused steps.
+A bad line is told with its number, what was found and what was expected; then
+nothing is written and the exit status is 1, as it is where an expectation fails
+(2 is a wrong call).
 "#;
 
 fn main() -> ExitCode {
     command::main(HELP, |arguments| {
-        let names: Vec<&str> = arguments.iter().map(String::as_str).collect();
-        match names[..] {
-            ["encode"] => Ok(run_of_text(&standard_input()?)?.file()),
-            ["decode"] => Ok(print(&run_of_file(&standard_input()?)?).into_bytes()),
-            ["format"] => Ok(print(&run_of_text(&standard_input()?)?).into_bytes()),
-            _ => Err(Failure::Usage("runtext: expected encode, decode or format".into())),
+        let Some((form, rest)) = arguments.split_first() else {
+            return Err(Failure::Usage("found no argument, expected encode, check, format or decode".into()));
+        };
+        let arguments = Arguments::new(rest);
+        match form.as_str() {
+            "encode" => encode(arguments),
+            "check" => check(arguments),
+            "format" => format(arguments),
+            "decode" => {
+                let run = Input::read(arguments.file()?.as_deref())?.run_of_file()?;
+                Ok(print(&run).into())
+            }
+            other => {
+                Err(Failure::Usage(format!("found {other:?}, expected encode, check, format or decode")))
+            }
         }
     })
+}
+
+fn encode(arguments: Arguments) -> Result<Output, Failure> {
+    let written = Input::read(arguments.file()?.as_deref())?.written_out()?;
+    let told = vec![counted(written.steps.iter().map(|step| step.answer))];
+    Ok(Output { told, ..Output::from(to_file(&written.run)) })
+}
+
+fn format(mut arguments: Arguments) -> Result<Output, Failure> {
+    let expand = arguments.flag("--expand");
+    let input = Input::read(arguments.file()?.as_deref())?;
+    let text = if expand { input.written_out()?.print() } else { input.script()?.print() };
+    Ok(text.into())
+}
+
+/// A line for each text, also where one before it could not be read.
+fn check(arguments: Arguments) -> Result<Output, Failure> {
+    let mut files: Vec<Option<String>> = arguments.files()?.into_iter().map(Some).collect();
+    if files.is_empty() {
+        files.push(None);
+    }
+    let (mut lines, mut answers, mut troubles) = (String::new(), Vec::new(), Vec::new());
+    let mut holds = true;
+    for file in files {
+        let written = Input::read(file.as_deref()).and_then(|input| Ok((input.written_out()?, input)));
+        match written {
+            Ok((written, input)) => {
+                let verdict = verdict(&written);
+                lines += &format!("{}: {}\n", input.name(), verdict.words);
+                answers.extend(verdict.answers);
+                holds &= verdict.holds;
+            }
+            Err(Failure::Input(message) | Failure::Usage(message)) => {
+                troubles.push(message);
+                holds = false;
+            }
+        }
+    }
+    troubles.push(counted(answers));
+    Ok(Output { bytes: lines.into_bytes(), told: troubles, holds })
 }

@@ -4,12 +4,15 @@
 mod delivery;
 mod refusal;
 mod steps;
+mod table;
+pub mod tables;
 
 use std::fmt::Write;
 
 use model::answer::Answer;
 use model::gen::runs::Run;
 
+use crate::listed::Listed;
 use crate::text;
 use crate::trace::{walk, Moment};
 
@@ -29,16 +32,29 @@ pub fn line(moment: &Moment) -> String {
     }
 }
 
+/// The line of one step.
+pub fn line_at(run: &Run, number: usize) -> Option<String> {
+    at(run, number, line)
+}
+
+pub fn reasons_at(run: &Run, number: usize) -> Vec<String> {
+    at(run, number, reasons).unwrap_or_default()
+}
+
+/// What is seen of one step of a run, if it has so many.
+pub fn at<T>(run: &Run, number: usize, see: impl Fn(&Moment) -> T) -> Option<T> {
+    let mut seen = None;
+    walk(run, |moment| {
+        if moment.number == number {
+            seen = Some(see(moment));
+        }
+    });
+    seen
+}
+
 /// The listing's two numbers in words.
 pub fn answer(answer: &Answer) -> String {
-    match answer.numbers() {
-        (0, _) => "done".into(),
-        (1, value) => format!("shown {value}"),
-        (2, _) => "ask first".into(),
-        (3, 1) => "completed 1 write".into(),
-        (3, count) => format!("completed {count} writes"),
-        (_, number) => format!("refused {number}"),
-    }
+    Listed::of(answer).words()
 }
 
 pub fn reasons(moment: &Moment) -> Vec<String> {

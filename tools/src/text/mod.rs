@@ -1,35 +1,51 @@
 //! The text form of a run: notes, setup, then one step a line.
 
+pub mod actions;
+pub mod expected;
 pub mod note;
 pub mod reader;
+pub mod script;
 pub mod setup;
 pub mod steps;
 pub mod words;
+mod writer;
 
 use std::fmt::Write;
 
 use model::gen::runs::Run;
-use model::runfile;
+use model::runfile::{self, Fault};
+use model::setup::Setup;
 
-pub use reader::parse;
+pub use reader::script;
+use words::Trouble;
+
+/// The run of a text, or what is wrong with its lines.
+pub fn parse(text: &[u8]) -> Result<Run, Vec<Trouble>> {
+    let written = script(text)?.written_out().map_err(|trouble| vec![trouble])?;
+    Ok(written.run)
+}
 
 /// The run in canonical form: the one text for each run.
 pub fn print(run: &Run) -> String {
+    canonical(&run.note, &run.setup, run.steps.iter().map(steps::line))
+}
+
+fn canonical(note: &[u8], setup: &Setup, steps: impl ExactSizeIterator<Item = String>) -> String {
     let mut text = String::new();
-    for line in note::lines(&run.note).into_iter().chain(setup::lines(&run.setup)) {
+    let gap = (steps.len() > 0).then(String::new);
+    for line in note::lines(note).into_iter().chain(setup::lines(setup)).chain(gap).chain(steps) {
         writeln!(text, "{line}").expect("a string takes every line");
-    }
-    if !run.steps.is_empty() {
-        text.push('\n');
-    }
-    for step in &run.steps {
-        writeln!(text, "{}", steps::line(step)).expect("a string takes every line");
     }
     text
 }
 
 /// The run of a file's bytes, as the model's reader sees it.
-pub fn from_file(file: &[u8]) -> Result<Run, u8> {
-    let parts = runfile::read(file)?;
+pub fn from_file(file: &[u8]) -> Result<Run, Fault> {
+    let parts = runfile::parts(file)?;
     Ok(Run { note: parts.note.to_vec(), setup: parts.setup, steps: parts.steps().collect() })
+}
+
+/// The run file of a run: the one place where the tools write them.
+pub fn to_file(run: &Run) -> Vec<u8> {
+    run.file()
 }

@@ -1,13 +1,13 @@
-//! Reads a whole text: each bad line is told, and then no run comes of it.
+//! Reads a whole text: each bad line is told, and then no script comes of it.
 
-use model::gen::runs::Run;
-use model::limits::{FILE_BYTES, STEPS};
+use model::limits::FILE_BYTES;
 use model::runfile::distance;
-use model::step_record::Step;
 
+use super::actions::{self, Action};
+use super::script::{Line, Script};
 use super::setup::Partial;
-use super::words::{quoted, Trouble, Words, Wrong};
-use super::{note, setup, steps};
+use super::words::{plain, quoted, Trouble, Words, Wrong};
+use super::{expected, note, setup, steps};
 
 /// The parts of a text in their order.
 #[derive(Clone, Copy, PartialEq, PartialOrd)]
@@ -23,19 +23,19 @@ struct Reader {
     part: Part,
     note: Vec<u8>,
     setup: Partial,
-    steps: Vec<Step>,
+    lines: Vec<Line>,
     /// Where a missing setup line is told: the first step's line.
     first_step: Option<usize>,
     troubles: Vec<Trouble>,
 }
 
-/// The run of a text, or what is wrong with its lines.
-pub fn parse(text: &[u8]) -> Result<Run, Vec<Trouble>> {
+/// What a text says, or what is wrong with its lines.
+pub fn script(text: &[u8]) -> Result<Script, Vec<Trouble>> {
     let mut reader = Reader {
         part: Part::Note,
         note: Vec::new(),
         setup: Partial::default(),
-        steps: Vec::new(),
+        lines: Vec::new(),
         first_step: None,
         troubles: Vec::new(),
     };
@@ -43,7 +43,7 @@ pub fn parse(text: &[u8]) -> Result<Run, Vec<Trouble>> {
     let mut last = 0;
     for line in text.split(|&byte| byte == b'\n') {
         last += 1;
-        if let Err(wrong) = reader.read_bytes(line) {
+        if let Err(wrong) = reader.read_bytes(line, last) {
             reader.troubles.push(Trouble { line: last, wrong });
         }
         if reader.first_step.is_none() && reader.part == Part::Steps {
@@ -54,17 +54,17 @@ pub fn parse(text: &[u8]) -> Result<Run, Vec<Trouble>> {
 }
 
 impl Reader {
-    fn read_bytes(&mut self, line: &[u8]) -> Result<(), Wrong> {
+    fn read_bytes(&mut self, line: &[u8], number: usize) -> Result<(), Wrong> {
         let line = line.strip_suffix(b"\r").unwrap_or(line);
         let text = std::str::from_utf8(line);
         let text = text.map_err(|_| Wrong::new("bytes that are no text", "UTF-8"))?;
         if text.contains('\0') {
             return Err(Wrong::new("a zero byte", "text"));
         }
-        self.read_line(text)
+        self.read_line(text, number)
     }
 
-    fn read_line(&mut self, line: &str) -> Result<(), Wrong> {
+    fn read_line(&mut self, line: &str, number: usize) -> Result<(), Wrong> {
         let mut words = Words::new(line);
         let Some(first) = words.peek() else {
             return Ok(());
@@ -75,7 +75,7 @@ impl Reader {
             Part::Counts => self.setup.read_counts(&mut words),
             Part::Ticks => self.setup.read_ticks(&mut words),
             Part::Volumes => self.setup.read_volume(&mut words),
-            Part::Steps => self.read_step(&mut words),
+            Part::Steps => self.read_step(&mut words, number),
         }
     }
 
@@ -97,30 +97,26 @@ impl Reader {
         }
     }
 
-    fn read_step(&mut self, words: &mut Words) -> Result<(), Wrong> {
-        if self.steps.len() == STEPS {
-            return Err(Wrong::new(format!("step {}", STEPS + 1), format!("at most {STEPS} steps")));
+    fn read_step(&mut self, words: &mut Words, number: usize) -> Result<(), Wrong> {
+        let action = actions::parse(words)?;
+        if let Action::Join { .. } = action {
+            words.end()?;
         }
-        self.steps.push(steps::parse(words)?);
+        self.lines.push(Line { number, action, expected: expected::parse(words)? });
         Ok(())
     }
 
-    fn whole(mut self, last: usize) -> Result<Run, Vec<Trouble>> {
+    fn whole(mut self, last: usize) -> Result<Script, Vec<Trouble>> {
         if !self.troubles.is_empty() {
             return Err(self.troubles);
         }
+        let room = FILE_BYTES - distance(0);
         let wrong = match self.setup.whole() {
             Err(wrong) => wrong,
-            Ok(setup) if self.note.len() + distance(self.steps.len()) <= FILE_BYTES => {
-                return Ok(Run { note: self.note, setup, steps: self.steps });
+            Ok(setup) if self.note.len() <= room => {
+                return Ok(Script { note: self.note, setup, lines: self.lines });
             }
-            Ok(_) => {
-                let room = FILE_BYTES - distance(self.steps.len());
-                Wrong::new(
-                    format!("a note of {} bytes", self.note.len()),
-                    format!("at most {room} with these steps"),
-                )
-            }
+            Ok(_) => Wrong::new(format!("a note of {} bytes", self.note.len()), format!("at most {room}")),
         };
         self.troubles.push(Trouble { line: self.first_step.unwrap_or(last), wrong });
         Err(self.troubles)
@@ -129,12 +125,12 @@ impl Reader {
 
 /// `volume lease` and `volume 0` begin alike.
 fn part_of(first: &str, line: &str) -> Option<Part> {
-    match first {
+    match plain(first) {
         "clients" => Some(Part::Counts),
         "volume" if line.split_whitespace().nth(1) == Some("lease") => Some(Part::Ticks),
         "volume" => Some(Part::Volumes),
         _ if first.split('"').next() == Some("note") => Some(Part::Note),
-        _ if steps::FIRST_WORDS.contains(&first) => Some(Part::Steps),
+        _ if actions::FIRST_WORDS.contains(&first) => Some(Part::Steps),
         _ => None,
     }
 }

@@ -1,7 +1,7 @@
 //! Setup lines, both ways: the counts, the ticks, then each volume's
 //! objects.
 
-use model::limits::{CLIENTS, OBJECTS, VOLUMES};
+use model::limits::{CLIENTS, OBJECTS, OBJECT_LEASE, TIMEOUT, VOLUMES, VOLUME_LEASE};
 use model::setup::Setup;
 
 use super::words::{Words, Wrong};
@@ -47,13 +47,13 @@ impl Partial {
     }
 
     pub fn read_ticks(&mut self, words: &mut Words) -> Result<(), Wrong> {
-        let mut ticks = |names: &[&str], most: u64| {
+        let mut ticks = |names: &[&str], most: u32| {
             names.iter().try_for_each(|name| words.word(name))?;
-            words.number("ticks", 1, most).map(|ticks| ticks as u32)
+            words.number("ticks", 1, most.into()).map(|ticks| ticks as u32)
         };
-        let volume_lease = ticks(&["volume", "lease"], 3_600)?;
-        let object_lease = ticks(&["object", "lease"], 1_000_000)?;
-        let timeout = ticks(&["timeout"], 60)?;
+        let volume_lease = ticks(&["volume", "lease"], VOLUME_LEASE)?;
+        let object_lease = ticks(&["object", "lease"], OBJECT_LEASE)?;
+        let timeout = ticks(&["timeout"], TIMEOUT)?;
         words.end()?;
         self.ticks = Some((volume_lease, object_lease, timeout));
         Ok(())

@@ -2,11 +2,9 @@
 
 use model::step_record::*;
 
-use super::words::{quoted, Words, Wrong};
+use super::words::{plain, quoted, Words, Wrong};
 
-pub const FIRST_WORDS: [&str; 9] =
-    ["clock", "read", "ask", "write", "deliver", "lose", "double", "restart", "kind"];
-pub const A_STEP: &str = "a step: clock, read, ask, write, deliver, lose, double, restart or kind";
+pub const A_STEP: &str = "a step: clock, read, ask, write, deliver, lose, double, restart, kind or join";
 
 /// The line of a step whose kind leaves no unused field: as every step of
 /// an accepted run file. An unknown kind shows all its fields.
@@ -27,21 +25,18 @@ pub fn line(step: &Step) -> String {
 }
 
 pub fn parse(words: &mut Words) -> Result<Step, Wrong> {
-    let first = words.next(A_STEP)?;
-    let step = match first {
-        "clock" => Step::clock(time(words)?),
-        "read" => Step::read(words.named_byte("client")?, words.named_byte("object")?),
-        "ask" => Step::ask(words.named_byte("client")?, words.named_byte("object")?),
-        "write" => Step::write(words.named_byte("object")?, value(words)?),
-        "deliver" => Step::deliver(place(words)?),
-        "lose" => Step::lose(place(words)?),
-        "double" => Step::double(place(words)?),
-        "restart" => restart(words)?,
-        "kind" => unknown(words)?,
-        _ => return Err(Wrong::new(quoted(first), A_STEP)),
-    };
-    words.end()?;
-    Ok(step)
+    match words.next(A_STEP)? {
+        "clock" => Ok(Step::clock(time(words)?)),
+        "read" => Ok(Step::read(words.named_byte("client")?, words.named_byte("object")?)),
+        "ask" => Ok(Step::ask(words.named_byte("client")?, words.named_byte("object")?)),
+        "write" => Ok(Step::write(words.named_byte("object")?, value(words)?)),
+        "deliver" => Ok(Step::deliver(place(words)?)),
+        "lose" => Ok(Step::lose(place(words)?)),
+        "double" => Ok(Step::double(place(words)?)),
+        "restart" => restart(words),
+        "kind" => unknown(words),
+        first => Err(Wrong::new(quoted(first), A_STEP)),
+    }
 }
 
 fn time(words: &mut Words) -> Result<u32, Wrong> {
@@ -54,15 +49,16 @@ fn value(words: &mut Words) -> Result<u64, Wrong> {
 }
 
 fn place(words: &mut Words) -> Result<u8, Wrong> {
-    words.byte("a place in the queue")
+    words.byte("a message as `GRANT to client 0`, or a place in the queue")
 }
 
 fn restart(words: &mut Words) -> Result<Step, Wrong> {
     const WHO: &str = "`server` or `client`";
-    match words.next(WHO)? {
+    let who = words.next(WHO)?;
+    match plain(who) {
         "server" => Ok(Step::restart_server()),
         "client" => Ok(Step::restart_client(words.byte("a number of the client")?)),
-        other => Err(Wrong::new(quoted(other), WHO)),
+        _ => Err(Wrong::new(quoted(who), WHO)),
     }
 }
 

@@ -29,6 +29,22 @@ impl fmt::Display for Trouble {
     }
 }
 
+/// The customer's own words, and the field's that they stand for.
+const OTHER_WORDS: [(&str, &str); 6] = [
+    ("dash", "client"),
+    ("dashes", "clients"),
+    ("region", "volume"),
+    ("regions", "volumes"),
+    ("notice", "object"),
+    ("notices", "objects"),
+];
+
+/// The field's word for this one.
+pub fn plain(word: &str) -> &str {
+    OTHER_WORDS.iter().find(|(other, _)| *other == word).map_or(word, |(_, plain)| plain)
+}
+
+#[derive(Clone)]
 pub struct Words<'a> {
     rest: std::iter::Peekable<std::str::SplitWhitespace<'a>>,
 }
@@ -44,6 +60,11 @@ impl<'a> Words<'a> {
         self.rest.peek().copied()
     }
 
+    /// The word after the next one.
+    pub fn second(&self) -> Option<&'a str> {
+        self.rest.clone().nth(1)
+    }
+
     pub fn next(&mut self, expected: &str) -> Result<&'a str, Wrong> {
         self.rest.next().ok_or_else(|| Wrong::new("the end of the line", expected))
     }
@@ -51,7 +72,7 @@ impl<'a> Words<'a> {
     pub fn word(&mut self, word: &str) -> Result<(), Wrong> {
         let expected = format!("`{word}`");
         let found = self.next(&expected)?;
-        if found == word {
+        if plain(found) == word {
             Ok(())
         } else {
             Err(Wrong::new(quoted(found), expected))

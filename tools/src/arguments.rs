@@ -1,0 +1,68 @@
+//! A command's arguments, taken apart: options first, the files are left.
+
+use crate::command::Failure;
+
+pub struct Arguments {
+    /// What was not taken out yet.
+    pub rest: Vec<String>,
+}
+
+impl Arguments {
+    pub fn new(arguments: &[String]) -> Arguments {
+        Arguments { rest: arguments.to_vec() }
+    }
+
+    /// Takes out `name VALUE`. Another option is no value.
+    pub fn option(&mut self, name: &str, value: &str) -> Result<Option<String>, Failure> {
+        let Some(place) = self.rest.iter().position(|word| word == name) else {
+            return Ok(None);
+        };
+        let wrong = |found: &str| Err(Failure::Usage(format!("{name}: found {found}, expected {value}")));
+        match self.rest.get(place + 1) {
+            None => return wrong("nothing after it"),
+            Some(found) if is_option(found) => return wrong(&format!("{found:?}")),
+            Some(_) => self.rest.remove(place),
+        };
+        let found = self.rest.remove(place);
+        if self.rest.iter().any(|word| word == name) {
+            return Err(Failure::Usage(format!("{name}: found twice, expected once")));
+        }
+        Ok(Some(found))
+    }
+
+    pub fn number(&mut self, name: &str, value: &str) -> Result<Option<u64>, Failure> {
+        let Some(found) = self.option(name, value)? else {
+            return Ok(None);
+        };
+        let number = found.parse();
+        let wrong = || Failure::Usage(format!("{name}: found {found:?}, expected {value}"));
+        number.map(Some).map_err(|_| wrong())
+    }
+
+    pub fn flag(&mut self, name: &str) -> bool {
+        let before = self.rest.len();
+        self.rest.retain(|word| word != name);
+        self.rest.len() < before
+    }
+
+    /// What is left: files, `-` for standard input.
+    pub fn files(self) -> Result<Vec<String>, Failure> {
+        match self.rest.iter().find(|word| is_option(word)) {
+            None => Ok(self.rest),
+            Some(unknown) => Err(Failure::Usage(format!("unknown option {unknown:?}"))),
+        }
+    }
+
+    /// The one file; none is standard input.
+    pub fn file(self) -> Result<Option<String>, Failure> {
+        let files = self.files()?;
+        match files.len() {
+            0 | 1 => Ok(files.into_iter().next()),
+            count => Err(Failure::Usage(format!("found {count} files, expected one or standard input"))),
+        }
+    }
+}
+
+fn is_option(word: &str) -> bool {
+    word.starts_with('-') && word != "-"
+}

@@ -1,0 +1,52 @@
+//! The first difference between another maker's listing of a run file and
+//! ours, in words.
+
+use model::gen::runs::Run;
+use model::runfile::Fault;
+
+use crate::listed::line;
+use crate::text::words::quoted;
+use crate::{explain, refused_file};
+
+/// Nothing where the two are the same bytes. The run is there to explain our
+/// answer, or the fault for which the file is refused.
+pub fn first(run: &Result<Run, Fault>, ours: &[u8], theirs: &[u8]) -> Option<String> {
+    let (mut our_lines, mut their_lines) = (lines(ours), lines(theirs));
+    let mut number = 0;
+    loop {
+        match (our_lines.next(), their_lines.next()) {
+            (None, None) => return None,
+            (ours, theirs) if ours == theirs => number += 1,
+            (ours, theirs) => return Some(told(run, number, ours, theirs)),
+        }
+    }
+}
+
+/// Each with its line end, so that one that lacks it differs.
+fn lines(listing: &[u8]) -> impl Iterator<Item = &[u8]> {
+    listing.split_inclusive(|&byte| byte == b'\n')
+}
+
+/// The line of step 0 is the header.
+fn told(run: &Result<Run, Fault>, step: usize, ours: Option<&[u8]>, theirs: Option<&[u8]>) -> String {
+    let theirs = match theirs {
+        None => "the listing ends".into(),
+        Some(theirs) => answer(step, &String::from_utf8_lossy(theirs)),
+    };
+    let ours = match (ours, run) {
+        (None, _) => "the listing ends".into(),
+        (Some(header), _) if step == 0 => quoted(&String::from_utf8_lossy(header)),
+        (_, Ok(run)) => explain::line_at(run, step).unwrap_or_default(),
+        (_, Err(fault)) => refused_file::told(fault),
+    };
+    format!("first difference at line {} of the listing\ntheirs: {theirs}\nours:   {ours}", step + 1)
+}
+
+/// A line in words, if it is one of this step.
+fn answer(step: usize, text: &str) -> String {
+    match line(text.strip_suffix('\n').unwrap_or("")) {
+        Some((0, listed)) if step == 1 && listed.refusal() == Some(9) => "the file is refused (9)".into(),
+        Some((number, listed)) if number == step => format!("{step} {}", listed.words()),
+        _ => format!("{}, which is no line of step {step}", quoted(text)),
+    }
+}

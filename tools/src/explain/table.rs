@@ -1,0 +1,19 @@
+//! A table as aligned text.
+
+/// A title, then a row of heads and the rows below it; no rows are "none".
+pub fn print(title: &str, heads: &[&str], rows: &[Vec<String>]) -> String {
+    if rows.is_empty() {
+        return format!("{title}: none\n");
+    }
+    let mut text = format!("{title}\n");
+    let heads: Vec<String> = heads.iter().map(|head| head.to_string()).collect();
+    let widths: Vec<usize> = (0..heads.len())
+        .map(|column| rows.iter().chain([&heads]).map(|row| row[column].chars().count()).max().unwrap_or(0))
+        .collect();
+    for row in [&heads].into_iter().chain(rows) {
+        let cells = row.iter().zip(&widths).map(|(cell, &width)| format!("  {cell:width$}"));
+        text += cells.collect::<String>().trim_end();
+        text.push('\n');
+    }
+    text
+}

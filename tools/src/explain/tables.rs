@@ -1,0 +1,164 @@
+//! The tables after a step: of clients, volumes and objects that exist, and
+//! only the rows that hold something.
+
+use model::run::State;
+use model::setup::Setup;
+use model::tables::alive;
+
+use super::table;
+use crate::names::{clients, whole};
+
+/// All tables of a state, one below the other.
+pub fn print(setup: &Setup, state: &State) -> String {
+    let view = View { setup, state };
+    let parts = [
+        format!("clock {}\n", state.tables.clock),
+        view.volumes(),
+        view.objects(),
+        view.server_clients(),
+        view.server_volume_leases(),
+        view.server_object_leases(),
+        view.requests(),
+        view.client_volumes(),
+        view.copies(),
+        view.messages(),
+    ];
+    parts.join("\n")
+}
+
+struct View<'a> {
+    setup: &'a Setup,
+    state: &'a State,
+}
+
+/// Numbers and words of a row.
+macro_rules! row {
+    ($($cell:expr),+) => { vec![$($cell.to_string()),+] };
+}
+
+impl View<'_> {
+    /// "10 alive" or "10 ended".
+    fn expiry(&self, expiry: u32) -> String {
+        match expiry {
+            0 => "none".into(),
+            _ if alive(expiry, self.state.tables.clock) => format!("{expiry} alive"),
+            _ => format!("{expiry} ended"),
+        }
+    }
+
+    fn each_client(&self) -> std::ops::Range<usize> {
+        0..self.setup.clients.into()
+    }
+
+    fn each_volume(&self) -> std::ops::Range<usize> {
+        0..self.setup.volumes.into()
+    }
+
+    fn each_object(&self) -> std::ops::Range<usize> {
+        0..self.setup.objects.into()
+    }
+
+    /// Every client with every one of these.
+    fn pairs(&self, others: std::ops::Range<usize>) -> impl Iterator<Item = (usize, usize)> {
+        self.each_client().flat_map(move |client| others.clone().map(move |other| (client, other)))
+    }
+
+    fn volumes(&self) -> String {
+        let server = &self.state.tables.server;
+        let row = |volume: usize| {
+            let (latest, guard) = (server.volume_latest[volume], server.guard[volume]);
+            row![volume, server.epoch[volume], latest, guard]
+        };
+        let rows: Vec<_> = self.each_volume().map(row).collect();
+        table::print("server, volumes", &["volume", "epoch", "largest expiry", "guard"], &rows)
+    }
+
+    fn objects(&self) -> String {
+        let server = &self.state.tables.server;
+        let row = |object: usize| {
+            let write = &server.write[object];
+            let standing = match server.stands(object) {
+                false => "none".into(),
+                true => format!(
+                    "value {}, latest end {}, waits for {}",
+                    write.value,
+                    write.latest_end,
+                    clients(write.waiting)
+                ),
+            };
+            let (value, version) = (server.value[object], server.version[object]);
+            row![object, self.setup.volume(object), value, version, server.object_latest[object], standing]
+        };
+        let rows: Vec<_> = self.each_object().map(row).collect();
+        let heads = ["object", "volume", "value", "version", "largest expiry", "standing write"];
+        table::print("server, objects", &heads, &rows)
+    }
+
+    fn server_clients(&self) -> String {
+        let seen = &self.state.tables.server.seen;
+        let rows: Vec<_> = self.each_client().map(|client| row![client, seen[client]]).collect();
+        table::print("server, clients", &["client", "highest number seen"], &rows)
+    }
+
+    fn server_volume_leases(&self) -> String {
+        let server = &self.state.tables.server;
+        let row = |(client, volume): (usize, usize)| {
+            let (expiry, offer) = (server.volume_expiry[volume][client], server.offer[volume][client]);
+            let marked = server.unreachable[volume] >> client & 1 == 1;
+            let offered = if offer == 0 { "none".into() } else { format!("number {offer}") };
+            let mark = if marked { "unreachable" } else { "none" };
+            let holds = expiry != 0 || offer != 0 || marked;
+            holds.then(|| row![client, volume, self.expiry(expiry), mark, offered])
+        };
+        let rows: Vec<_> = self.pairs(self.each_volume()).filter_map(row).collect();
+        table::print("server, volume leases", &["client", "volume", "lease to", "mark", "offer"], &rows)
+    }
+
+    fn server_object_leases(&self) -> String {
+        let expiry = &self.state.tables.server.object_expiry;
+        let row = |(client, object): (usize, usize)| {
+            let expiry = expiry[object][client];
+            (expiry != 0).then(|| row![client, object, self.expiry(expiry)])
+        };
+        let rows: Vec<_> = self.pairs(self.each_object()).filter_map(row).collect();
+        table::print("server, object leases", &["client", "object", "lease to"], &rows)
+    }
+
+    fn requests(&self) -> String {
+        let row = |(client, request): (usize, &model::requests::Request)| {
+            let standing = request.standing.map_or("none".into(), |standing| {
+                format!("number {} for object {}", standing.number, standing.object)
+            });
+            row![client, request.next, standing]
+        };
+        let rows: Vec<_> = self.state.requests(self.setup).iter().enumerate().map(row).collect();
+        table::print("clients, requests", &["client", "next number", "standing request"], &rows)
+    }
+
+    fn client_volumes(&self) -> String {
+        let known = &self.state.tables.clients;
+        let row = |(client, volume): (usize, usize)| {
+            let (epoch, expiry) = (known.epoch[client][volume], known.expiry[client][volume]);
+            (epoch != 0 || expiry != 0).then(|| row![client, volume, epoch, self.expiry(expiry)])
+        };
+        let rows: Vec<_> = self.pairs(self.each_volume()).filter_map(row).collect();
+        table::print("clients, volumes", &["client", "volume", "epoch", "lease to"], &rows)
+    }
+
+    fn copies(&self) -> String {
+        let copies = self.state.copies(self.setup);
+        let row = |(client, object): (usize, usize)| {
+            let copy = &copies[self.setup.copy_place(client, object)];
+            (copy.version != 0)
+                .then(|| row![client, object, copy.version, copy.value, self.expiry(copy.expiry)])
+        };
+        let rows: Vec<_> = self.pairs(self.each_object()).filter_map(row).collect();
+        table::print("clients, copies", &["client", "object", "version", "value", "lease to"], &rows)
+    }
+
+    fn messages(&self) -> String {
+        let messages = self.state.tables.queue.messages().iter().enumerate();
+        let rows: Vec<_> = messages.map(|(place, message)| row![place, whole(message)]).collect();
+        table::print("messages under way", &["place", "message"], &rows)
+    }
+}

@@ -1,0 +1,108 @@
+//! What a command reads: standard input or a file, and the run in it.
+
+use std::fs::File;
+use std::io::{self, Read};
+
+use model::gen::runs::Run;
+use model::runfile::Fault;
+
+use crate::command::Failure;
+use crate::refused_file;
+use crate::text;
+use crate::text::script::{Script, WrittenOut};
+use crate::text::words::Trouble;
+
+/// Longer is no run and no text of one, whatever its comments.
+const MOST: u64 = 1 << 24;
+
+/// Most lines of an error message.
+const TOLD: usize = 20;
+
+pub struct Input {
+    /// A file's name stands before what is told of it.
+    name: Option<String>,
+    pub bytes: Vec<u8>,
+}
+
+impl Input {
+    /// The file of this name; none or `-` is standard input.
+    pub fn read(file: Option<&str>) -> Result<Input, Failure> {
+        let name = file.filter(|&name| name != "-").map(String::from);
+        let read = match &name {
+            None => whole(io::stdin().lock()),
+            Some(name) => File::open(name).and_then(whole),
+        };
+        match read {
+            Ok(bytes) => Ok(Input { name, bytes }),
+            Err(error) => {
+                let name = name.as_deref().unwrap_or("standard input");
+                Err(Failure::Input(format!("cannot read {name}: {error}")))
+            }
+        }
+    }
+
+    pub fn of_standard_input(bytes: &[u8]) -> Input {
+        Input { name: None, bytes: bytes.to_vec() }
+    }
+
+    pub fn name(&self) -> &str {
+        self.name.as_deref().unwrap_or("standard input")
+    }
+
+    /// A failure told line by line, with the file's name.
+    pub fn failure(&self, lines: &[String]) -> Failure {
+        let named = |line: &String| match &self.name {
+            None => line.clone(),
+            Some(name) => format!("{name}: {line}"),
+        };
+        Failure::Input(lines.iter().map(named).collect::<Vec<_>>().join("\n"))
+    }
+
+    /// The run of a run file.
+    pub fn run_of_file(&self) -> Result<Run, Failure> {
+        text::from_file(&self.bytes).map_err(|fault| self.failure(&[refused_file::told(&fault)]))
+    }
+
+    /// What a text says.
+    pub fn script(&self) -> Result<Script, Failure> {
+        text::script(&self.bytes).map_err(|troubles| self.failure(&told(&troubles)))
+    }
+
+    /// The same as exact steps.
+    pub fn written_out(&self) -> Result<WrittenOut, Failure> {
+        let written = self.script()?.written_out();
+        written.map_err(|trouble| self.failure(&[trouble.to_string()]))
+    }
+
+    /// A run file or a text. Every accepted run file has a zero byte, in its
+    /// setup, and no text has one.
+    pub fn run_of_either(&self) -> Result<Run, Failure> {
+        self.run_or_fault()?.map_err(|fault| self.failure(&[refused_file::told(&fault)]))
+    }
+
+    /// The same where a refused run file is a case like any other.
+    pub fn run_or_fault(&self) -> Result<Result<Run, Fault>, Failure> {
+        if self.bytes.contains(&0) {
+            Ok(text::from_file(&self.bytes))
+        } else {
+            Ok(Ok(self.written_out()?.run))
+        }
+    }
+}
+
+fn whole(input: impl Read) -> io::Result<Vec<u8>> {
+    let mut bytes = Vec::new();
+    input.take(MOST + 1).read_to_end(&mut bytes)?;
+    if bytes.len() as u64 > MOST {
+        return Err(io::Error::other(format!("it is longer than {MOST} bytes")));
+    }
+    Ok(bytes)
+}
+
+fn told(troubles: &[Trouble]) -> Vec<String> {
+    let mut lines: Vec<String> = troubles.iter().take(TOLD).map(Trouble::to_string).collect();
+    if troubles.len() > TOLD {
+        lines.push(format!("and {} bad lines more", troubles.len() - TOLD));
+    }
+    lines
+}

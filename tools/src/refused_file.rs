@@ -1,0 +1,65 @@
+//! What is wrong with a refused run file, in words.
+
+use model::limits::{BAD_FILE, FILE_BYTES, STEPS};
+use model::runfile::{distance, Fault};
+use model::setup::{Field, OutOfRange};
+use model::step_record::Step;
+
+use crate::text::steps::line;
+
+pub fn told(fault: &Fault) -> String {
+    format!("run file refused ({BAD_FILE}): {}", reason(fault))
+}
+
+fn reason(fault: &Fault) -> String {
+    match *fault {
+        Fault::TooLong(len) => format!("found {len} bytes, expected at most {FILE_BYTES}"),
+        Fault::TooShort(len) => {
+            format!("found {len} bytes, expected at least {}, setup and trailer", distance(0))
+        }
+        Fault::Count(count) => format!("trailer: found {count} steps, expected at most {STEPS}"),
+        Fault::Distance { count, found } => format!(
+            "trailer: found distance {found} back to the setup, expected {} with {count} steps",
+            distance(count)
+        ),
+        Fault::Missing { count, len } => format!(
+            "trailer: found {count} steps, for which the file needs {} bytes, expected at most the {len} it has",
+            distance(count)
+        ),
+        Fault::Spare(byte) => format!("setup, byte 3: found {byte}, expected 0"),
+        Fault::Setup(out) => format!("setup, {}", out_of_range(&out)),
+        Fault::Unused { number, step } => format!("step {number}, {}", unused(&step)),
+    }
+}
+
+fn out_of_range(out: &OutOfRange) -> String {
+    let OutOfRange { field, found, least, most } = *out;
+    let field = match field {
+        Field::Clients => "number of clients".into(),
+        Field::Volumes => "number of volumes".into(),
+        Field::Objects => "number of objects".into(),
+        Field::VolumeLease => "ticks of a volume lease".into(),
+        Field::ObjectLease => "ticks of an object lease".into(),
+        Field::Timeout => "ticks of the timeout".into(),
+        Field::VolumeOf(object) => format!("volume of object {object}"),
+    };
+    match (least, most) {
+        (0, 0) => format!("{field}: found {found}, expected 0"),
+        _ => format!("{field}: found {found}, expected {least} to {most}"),
+    }
+}
+
+/// The first field that the step's kind does not use and that is not 0.
+fn unused(step: &Step) -> String {
+    let used = step.used_fields();
+    let fields = [
+        ("client", step.client.into(), used.client.into()),
+        ("object", step.object.into(), used.object.into()),
+        ("place", step.place.into(), used.place.into()),
+        ("clock", step.clock.into(), used.clock.into()),
+        ("value", step.value, used.value),
+    ];
+    let unlike = fields.iter().find(|(_, found, used): &&(&str, u64, u64)| found != used);
+    let (name, found, _) = unlike.expect("a fault has one");
+    format!("{name}: found {found}, expected 0, as `{}` has none", line(step))
+}

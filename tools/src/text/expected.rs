@@ -1,0 +1,42 @@
+//! What a text expects of a step: `=> shown 7`, both ways.
+
+use model::limits::{NO_NUMBER_LEFT, OBJECTS, UNSOUND};
+
+use super::words::{quoted, Words, Wrong};
+use crate::listed::Listed;
+
+const ARROW: &str = "=>";
+const AN_ANSWER: &str = "`done`, `shown V`, `ask first`, `completed N` or `refused N`";
+
+/// What stands behind a step.
+pub fn suffix(expected: &Option<Listed>) -> String {
+    match expected {
+        None => String::new(),
+        Some(Listed { answer: 3, value }) => format!(" {ARROW} completed {value}"),
+        Some(expected) => format!(" {ARROW} {}", expected.words()),
+    }
+}
+
+/// The rest of a line after its step.
+pub fn parse(words: &mut Words) -> Result<Option<Listed>, Wrong> {
+    let Some(first) = words.peek() else {
+        return Ok(None);
+    };
+    if first != ARROW {
+        return Err(Wrong::new(quoted(first), format!("`{ARROW}` or the end of the line")));
+    }
+    words.word(ARROW)?;
+    let answer = words.next(AN_ANSWER)?;
+    let expected = match answer {
+        "done" => Listed::DONE,
+        "shown" => Listed::shown(words.number("a value", 0, u64::MAX)?),
+        "ask" => words.word("first").map(|()| Listed::ASK_FIRST)?,
+        "completed" => Listed::completed(words.number("a number of writes", 1, OBJECTS as u64)?),
+        "refused" => {
+            Listed::refused(words.number("a refusal's number", UNSOUND.into(), NO_NUMBER_LEFT.into())?)
+        }
+        _ => return Err(Wrong::new(quoted(answer), AN_ANSWER)),
+    };
+    words.end()?;
+    Ok(Some(expected))
+}

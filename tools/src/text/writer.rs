@@ -1,0 +1,110 @@
+//! Writes lines out as exact steps, by the state that the steps before them
+//! have led to.
+
+use model::limits::{FILE_BYTES, STEPS};
+use model::message::Kind;
+use model::runfile::distance;
+use model::setup::Setup;
+use model::step_record::Step;
+
+use super::actions::{Action, Named};
+use super::script::{Line, Written};
+use super::words::Wrong;
+use crate::explain;
+use crate::listed::Listed;
+use crate::names::{kind, routed};
+use crate::trace::{Moment, Walk};
+
+pub struct Writer<'a> {
+    walk: Walk<'a>,
+    note_len: usize,
+    pub steps: Vec<Written>,
+}
+
+impl<'a> Writer<'a> {
+    pub fn new(setup: &'a Setup, note_len: usize) -> Writer<'a> {
+        Writer { walk: Walk::fresh(setup), note_len, steps: Vec::new() }
+    }
+
+    pub fn write(&mut self, line: &Line) -> Result<(), Wrong> {
+        match line.action {
+            Action::Step(step) => self.take(line, step, |_| ()),
+            Action::Named(named) => {
+                let place = self.place(&named)?;
+                self.take(line, Step { kind: named.step, place, ..Step::default() }, |_| ())
+            }
+            Action::Join { client, object } => self.join(line, Step::ask(client, object)),
+        }
+    }
+
+    fn take<T>(&mut self, line: &Line, step: Step, seen: impl FnOnce(&Moment) -> T) -> Result<T, Wrong> {
+        self.has_room()?;
+        let (answer, seen) = self.walk.take(step, |moment| (Listed::of(&moment.answer), seen(moment)));
+        self.steps.push(Written { step, line: line.number, expected: line.expected, answer });
+        Ok(seen)
+    }
+
+    /// A run file has a most of steps, and a most of bytes with its note.
+    fn has_room(&self) -> Result<(), Wrong> {
+        let count = self.steps.len() + 1;
+        if count > STEPS {
+            return Err(Wrong::new(format!("step {count}"), format!("at most {STEPS} steps")));
+        }
+        if self.note_len + distance(count) > FILE_BYTES {
+            let room = FILE_BYTES - distance(count);
+            return Err(Wrong::new(
+                format!("step {count} after a note of {} bytes", self.note_len),
+                format!("a note of at most {room} bytes with so many steps"),
+            ));
+        }
+        Ok(())
+    }
+
+    fn place(&self, named: &Named) -> Result<u8, Wrong> {
+        let under_way = self.walk.state.tables.queue.messages();
+        let found = under_way
+            .iter()
+            .position(|message| kind(&message.kind) == named.message && message.client == named.client);
+        if let Some(place) = found {
+            return Ok(place as u8);
+        }
+        let messages: Vec<String> = under_way
+            .iter()
+            .zip(0..)
+            .map(|(message, place)| format!("{place} {}", routed(message)))
+            .collect();
+        let expected = match messages.len() {
+            0 => "one, but no message is under way".into(),
+            _ => format!("one that is: {}", messages.join(", ")),
+        };
+        Err(Wrong::new(format!("no {} under way", named.what()), expected))
+    }
+
+    /// Asks, and delivers each answer from the place where it was put.
+    fn join(&mut self, line: &Line, ask: Step) -> Result<(), Wrong> {
+        let mut next = Some(ask);
+        while let Some(step) = next {
+            next = self.take(line, step, |moment| following(moment, ask))??;
+        }
+        Ok(())
+    }
+}
+
+/// The step that follows this one of a join. A client that drops its leases
+/// asks once more; a GRANT is the end.
+fn following(moment: &Moment, ask: Step) -> Result<Option<Step>, Wrong> {
+    let sent = moment.sent().first().map(|message| message.kind);
+    match (moment.taken().map(|message| message.kind), sent) {
+        (None, Some(Kind::Renew { .. }))
+        | (Some(Kind::Renew { .. }), Some(Kind::Grant(_) | Kind::Offer { .. }))
+        | (Some(Kind::Offer { .. }), Some(Kind::Dropped { .. })) => {
+            Ok(Some(Step::deliver((moment.after.tables.queue.len - 1) as u8)))
+        }
+        (Some(Kind::Dropped { .. }), None) => Ok(Some(ask)),
+        (Some(Kind::Grant(_)), None) => Ok(None),
+        _ => {
+            let stopped = format!("the join stopped at step {}", explain::line(moment));
+            Err(Wrong::new(stopped, "a step that leads to a GRANT"))
+        }
+    }
+}

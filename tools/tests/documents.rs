@@ -1,0 +1,73 @@
+//! The runs that help and READMEs show, held to what they say of them.
+
+mod common;
+
+use std::fs;
+use std::path::Path;
+
+use common::run_program;
+use tools::text::{actions, script};
+
+const RUNTEXT: &str = env!("CARGO_BIN_EXE_runtext");
+
+fn document(name: &str) -> String {
+    fs::read_to_string(Path::new(env!("CARGO_MANIFEST_DIR")).join(name)).unwrap()
+}
+
+/// The lines of help from the note on, up to the prose.
+fn example_of_help() -> String {
+    let help = String::from_utf8(run_program(RUNTEXT, &["--help"], b"").output).unwrap();
+    let from_note = help.lines().skip_while(|line| !line.starts_with("  note"));
+    let lines = from_note.take_while(|line| line.is_empty() || line.starts_with("  "));
+    lines.map(|line| format!("{line}\n")).collect()
+}
+
+/// It shows every kind of step but the unknown one, which would be refused.
+#[test]
+fn the_example_of_help_runs() {
+    let example = example_of_help();
+    let checked = run_program(RUNTEXT, &["check"], example.as_bytes());
+    assert_eq!(checked.output, b"standard input: all 4 expectations hold\n", "{}", checked.errors);
+    assert_eq!((checked.status, checked.errors.as_str()), (0, "20 steps, none refused\n"));
+    for first in actions::FIRST_WORDS.iter().filter(|first| **first != "kind") {
+        assert!(example.lines().any(|line| line.trim_start().starts_with(first)), "{first}");
+    }
+}
+
+/// Every line that help mentions in its prose too.
+#[test]
+fn the_unknown_kind_of_help_is_a_line() {
+    let help = String::from_utf8(run_program(RUNTEXT, &["--help"], b"").output).unwrap();
+    let line = "kind 12 client 0 object 0 place 0 clock 0 value 0";
+    assert!(help.contains(line));
+    assert!(script(format!("{}{line}\n", example_of_help()).as_bytes()).is_ok());
+}
+
+#[test]
+fn the_readmes_first_run_is_as_it_says() {
+    let readme = document("../README.md");
+    let text = readme.split("<<'END'\n").nth(1).unwrap().split("END\n").next().unwrap();
+    let checked = run_program(RUNTEXT, &["check"], text.as_bytes());
+    let verdict = String::from_utf8(checked.output).unwrap();
+    assert_eq!((checked.status, checked.errors.as_str()), (0, "22 steps, none refused\n"));
+    assert!(readme.contains(&verdict.replace("standard input", "# first.runtext")), "{verdict}");
+    let changed = run_program(RUNTEXT, &["check"], text.replace("shown 0", "shown 7").as_bytes());
+    assert_eq!(changed.status, 1);
+    let verdict = String::from_utf8(changed.output).unwrap().replace("standard input", "second.runtext");
+    assert!(document("README.md").contains(&verdict), "{verdict}");
+}
+
+/// The blocks of tools/README.md that begin as a text does are texts.
+#[test]
+fn the_tools_readme_shows_right_texts() {
+    let readme = document("README.md");
+    let blocks = readme.split("```\n").skip(1).step_by(2);
+    let texts: Vec<&str> = blocks.filter(|block| block.starts_with("note ")).collect();
+    assert!(!texts.is_empty());
+    for text in texts {
+        let checked = run_program(RUNTEXT, &["check"], text.as_bytes());
+        assert_eq!(checked.status, 0, "{}", checked.errors);
+        assert!(checked.errors.ends_with(" steps, none refused\n"), "{}", checked.errors);
+        assert!(String::from_utf8(checked.output).unwrap().contains("hold"));
+    }
+}

@@ -1,0 +1,149 @@
+//! Messages by name and joins, written out as exact steps.
+
+use model::gen::runs::{run, Run};
+use model::run::State;
+use model::step::step;
+use model::step_record::{Step, DELIVER, DOUBLE, LOSE};
+use tools::names::{kind, way};
+use tools::text::{parse, print};
+
+const SETUP: &str = "\
+clients 2 volumes 1 objects 2
+volume lease 10 object lease 100 timeout 3
+volume 0 objects 0 1
+";
+
+/// The steps of these lines, in canonical form.
+fn steps(lines: &str) -> Vec<String> {
+    let run = parse(format!("{SETUP}{lines}").as_bytes());
+    let run = run.unwrap_or_else(|troubles| panic!("{}", troubles[0]));
+    print(&run).lines().skip(4).map(String::from).collect()
+}
+
+fn trouble(lines: &str) -> String {
+    let troubles = parse(format!("{SETUP}{lines}").as_bytes()).unwrap_err();
+    assert_eq!(troubles.len(), 1);
+    troubles[0].to_string()
+}
+
+#[test]
+fn a_join_is_what_it_takes() {
+    let first = ["ask client 0 object 0", "deliver 0", "deliver 0", "deliver 0"];
+    let granted = ["ask client 0 object 0", "deliver 0", "deliver 0"];
+    assert_eq!(steps("join client 0 object 0\n"), [&first[..], &granted].concat());
+    // The volume is known from then on; a message under way takes place 0.
+    let known = steps("join client 0 object 0\nask client 1 object 1\njoin client 0 object 1\n");
+    assert_eq!(known[8..], ["ask client 0 object 1", "deliver 1", "deliver 1"]);
+    // After a restart of the server the client is made an offer again.
+    assert_eq!(steps("join client 0 object 0\nrestart server\njoin client 0 object 0\n").len(), 15);
+}
+
+#[test]
+fn a_join_that_cannot_work_says_why() {
+    let stopped = "line 6: found the join stopped at step ";
+    let end = ", expected a step that leads to a GRANT";
+    assert_eq!(
+        trouble("join client 0 object 0\nwrite object 0 value 7\njoin client 1 object 0\n"),
+        format!(
+            "{stopped}14 deliver 1: done: RENEW 2 from client 1 (object 0, epoch 1, version 0); nothing: a write of \
+             object 0 stands{end}"
+        )
+    );
+    assert!(trouble("join client 0 object 0\nwrite object 0 value 7\njoin client 0 object 1\n")
+        .contains("the write of object 0 still waits for client 0; sends INVALIDATE object 0 version 2"));
+    assert!(trouble("\n\njoin client 2 object 0\n")
+        .starts_with(&format!("{stopped}1 ask client 2 object 0: refused 3: no such item: client 2 of 2")));
+    let full = "ask client 1 object 1\n".repeat(64) + "join client 0 object 0\n";
+    assert!(trouble(&full).contains("RENEW 1 from client 0 is lost, the queue has 64"));
+}
+
+#[test]
+fn the_first_message_of_a_name_is_taken() {
+    let asks = "ask client 1 object 0\nask client 0 object 0\nask client 0 object 1\n";
+    for (word, line) in [("deliver", "deliver 1"), ("lose", "lose 1"), ("double", "double 1")] {
+        assert_eq!(steps(&format!("{asks}{word} RENEW from client 0\n"))[3], line);
+    }
+}
+
+#[test]
+fn without_such_a_message_those_under_way_are_told() {
+    assert_eq!(
+        trouble("deliver GRANT to client 0\n"),
+        "line 4: found no GRANT to client 0 under way, expected one, but no message is under way"
+    );
+    assert_eq!(
+        trouble("ask client 0 object 0\nask client 1 object 0\ndeliver RENEW from client 0\nlose RENEW from client 0\n"),
+        "line 7: found no RENEW from client 0 under way, expected one that is: 0 RENEW 1 from client 1, \
+         1 OFFER 1 to client 0"
+    );
+}
+
+/// The state after a run.
+fn end(run: &Run) -> State {
+    let mut state = State::fresh();
+    for record in &run.steps {
+        let (tables, copies, requests) = state.parts(&run.setup);
+        step(&run.setup, tables, copies, requests, record);
+    }
+    state
+}
+
+/// Runs cut off in their midst, where more stands than at their ends.
+fn generated() -> impl Iterator<Item = Run> {
+    let cut = |number| {
+        let Run { setup, mut steps, .. } = run(21, number);
+        steps.truncate(steps.len() * 2 / 3);
+        Run { note: Vec::new(), setup, steps }
+    };
+    (10..160).map(cut).filter(|run| run.steps.len() < 500)
+}
+
+/// In any state: a join ends with the copy shown, or says why not.
+#[test]
+fn joins_in_generated_states() {
+    let (mut joined, mut stopped) = (0, 0);
+    for run in generated() {
+        for (client, object) in [(0, 0), (run.setup.clients - 1, run.setup.objects - 1)] {
+            let lines =
+                format!("join client {client} object {object}\nread client {client} object {object}\n");
+            match parse((print(&run) + &lines).as_bytes()) {
+                Ok(whole) => {
+                    let last = tools::explain::line_at(&whole, whole.steps.len()).unwrap();
+                    assert!(last.contains(": shown "), "{last}");
+                    joined += 1;
+                }
+                Err(troubles) => {
+                    assert!(troubles[0].to_string().contains("found the join stopped at step "));
+                    stopped += 1;
+                }
+            }
+        }
+    }
+    assert!(joined > 100 && stopped > 10, "{joined} joined, {stopped} stopped");
+}
+
+/// In any state: each message under way, by its name, is found.
+#[test]
+fn names_in_generated_states() {
+    let mut found = 0;
+    for run in generated() {
+        let state = end(&run);
+        let messages = state.tables.queue.messages();
+        for (place, message) in messages.iter().enumerate() {
+            let name = kind(&message.kind);
+            let same =
+                |other: &model::message::Message| kind(&other.kind) == name && other.client == message.client;
+            if messages[..place].iter().any(same) {
+                continue;
+            }
+            for (word, kind) in [("deliver", DELIVER), ("lose", LOSE), ("double", DOUBLE)] {
+                let line = format!("{word} {name} {} client {}\n", way(name), message.client);
+                let whole = parse((print(&run) + &line).as_bytes()).unwrap();
+                let step = Step { kind, place: place as u8, ..Step::default() };
+                assert_eq!(whole.steps.last(), Some(&step));
+                found += 1;
+            }
+        }
+    }
+    assert!(found > 100, "{found}");
+}
