@@ -1,7 +1,6 @@
 -- What each way through a function's tests found, put together.
 use Prim.Native.Nat.{ℕ, zero, suc, _+_, _-_, _≤_, _<_}
 use native.Mathlib.Omega.{arith}
-use mathlib.Core.Bool.{Bool, true, false, _&&_}
 use mathlib.Core.List.{List}
 use mathlib.Core.Logic.{⊎-elim}
 use mathlib.Core.Path.{_≡_, sym, ap}
@@ -17,15 +16,6 @@ use Rattle.protocol.specs.declared.step.Sweep.{Sweep}
 use Rattle.protocol.specs.Tables.{noCopy}
 use Rattle.protocol.specs.Client.{swept, sweepAt, sweptAll, sweeps}
 use Rattle.records.specs.Places.{stopOf}
-
--- an answer so far, and one more test
-pub and-again : (ok p q : Bool) {r : Bool} → (ok && (p && q)) ≡ r → ((ok && p) && q) ≡ r
-and-again true p q e = e
-and-again false p q e = e
-
-pub and-true : (ok : Bool) {r : Bool} → (ok && true) ≡ r → ok ≡ r
-and-true true e = e
-and-true false e = e
 
 -- where a pass stops
 module _ (first n len : ℕ) where

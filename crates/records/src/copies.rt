@@ -1,13 +1,11 @@
 ghost use mathlib.Core.Path.{_≡_};
-ghost use Prim.Native.Nat.{_*_};
-ghost use mathlib.Core.Bool.{_&&_};
-ghost use lib.Dec.{eqb};
 ghost use lib.ListN.{getD, set};
 ghost use Rattle.protocol.specs.Tables.{noCopy};
 ghost use Rattle.protocol.specs.Client.{changed};
-ghost use Rattle.protocol.specs.Sound.{timeFits, copiesSound};
+ghost use Rattle.protocol.specs.Sound.{copiesSound};
 use cache::copy::none;
-use gate::records::copy_sound;
+use items::copies::as_many;
+use items::copies::still_sound;
 use protocol::records::Copy;
 use protocol::setup::Setup;
 use protocol::step::CopyChange;
@@ -56,22 +54,6 @@ pub fn change(copies: &mut [Copy], i: usize, u: CopyChange)
             erase(&mut *copies, i);
         }
     }
-}
-
-// "dash by dash in object order; another length is unsound"
-fn as_many(s: Setup, len: usize) -> bool
-    ensures { λ r. ⌜ r ≡ eqb len (s .clients * s .objects) ⌝ }
-{
-    let clients = s.clients as usize;
-    let objects = s.objects as usize;
-    len == clients * objects
-}
-
-fn still_sound(ok: bool, c: Copy) -> bool
-    ensures { λ r. ⌜ r ≡ (ok && timeFits (c .expiry)) ⌝ }
-{
-    let fits = copy_sound(c);
-    ok & fits
 }
 
 // Question 1, as far as it asks about copies: as many as there are clients and objects, and every expiry in range.

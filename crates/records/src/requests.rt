@@ -1,14 +1,13 @@
 ghost use mathlib.Core.Path.{_≡_};
 ghost use Prim.Native.Nat.{_<_};
-ghost use mathlib.Core.Bool.{_&&_};
-ghost use lib.Dec.{eqb};
 ghost use lib.ListN.{getD};
 ghost use Rattle.protocol.specs.Tables.{noRequest};
-ghost use Rattle.protocol.specs.Sound.{requestSound, requestsSound};
+ghost use Rattle.protocol.specs.Sound.{requestsSound};
 ghost use Rattle.protocol.specs.Client.{numbered, ended};
 use cache::request::end;
 use cache::request::number;
-use gate::records::request_sound;
+use items::requests::as_many;
+use items::requests::still_sound;
 use protocol::records::Request;
 use protocol::setup::Setup;
 
@@ -42,20 +41,6 @@ pub fn end_request(r: &mut Request)
     ensures { λ _. ⌜ now (r .exit) ≡ ended (now (r .entry)) ⌝ }
 {
     *r = end(*r);
-}
-
-fn as_many(s: Setup, len: usize) -> bool
-    ensures { λ r. ⌜ r ≡ eqb len (s .clients) ⌝ }
-{
-    let clients = s.clients as usize;
-    len == clients
-}
-
-fn still_sound(ok: bool, r: Request, s: Setup) -> bool
-    ensures { λ b. ⌜ b ≡ (ok && requestSound s r) ⌝ }
-{
-    let fits = request_sound(s, r);
-    ok & fits
 }
 
 // Question 1, as far as it asks about requests: one a client, next numbers at least 1, and the object of a standing request exists.
