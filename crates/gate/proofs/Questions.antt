@@ -19,7 +19,7 @@ use Rattle.protocol.specs.Gate.{isClock, isWrite, isRestartServer, isAsk, usesC
 use Rattle.words.specs.Fields.{wordLengths, at, VOLUME-EPOCH, VERSION, STANDING}
 use Rattle.words.specs.Reads.{clock-word, length-word}
 use Rattle.words.specs.View.{tablesOf, numbersOf}
-use Rattle.gate.proofs.Scans.{not-not}
+use Rattle.sound.proofs.Scans.{not-not}
 
 or-yes : (b : Bool) → true ≡ (b || true)
 or-yes true = refl

@@ -5,13 +5,11 @@ ghost use Rattle.words.specs.View.{tablesOf};
 use protocol::records::Request;
 use protocol::setup::Setup;
 use protocol::step::Step;
+use sound::tables::tables_sound;
 use words::Values;
 use words::Words;
 
-pub mod messages;
-pub mod records;
 pub mod steps;
-pub mod tables;
 
 // All six questions, for any input; `records` says whether all records are sound.
 pub fn refusal(
@@ -25,7 +23,7 @@ pub fn refusal(
     ensures { λ r. ⌜ r ≡ refusal s (tablesOf (now (words .entry)) (now (values .entry))) records request step ⌝ }
 {
     if setup::in_range(s) {
-        let whole = records & tables::tables_sound(s, words, values);
+        let whole = records & tables_sound(s, words, values);
         let next = steps::refusal_of_step(s, words, values, request, step);
         return steps::or_refuse(whole, 1, next);
     }

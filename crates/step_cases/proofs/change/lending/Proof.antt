@@ -1,4 +1,4 @@
-use Rattle.records.specs.Places.{mul-fits}
+use Rattle.items.specs.Counts.{mul-fits}
 use borrow.Author.Needs.{needs}
 use Rattle.step_cases.proofs.change.lending.Statement.{statement}
 use Rattle.step_cases.proofs.change.lending.Tie as tie

@@ -51,7 +51,7 @@ use denote.Triple.Walked.{needs, Stays, stay-ref, stay-none, walkOf, goes-ref, g
 use denote.Exit.{yes}
 use denote.Signature.{plain}
 use borrow.Table.Elements.{at as place-at}
-use Rattle.records.specs.Lent.{lend-mut, back-mut, lies-in, lies-out, cut-row, join-row}
+use Rattle.lent.specs.Rows.{lend-mut, back-mut, lies-in, lies-out, cut-row, join-row}
 use Rattle.protocol.specs.declared.records.Copy.{Copy}
 use Rattle.protocol.proofs.records.Copy as R-
 use Rattle.protocol.proofs.records.Copy.Laws as R′

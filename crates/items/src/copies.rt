@@ -1,0 +1,31 @@
+ghost use mathlib.Core.Path.{_≡_};
+ghost use Prim.Native.Nat.{_*_};
+ghost use mathlib.Core.Bool.{_&&_};
+ghost use lib.Dec.{eqb};
+ghost use Rattle.protocol.specs.Sound.{timeFits};
+use protocol::records::Copy;
+use protocol::setup::Setup;
+
+// "expiries .. at most 2,148,483,647".
+pub fn copy_sound(copy: Copy) -> bool
+    ensures { λ r. ⌜ r ≡ timeFits (copy .expiry) ⌝ }
+{
+    copy.expiry <= 2148483647
+}
+
+// "dash by dash in object order; another length is unsound"
+pub fn as_many(s: Setup, len: usize) -> bool
+    ensures { λ r. ⌜ r ≡ eqb len (s .clients * s .objects) ⌝ }
+{
+    let clients = s.clients as usize;
+    let objects = s.objects as usize;
+    len == clients * objects
+}
+
+// An answer so far, and one copy more.
+pub fn still_sound(ok: bool, c: Copy) -> bool
+    ensures { λ r. ⌜ r ≡ (ok && timeFits (c .expiry)) ⌝ }
+{
+    let fits = copy_sound(c);
+    ok & fits
+}

@@ -1,0 +1,58 @@
+ghost use mathlib.Core.Path.{_≡_};
+ghost use Rattle.protocol.specs.Sound.{kindSound, messageSound};
+use protocol::message::Kind;
+use protocol::message::Message;
+use protocol::setup::Setup;
+
+// "named items existing", and a GRANT's expiries fit.
+fn kind_sound(s: Setup, kind: Kind) -> bool
+    ensures { λ r. ⌜ r ≡ kindSound s kind ⌝ }
+{
+    match kind {
+        Kind::Renew {
+            object,
+            number: _,
+            epoch: _,
+            version: _,
+        } => (object as u32) < s.objects,
+        Kind::Grant {
+            object,
+            number: _,
+            volume_expiry,
+            epoch: _,
+            version: _,
+            object_expiry,
+            payload: _,
+        } => ((object as u32) < s.objects)
+            & (volume_expiry <= 2148483647)
+            & (object_expiry <= 2148483647),
+        Kind::Invalidate {
+            object,
+            epoch: _,
+            version: _,
+        } => (object as u32) < s.objects,
+        Kind::Ack {
+            object,
+            epoch: _,
+            version: _,
+        } => (object as u32) < s.objects,
+        Kind::Offer {
+            volume,
+            number: _,
+            epoch: _,
+        } => (volume as u32) < s.volumes,
+        Kind::Dropped {
+            volume,
+            number: _,
+            epoch: _,
+        } => (volume as u32) < s.volumes,
+    }
+}
+
+pub fn message_sound(s: Setup, message: Message) -> bool
+    ensures { λ r. ⌜ r ≡ messageSound s message ⌝ }
+{
+    let kind = message.kind;
+    let named = (message.client as u32) < s.clients;
+    named & kind_sound(s, kind)
+}

@@ -1,0 +1,29 @@
+ghost use mathlib.Core.Path.{_≡_};
+ghost use mathlib.Core.Bool.{_&&_};
+ghost use lib.Dec.{eqb};
+ghost use Rattle.protocol.specs.Sound.{requestSound};
+use protocol::records::Request;
+use protocol::setup::Setup;
+
+// "next numbers at least 1", and the object of a standing request exists.
+pub fn request_sound(s: Setup, request: Request) -> bool
+    ensures { λ r. ⌜ r ≡ requestSound s request ⌝ }
+{
+    (1 <= request.next) & (!request.standing | ((request.object as u32) < s.objects))
+}
+
+// One request a client; another length is unsound.
+pub fn as_many(s: Setup, len: usize) -> bool
+    ensures { λ r. ⌜ r ≡ eqb len (s .clients) ⌝ }
+{
+    let clients = s.clients as usize;
+    len == clients
+}
+
+// An answer so far, and one request more.
+pub fn still_sound(ok: bool, r: Request, s: Setup) -> bool
+    ensures { λ b. ⌜ b ≡ (ok && requestSound s r) ⌝ }
+{
+    let fits = request_sound(s, r);
+    ok & fits
+}
