@@ -14,7 +14,6 @@ use words::Words;
 
 pub mod deliver;
 pub mod perform;
-pub mod target;
 
 // One step, for any input; `records` says whether all lent records are sound. A refusal leaves every word and every value, any step the records in them.
 pub fn decide(

@@ -7,7 +7,6 @@ ghost use Rattle.step.specs.Lent.{world};
 ghost use Rattle.step.specs.Numbers.{numberOf, valueOf};
 ghost use Rattle.words.specs.View.{recordsOf};
 use decide::decide;
-use decide::target::target;
 use protocol::records::Copy;
 use protocol::records::Request;
 use protocol::setup::Setup;
@@ -17,6 +16,7 @@ use records::copies;
 use records::requests;
 use records::sweep::sweep;
 use records::turn::update;
+use targets::target;
 use words::Values;
 use words::Words;
 

@@ -1,7 +1,7 @@
-use Rattle.decide.proofs.Targets.{target-delivered, target-named}
+use Rattle.targets.proofs.Targets.{target-delivered, target-named}
 use borrow.Author.Needs.{needs}
-use Rattle.decide.proofs.target.target.Statement.{statement}
-use Rattle.decide.proofs.target.target.Tie as tie
+use Rattle.targets.proofs.target.Statement.{statement}
+use Rattle.targets.proofs.target.Tie as tie
 
 cast-message-at : tie.Need-cast-message-at
 cast-message-at c = search needs

@@ -1,7 +1,7 @@
-use Rattle.decide.proofs.Targets.{object-granted, no-object}
+use Rattle.targets.proofs.Targets.{object-granted, no-object}
 use borrow.Author.Needs.{needs}
-use Rattle.decide.proofs.target.object_of.Statement.{statement}
-use Rattle.decide.proofs.target.object_of.Tie as tie
+use Rattle.targets.proofs.object_of.Statement.{statement}
+use Rattle.targets.proofs.object_of.Tie as tie
 
 enum-known-k : tie.Need-enum-known-k
 enum-known-k c = search needs

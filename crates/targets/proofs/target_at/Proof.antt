@@ -1,7 +1,7 @@
-use Rattle.decide.proofs.Targets.{byte-times}
+use Rattle.targets.proofs.Targets.{byte-times}
 use borrow.Author.Needs.{needs}
-use Rattle.decide.proofs.target.target_at.Statement.{statement}
-use Rattle.decide.proofs.target.target_at.Tie as tie
+use Rattle.targets.proofs.target_at.Statement.{statement}
+use Rattle.targets.proofs.target_at.Tie as tie
 
 cast-first : tie.Need-cast-first
 cast-first c = search needs
