@@ -24,7 +24,7 @@ use Rattle.protocol.specs.Gate.{refusalOfStep}
 use Rattle.protocol.specs.Decide.{kept, answered, readDecided, askDecided, taken, deliverDecided, restartDecided, performed}
 use Rattle.protocol.specs.Soundness.StepCases.{passed, by-kind, clock-performed, read-performed, ask-performed, write-performed, deliver-performed, lose-performed, double-performed, server-performed, client-performed}
 use Rattle.words.specs.View.{tablesOf, numbersOf}
-use Rattle.decide.specs.declared.perform.Verdict.{Verdict}
+use Rattle.delivery.specs.declared.Verdict.{Verdict}
 
 -- the answer of a clock step and of a write
 module _ (n : ℕ) (v : Verdict) where

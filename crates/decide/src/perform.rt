@@ -7,8 +7,8 @@ ghost use Rattle.protocol.specs.Answers.{completedAnswer};
 ghost use Rattle.protocol.specs.Gate.{refusalOfStep};
 ghost use Rattle.protocol.specs.Decide.{kept, answered, performed};
 ghost use Rattle.words.specs.View.{tablesOf, recordsOf};
-use crate::deliver;
 use client::steps;
+use delivery::Verdict;
 use protocol::records::Copy;
 use protocol::records::Request;
 use protocol::setup::Setup;
@@ -24,12 +24,6 @@ use words::Values;
 use words::Words;
 use writes::accept;
 use writes::settle;
-
-// What becomes of the client's records, and the answer.
-pub struct Verdict {
-    pub change: Change,
-    pub answer: Answer,
-}
 
 // The client's records stay.
 fn keeping(answer: Answer) -> Verdict
@@ -105,7 +99,7 @@ pub fn perform(
             let n = accept::accept_write(s, words, values, step.object as usize, step.value);
             counting(n)
         }
-        5 => deliver::deliver(s, words, values, c, r, step.place as usize),
+        5 => delivery::deliver(s, words, values, c, r, step.place as usize),
         6 => {
             list::remove(words, values, step.place as usize);
             keeping(Answer::Done)

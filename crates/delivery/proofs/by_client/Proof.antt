@@ -1,10 +1,10 @@
 use native.Mathlib.Omega.{arith}
 use mathlib.Core.Path.{refl}
 use Rattle.protocol.specs.Ranges.{ranges}
-use Rattle.decide.proofs.Delivering.{grant-in, offer-in, hears-grant, hears-invalidate, hears-offer, hears-none}
+use Rattle.delivery.proofs.Delivering.{grant-in, offer-in, hears-grant, hears-invalidate, hears-offer, hears-none}
 use borrow.Author.Needs.{needs}
-use Rattle.decide.proofs.deliver.by_client.Statement.{statement}
-use Rattle.decide.proofs.deliver.by_client.Tie as tie
+use Rattle.delivery.proofs.by_client.Statement.{statement}
+use Rattle.delivery.proofs.by_client.Tie as tie
 
 enum-known-k : tie.Need-enum-known-k
 enum-known-k c = search needs

@@ -25,7 +25,7 @@ use Rattle.protocol.specs.Sound.{kindSound, timeFits}
 use Rattle.protocol.specs.Writes.{Counted, settled}
 use Rattle.protocol.specs.Server.{renewed, ackStaged, dropStaged}
 use Rattle.protocol.specs.Decide.{Received, kept, uncounted, byClient, grantReceived, invalidateReceived, offerReceived, received, taken, answered, delivered, deliverDecided}
-use Rattle.decide.specs.Sides.{served, heard}
+use Rattle.delivery.specs.Sides.{served, heard}
 
 -- the item that a sound message names exists
 module _ (s : Setup) (k : Kind) (h : kindSound s k ≡ true) where

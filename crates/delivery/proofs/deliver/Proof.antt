@@ -1,9 +1,9 @@
 use mathlib.Core.Path.{_∙_}
 use Rattle.protocol.specs.SoundLaws.{sound-clock, growing, sound-length, sound-message}
-use Rattle.decide.proofs.Delivering.{delivers}
+use Rattle.delivery.proofs.Delivering.{delivers}
 use borrow.Author.Needs.{needs}
-use Rattle.decide.proofs.deliver.deliver.Statement.{statement}
-use Rattle.decide.proofs.deliver.deliver.Tie as tie
+use Rattle.delivery.proofs.deliver.Statement.{statement}
+use Rattle.delivery.proofs.deliver.Tie as tie
 
 message-at-requires : tie.Need-message-at-requires
 message-at-requires c κs = search needs

@@ -7,8 +7,7 @@ ghost use Rattle.protocol.specs.Sound.{kindSound, tablesSound};
 ghost use Rattle.protocol.specs.SoundLaws.{Growing};
 ghost use Rattle.protocol.specs.Decide.{byClient, answered, deliverDecided};
 ghost use Rattle.words.specs.View.{tablesOf, recordsOf};
-ghost use Rattle.decide.specs.Sides.{served, heard};
-use crate::perform::Verdict;
+ghost use Rattle.delivery.specs.Sides.{served, heard};
 use cache::copy;
 use client::receive::Terms;
 use client::receive::grant;
@@ -26,6 +25,12 @@ use server::ack::receive_ack;
 use server::dropped::receive_dropped;
 use words::Values;
 use words::Words;
+
+// What becomes of the client's records, and the answer.
+pub struct Verdict {
+    pub change: Change,
+    pub answer: Answer,
+}
 
 // RENEW, ACK and DROPPED. How many writes completed.
 fn by_server(s: Setup, words: &mut Words, values: &mut Values, client: usize, k: Kind) -> u32

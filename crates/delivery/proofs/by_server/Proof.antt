@@ -1,8 +1,8 @@
 use mathlib.Core.Path.{refl}
-use Rattle.decide.proofs.Delivering.{renew-in, ack-in, dropped-in, serves-renew, serves-ack, serves-dropped, serves-none}
+use Rattle.delivery.proofs.Delivering.{renew-in, ack-in, dropped-in, serves-renew, serves-ack, serves-dropped, serves-none}
 use borrow.Author.Needs.{needs}
-use Rattle.decide.proofs.deliver.by_server.Statement.{statement}
-use Rattle.decide.proofs.deliver.by_server.Tie as tie
+use Rattle.delivery.proofs.by_server.Statement.{statement}
+use Rattle.delivery.proofs.by_server.Tie as tie
 
 enum-known-k : tie.Need-enum-known-k
 enum-known-k c = search needs
