@@ -12,8 +12,6 @@ use protocol::step::Step;
 use words::Values;
 use words::Words;
 
-pub mod perform;
-
 // One step, for any input; `records` says whether all lent records are sound. A refusal leaves every word and every value, any step the records in them.
 pub fn decide(
     s: Setup,
