@@ -5,11 +5,11 @@ ghost use Rattle.protocol.specs.Setup.{inRange};
 ghost use Rattle.protocol.specs.World.{answerOf, stepped};
 ghost use Rattle.protocol.specs.Soundness.Question.{SoundWorld};
 ghost use Rattle.words.specs.View.{worldOf};
-use decide::perform::perform;
-use decide::target::target;
+use perform::perform;
 use protocol::setup::Setup;
 use protocol::step::Answer;
 use protocol::step::Step;
+use targets::target;
 use words::Values;
 use words::Words;
 

@@ -3,7 +3,7 @@ ghost use mathlib.Core.Path.{_≡_};
 ghost use Rattle.protocol.specs.Answers.{answerNumber};
 ghost use Rattle.protocol.specs.Decide.{answered, decided};
 ghost use Rattle.words.specs.View.{tablesOf, recordsOf};
-use perform::Verdict;
+use delivery::Verdict;
 use protocol::records::Copy;
 use protocol::records::Request;
 use protocol::setup::Setup;
@@ -11,10 +11,6 @@ use protocol::step::Answer;
 use protocol::step::Step;
 use words::Values;
 use words::Words;
-
-pub mod deliver;
-pub mod perform;
-pub mod target;
 
 // One step, for any input; `records` says whether all lent records are sound. A refusal leaves every word and every value, any step the records in them.
 pub fn decide(

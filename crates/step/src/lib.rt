@@ -7,7 +7,6 @@ ghost use Rattle.step.specs.Lent.{world};
 ghost use Rattle.step.specs.Numbers.{numberOf, valueOf};
 ghost use Rattle.words.specs.View.{recordsOf};
 use decide::decide;
-use decide::target::target;
 use lent_copies::copies;
 use lent_copies::sweep::sweep;
 use lent_requests::requests;
@@ -17,6 +16,7 @@ use protocol::records::Request;
 use protocol::setup::Setup;
 use protocol::step::Answer;
 use protocol::step::Step;
+use targets::target;
 use words::Values;
 use words::Words;
 

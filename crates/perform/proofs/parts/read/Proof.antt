@@ -1,0 +1,21 @@
+use Rattle.perform.proofs.Performing.{answering}
+use borrow.Author.Needs.{needs}
+use Rattle.perform.proofs.parts.read.Statement.{statement}
+use Rattle.perform.proofs.parts.read.Tie as tie
+
+read-requires : tie.Need-read-requires
+read-requires c κs = search needs
+
+keeping-requires : tie.Need-keeping-requires
+keeping-requires c κs = search needs
+
+returns : tie.Need-returns
+returns c = answering _ _ _ (c .keeping .ensures) (c .before .read .ensures)
+
+pub read-spec : {M : Type 1} → statement M
+read-spec =
+    tie.close
+    (tie.spec
+    read-requires
+    keeping-requires
+    returns)

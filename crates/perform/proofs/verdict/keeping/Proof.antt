@@ -1,0 +1,12 @@
+use borrow.Author.Needs.{needs}
+use Rattle.perform.proofs.verdict.keeping.Statement.{statement}
+use Rattle.perform.proofs.verdict.keeping.Tie as tie
+
+kept-requires : tie.Need-kept-requires
+kept-requires c κs = search needs
+
+returns : tie.Need-returns
+returns c = rw (c .kept .ensures)
+
+pub keeping-spec : {M : Type 1} → statement M
+keeping-spec = tie.close (tie.spec kept-requires returns)
