@@ -9,7 +9,7 @@ use lib.Dec.{eqb}
 use lib.ListN.{length, take}
 use lib.Seq.{sets, length-sets, length-take-le}
 use Rattle.laws.specs.Choice.{true-or-false, not-both}
-use Rattle.runfile.specs.File.{wellFormed}
+use Rattle.shape.specs.Shape.{wellFormed}
 use Rattle.listing.specs.Listing.{refusedListing}
 use Rattle.listing.specs.Written.{Written}
 use Rattle.run.specs.declared.Listed.{Listed}

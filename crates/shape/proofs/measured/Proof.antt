@@ -1,7 +1,7 @@
-use Rattle.runfile.proofs.Laws.{too-short, too-long, by-trailer}
+use Rattle.shape.proofs.Laws.{too-short, too-long, by-trailer}
 use borrow.Author.Needs.{needs}
-use Rattle.runfile.proofs.shape.measured.Statement.{statement}
-use Rattle.runfile.proofs.shape.measured.Tie as tie
+use Rattle.shape.proofs.measured.Statement.{statement}
+use Rattle.shape.proofs.measured.Tie as tie
 
 returns : tie.Need-returns
 returns c = search (too-short, needs)

@@ -1,7 +1,7 @@
-use Rattle.runfile.specs.File.{setupIn}
+use Rattle.shape.specs.Shape.{setupIn}
 use borrow.Author.Needs.{needs}
-use Rattle.runfile.proofs.record.setup_in.Statement.{statement}
-use Rattle.runfile.proofs.record.setup_in.Tie as tie
+use Rattle.shape.proofs.record.setup_in.Statement.{statement}
+use Rattle.shape.proofs.record.setup_in.Tie as tie
 
 shared-slice-read-wide : tie.Need-shared-slice-read-wide
 shared-slice-read-wide c = search needs

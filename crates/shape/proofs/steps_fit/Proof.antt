@@ -2,10 +2,10 @@ use borrow.Author.Needs.{needs}
 use Prim.Native.Nat.{_-_}
 use native.Mathlib.Nat.{sub-zero}
 use Rattle.laws.specs.Loop.{Scanning, all-end}
-use Rattle.runfile.specs.File.{stepFitsAt}
-use Rattle.runfile.proofs.Laws.{steps-again}
-use Rattle.runfile.proofs.shape.steps_fit.Statement.{statement}
-use Rattle.runfile.proofs.shape.steps_fit.Tie as tie
+use Rattle.shape.specs.Shape.{stepFitsAt}
+use Rattle.shape.proofs.Laws.{steps-again}
+use Rattle.shape.proofs.steps_fit.Statement.{statement}
+use Rattle.shape.proofs.steps_fit.Tie as tie
 
 abbrev Inv-loop : tie.InvT-loop
 Inv-loop file first count n ok₀ k₀ ok k = Scanning (stepFitsAt file first) count ok k

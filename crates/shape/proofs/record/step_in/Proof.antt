@@ -1,7 +1,7 @@
-use Rattle.runfile.specs.File.{stepIn}
+use Rattle.shape.specs.Shape.{stepIn}
 use borrow.Author.Needs.{needs}
-use Rattle.runfile.proofs.record.step_in.Statement.{statement}
-use Rattle.runfile.proofs.record.step_in.Tie as tie
+use Rattle.shape.proofs.record.step_in.Statement.{statement}
+use Rattle.shape.proofs.record.step_in.Tie as tie
 
 shared-slice-read-t4 : tie.Need-shared-slice-read-t4
 shared-slice-read-t4 c = search needs

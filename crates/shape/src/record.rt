@@ -3,7 +3,7 @@ ghost use Prim.Native.Nat.{_+_, _≤_};
 ghost use mathlib.Core.Path.{_≡_};
 ghost use lib.ListN.{length};
 ghost use Rattle.layout.specs.Number.{bytesAt};
-ghost use Rattle.runfile.specs.File.{setupIn, stepIn, noStep};
+ghost use Rattle.shape.specs.Shape.{setupIn, stepIn, noStep};
 use protocol::setup::Setup;
 use protocol::step::Step;
 

@@ -1,10 +1,11 @@
-// Which files are shaped as 01 says.
+// What stands in the bytes of a run file, and which files are shaped as 01 says.
+pub mod record;
+
 ghost use Prim.Native.Nat.{_+_, _*_, _≤_};
 ghost use mathlib.Core.Path.{_≡_};
 ghost use lib.ListN.{length};
-ghost use Rattle.runfile.specs.File.{countOf, setupPlace, stepFits, stepsFit, trailerFits, measured, contentsFit, wellFormed};
-ghost use Rattle.runfile.specs.Steps.{Parts};
-use crate::record;
+ghost use Rattle.shape.specs.Shape.{countOf, setupPlace, stepFits, stepsFit, trailerFits, measured, contentsFit, wellFormed};
+ghost use Rattle.shape.specs.Parts.{Parts};
 use protocol::step::Step;
 
 // A field that the step's kind does not use is 0; an unknown kind is asked nothing.

@@ -1,7 +1,7 @@
 use borrow.Author.Needs.{needs}
-use Rattle.runfile.specs.File.{stepFits}
-use Rattle.runfile.proofs.shape.step_fits.Statement.{statement}
-use Rattle.runfile.proofs.shape.step_fits.Tie as tie
+use Rattle.shape.specs.Shape.{stepFits}
+use Rattle.shape.proofs.step_fits.Statement.{statement}
+use Rattle.shape.proofs.step_fits.Tie as tie
 
 uses-client-requires : tie.Need-uses-client-requires
 uses-client-requires c κs = search needs

@@ -1,7 +1,7 @@
-use Rattle.runfile.proofs.Laws.{contents-by}
+use Rattle.shape.proofs.Laws.{contents-by}
 use borrow.Author.Needs.{needs}
-use Rattle.runfile.proofs.shape.contents_fit.Statement.{statement}
-use Rattle.runfile.proofs.shape.contents_fit.Tie as tie
+use Rattle.shape.proofs.contents_fit.Statement.{statement}
+use Rattle.shape.proofs.contents_fit.Tie as tie
 
 setup-place-requires : tie.Need-setup-place-requires
 setup-place-requires c κs = search needs

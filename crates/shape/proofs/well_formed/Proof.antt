@@ -1,7 +1,7 @@
-use Rattle.runfile.proofs.Laws.{parts-by, by-contents, not-measured}
+use Rattle.shape.proofs.Laws.{parts-by, by-contents, not-measured}
 use borrow.Author.Needs.{needs}
-use Rattle.runfile.proofs.shape.well_formed.Statement.{statement}
-use Rattle.runfile.proofs.shape.well_formed.Tie as tie
+use Rattle.shape.proofs.well_formed.Statement.{statement}
+use Rattle.shape.proofs.well_formed.Tie as tie
 
 measured-requires : tie.Need-measured-requires
 measured-requires c κs = search needs

@@ -1,7 +1,7 @@
 -- Rattle proves this by itself; the file is here so that a must-fail edit is refused at the fact that fails.
 use borrow.Author.Needs.{needs}
-use Rattle.runfile.proofs.shape.trailer_fits.Statement.{statement}
-use Rattle.runfile.proofs.shape.trailer_fits.Tie as tie
+use Rattle.shape.proofs.trailer_fits.Statement.{statement}
+use Rattle.shape.proofs.trailer_fits.Tie as tie
 
 mul-result : tie.Need-mul-result
 mul-result c = search needs
