@@ -1,7 +1,7 @@
 // Reads a run file on standard input and prints its listing (01, "Frame, run file and listing").
 ghost use Prim.Native.Nat.{_≤_};
 ghost use lib.ListN.{length};
-ghost use Rattle.listing.specs.Written.{Written};
+ghost use Rattle.decimal.specs.Written.{Written};
 ghost use Rattle.roadrun.specs.Printed.{printed};
 use libc::STDIN_FILENO;
 use libc::STDOUT_FILENO;

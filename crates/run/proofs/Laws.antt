@@ -16,7 +16,7 @@ use Rattle.runfile.specs.File.{contents, contentsOf}
 use Rattle.runfile.specs.Steps.{stepsOf}
 use Rattle.runfile.specs.Reading.{formed, contents-read, setup-read}
 use Rattle.listing.specs.Listing.{header, length-header}
-use Rattle.listing.specs.Written.{Written, written-then}
+use Rattle.decimal.specs.Written.{Written, written-then}
 use Rattle.run.specs.Ran.{Roomy, linesOf}
 use Rattle.run.specs.declared.Listed.{Listed}
 use Rattle.run.specs.declared.Listed.the-variants as listing-answer

@@ -29,6 +29,10 @@ width n = suc (further 19 n)
 unfoldable pub decimal : ℕ → List ℕ
 decimal n = digits (width n) n
 
+-- a number and the byte after it
+abbrev pub field : ℕ → ℕ → List ℕ
+field n mark = decimal n ++ (mark ∷ [])
+
 -- ---- how long a number is
 pub length-digits : (w n : ℕ) → length (digits w n) ≡ w
 unfolding digits
@@ -38,6 +42,9 @@ length-digits (suc w) n = length-append (digits w (n / 10)) (digit n ∷ []) ∙
 pub length-decimal : (n : ℕ) → length (decimal n) ≡ width n
 unfolding decimal
 length-decimal n = length-digits (width n) n
+
+pub length-field : (n mark : ℕ) → length (field n mark) ≡ width n + 1
+length-field n mark = length-append (decimal n) (mark ∷ []) ∙ omega (arith, length-decimal n)
 
 -- 10 to the k
 unfoldable pub tens : ℕ → ℕ
@@ -49,6 +56,9 @@ unfolding further
 further-most zero n = omega arith
 further-most (suc most) n =
     cond-keeps (λ (k : ℕ). k ≤ suc most) (ltb n 10) (λ _. omega arith) (λ _. omega (arith, further-most most (n / 10)))
+
+pub decimal-short : (x : ℕ) → length (decimal x) ≤ 20
+decimal-short x = omega (arith, length-decimal x, further-most 19 x)
 
 -- a number below 10 to the k + 1 has at most k digits after its first
 pub further-below : (most k n : ℕ) → n < tens (suc k) → further most n ≤ k

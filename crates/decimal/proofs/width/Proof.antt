@@ -1,10 +1,10 @@
 use borrow.Author.Needs.{needs}
 use Prim.Native.Nat.{_+_, _-_, _≤_}
 use mathlib.Core.Path.{_≡_}
-use Rattle.listing.specs.Decimal.{further, width}
-use Rattle.listing.proofs.Laws.{digits-stop, digits-again, digits-end}
-use Rattle.listing.proofs.number.width.Statement.{statement}
-use Rattle.listing.proofs.number.width.Tie as tie
+use Rattle.decimal.specs.Decimal.{further, width}
+use Rattle.decimal.proofs.Laws.{digits-stop, digits-again, digits-end}
+use Rattle.decimal.proofs.width.Statement.{statement}
+use Rattle.decimal.proofs.width.Tie as tie
 
 abbrev Inv-loop : tie.InvT-loop
 Inv-loop x y₀ w₀ y w = (w ≤ 20) × (w + further (20 - w) y ≡ width x)

@@ -1,10 +1,9 @@
-// Numbers in decimal.
+// Numbers in decimal. Each function that writes does so at a place of a lent output, and gives the place after.
 ghost use Prim.Native.Nat.{_+_, _≤_};
 ghost use mathlib.Core.Path.{_≡_};
 ghost use lib.ListN.{length};
-ghost use Rattle.listing.specs.Decimal.{digit, width, decimal};
-ghost use Rattle.listing.specs.Listing.{field};
-ghost use Rattle.listing.specs.Written.{Written};
+ghost use Rattle.decimal.specs.Decimal.{digit, width, decimal, field};
+ghost use Rattle.decimal.specs.Written.{Written};
 
 // How many digits a number has.
 fn width(number: u64) -> usize

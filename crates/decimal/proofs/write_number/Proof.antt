@@ -4,10 +4,10 @@ use native.Mathlib.Omega.{arith}
 use mathlib.Core.Path.{_≡_, refl}
 use lib.ListN.{length, length-set}
 use lib.Seq.{sets}
-use Rattle.listing.specs.Decimal.{digits, further-most}
-use Rattle.listing.proofs.Laws.{digit-again, digits-written}
-use Rattle.listing.proofs.number.write_number.Statement.{statement}
-use Rattle.listing.proofs.number.write_number.Tie as tie
+use Rattle.decimal.specs.Decimal.{digits, further-most}
+use Rattle.decimal.proofs.Laws.{digit-again, digits-written}
+use Rattle.decimal.proofs.write_number.Statement.{statement}
+use Rattle.decimal.proofs.write_number.Tie as tie
 
 abbrev Inv-loop : tie.InvT-loop
 Inv-loop out₀ at x n left₀ y₀ out left y = (left ≤ n) × ((n ≤ 20) × ((length out ≡ length out₀) × (sets out at (digits left y) ≡ sets out₀ at (digits n x))))

@@ -1,7 +1,7 @@
 -- Rattle proves this by itself; the file is here so that a must-fail edit is refused at the fact that fails.
 use borrow.Author.Needs.{needs}
-use Rattle.listing.proofs.number.digit.Statement.{statement}
-use Rattle.listing.proofs.number.digit.Tie as tie
+use Rattle.decimal.proofs.digit.Statement.{statement}
+use Rattle.decimal.proofs.digit.Tie as tie
 
 cast-result : tie.Need-cast-result
 cast-result c = search needs

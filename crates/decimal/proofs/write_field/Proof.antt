@@ -1,8 +1,8 @@
-use Rattle.listing.proofs.Laws.{after-number, field-written}
+use Rattle.decimal.proofs.Laws.{after-number, field-written}
 use native.Mathlib.Omega.{arith}
 use borrow.Author.Needs.{needs}
-use Rattle.listing.proofs.number.write_field.Statement.{statement}
-use Rattle.listing.proofs.number.write_field.Tie as tie
+use Rattle.decimal.proofs.write_field.Statement.{statement}
+use Rattle.decimal.proofs.write_field.Tie as tie
 
 write-number-requires : tie.Need-write-number-requires
 write-number-requires c κs = search needs
