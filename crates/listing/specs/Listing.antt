@@ -9,17 +9,13 @@ use Rattle.laws.specs.Choice.{cond-keeps}
 use Rattle.protocol.specs.declared.step.Answer.{Answer}
 use Rattle.protocol.specs.declared.step.Answer.the-variants.{Done, Shown, AskFirst, Completed, Delivered, Refused}
 use Rattle.protocol.specs.Answers.{doneOrCompleted, answerNumber, answerValue}
-use Rattle.listing.specs.Decimal.{decimal, width, tens, length-decimal, further-most, further-below}
+use Rattle.decimal.specs.Decimal.{width, tens, field, length-field, further-most, further-below}
 
 abbrev pub space : ℕ
 space = 32
 
 abbrev pub newline : ℕ
 newline = 10
-
--- a number and the byte after it
-abbrev pub field : ℕ → ℕ → List ℕ
-field n mark = decimal n ++ (mark ∷ [])
 
 -- "step answer value", separated by one space, ended by a newline
 unfoldable pub line : ℕ → ℕ → ℕ → List ℕ
@@ -46,9 +42,6 @@ abbrev pub refusedListing : List ℕ
 refusedListing = header ++ line 0 4 9
 
 -- ---- how long they are
-length-field : (n mark : ℕ) → length (field n mark) ≡ width n + 1
-length-field n mark = length-append (decimal n) (mark ∷ []) ∙ omega (arith, length-decimal n)
-
 pub length-line : (step number value : ℕ) → length (line step number value) ≡ (width step + 1) + ((width number + 1) + (width value + 1))
 unfolding line
 length-line step number value =

@@ -1,10 +1,9 @@
 // The listing of a run in bytes (01, "Frame, run file and listing"). Each function writes at a place of a lent output, and gives the place after.
 mod answer;
-mod number;
 
 ghost use Prim.Native.Nat.{_+_, _≤_};
 ghost use lib.ListN.{length};
-ghost use Rattle.listing.specs.Written.{Written};
+ghost use Rattle.decimal.specs.Written.{Written};
 ghost use Rattle.listing.specs.Listing.{header, line, lineOf, refusedListing};
 use protocol::step::Answer;
 
@@ -34,9 +33,9 @@ pub fn write_numbers(out: &mut [u8], at: usize, step: u64, number: u64, value: u
     requires { ⌜ at + 63 ≤ length (now out) ⌝ }
     ensures { λ r. ⌜ Written (now (out .entry)) (now (out .exit)) at (line step number value) r ⌝ }
 {
-    let second = number::write_field(out, at, step, 32);
-    let third = number::write_field(out, second, number, 32);
-    number::write_field(out, third, value, 10)
+    let second = decimal::write_field(out, at, step, 32);
+    let third = decimal::write_field(out, second, number, 32);
+    decimal::write_field(out, third, value, 10)
 }
 
 // The line of a step and its answer.

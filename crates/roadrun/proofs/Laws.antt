@@ -9,9 +9,9 @@ use lib.Dec.{eqb}
 use lib.ListN.{length, take}
 use lib.Seq.{sets, length-sets, length-take-le}
 use Rattle.laws.specs.Choice.{true-or-false, not-both}
-use Rattle.runfile.specs.File.{wellFormed}
+use Rattle.shape.specs.Shape.{wellFormed}
 use Rattle.listing.specs.Listing.{refusedListing}
-use Rattle.listing.specs.Written.{Written}
+use Rattle.decimal.specs.Written.{Written}
 use Rattle.run.specs.declared.Listed.{Listed}
 use Rattle.run.specs.declared.Listed.the-variants as listing
 use Rattle.run.specs.Listed.{listRefusal, listedBytes, listedNumber, listedLength, listing-fits, listed-all, listed-none, none-refused}

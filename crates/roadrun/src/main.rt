@@ -4,7 +4,7 @@ mod input;
 
 ghost use Prim.Native.Nat.{_≤_};
 ghost use lib.ListN.{length};
-ghost use Rattle.listing.specs.Written.{Written};
+ghost use Rattle.decimal.specs.Written.{Written};
 ghost use Rattle.roadrun.specs.Printed.{printed};
 use input::Input;
 use libc::STDOUT_FILENO;

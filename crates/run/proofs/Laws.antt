@@ -9,12 +9,14 @@ use lib.ListN.{length, take, drop}
 use lib.Seq.{sets, sets-eq, take-append-seam, length-take-le}
 use Rattle.laws.specs.Choice.{true-or-false}
 use Rattle.protocol.specs.Setup.{inRange}
+use Rattle.shape.specs.Shape.{countOf, firstPlace, wellFormed}
+use Rattle.shape.specs.Parts.{Parts, whole, formed-parts}
 use Rattle.runfile.specs.declared.Contents.{Contents}
-use Rattle.runfile.specs.File.{countOf, firstPlace, contents, contentsOf, wellFormed}
-use Rattle.runfile.specs.Steps.{stepsOf, Parts, whole, formed-parts}
+use Rattle.runfile.specs.File.{contents, contentsOf}
+use Rattle.runfile.specs.Steps.{stepsOf}
 use Rattle.runfile.specs.Reading.{formed, contents-read, setup-read}
 use Rattle.listing.specs.Listing.{header, length-header}
-use Rattle.listing.specs.Written.{Written, written-then}
+use Rattle.decimal.specs.Written.{Written, written-then}
 use Rattle.run.specs.Ran.{Roomy, linesOf}
 use Rattle.run.specs.declared.Listed.{Listed}
 use Rattle.run.specs.declared.Listed.the-variants as listing-answer

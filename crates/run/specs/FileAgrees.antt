@@ -9,7 +9,7 @@ use Rattle.protocol.specs.declared.step.Answer.{Answer}
 use Rattle.protocol.specs.Setup.{inRange}
 use Rattle.protocol.specs.World.{World, freshWorld}
 use Rattle.protocol.specs.History.{HistoryAgrees}
-use Rattle.runfile.specs.File.{setupPlace, reserved, stepsFit, firstPlace, countOf, measured, contentsFit, wellFormed}
+use Rattle.shape.specs.Shape.{setupPlace, reserved, stepsFit, firstPlace, countOf, measured, contentsFit, wellFormed}
 use Rattle.runfile.specs.Steps.{stepsOf}
 use Rattle.listing.specs.Listing.{listingOf}
 use Rattle.step.specs.Calls.{Calls, Kept, calls-answer, calls-there, calls-keep, calls-in-words}

@@ -14,8 +14,9 @@ use Rattle.protocol.specs.declared.step.Answer.{Answer}
 use Rattle.protocol.specs.declared.step.Step.{Step}
 use Rattle.protocol.specs.Gate.{orRefuse}
 use Rattle.protocol.specs.World.{World, freshWorld, stepped, ran, answers}
-use Rattle.runfile.specs.File.{setupPlace, setupIn, wellFormed}
-use Rattle.runfile.specs.Steps.{stepsOf, length-steps, Parts, formed-parts}
+use Rattle.shape.specs.Shape.{setupPlace, setupIn, wellFormed}
+use Rattle.shape.specs.Parts.{Parts, formed-parts}
+use Rattle.runfile.specs.Steps.{stepsOf, length-steps}
 use Rattle.listing.specs.Listing.{header, linesFrom, listingOf, length-header, listing-short}
 use Rattle.run.specs.declared.Listed.{Listed}
 use Rattle.run.specs.declared.Listed.the-variants.{Written, Refused}

@@ -15,11 +15,12 @@ use Rattle.protocol.specs.Setup.{inRange}
 use Rattle.protocol.specs.Answers.{answerValue}
 use Rattle.protocol.specs.World.{World, freshWorld, stepped, answerOf, answers}
 use Rattle.protocol.specs.Soundness.Question.{SoundWorld, fresh-sound, stepped-sound}
-use Rattle.runfile.specs.File.{placeOf, stepIn, stepAt}
+use Rattle.shape.specs.Shape.{placeOf, stepIn}
+use Rattle.runfile.specs.File.{stepAt}
 use Rattle.runfile.specs.Steps.{stepsFrom}
 use Rattle.listing.specs.Listing.{lineOf, linesFrom, line-short, answer-small}
 use Rattle.layout.specs.Number.{sets-then}
-use Rattle.listing.specs.Written.{Written}
+use Rattle.decimal.specs.Written.{Written}
 
 -- the steps' records are in the file, they are few, and the output has room for their lines
 pub record Roomy (file : List ℕ) (first count : ℕ) (out : List ℕ) (at : ℕ) : Type 0 where

@@ -6,7 +6,7 @@ ghost use mathlib.Core.Path.{_≡_};
 ghost use lib.ListN.{length};
 ghost use lib.Seq.{sets};
 ghost use Rattle.runfile.specs.File.{contentsOf};
-ghost use Rattle.listing.specs.Written.{Written};
+ghost use Rattle.decimal.specs.Written.{Written};
 ghost use Rattle.run.specs.Listed.{fileListing, listRefusal, listedBytes, listedNumber, listedLength};
 use runfile::Contents;
 

@@ -2,7 +2,7 @@
 ghost use mathlib.Core.Bool.{true};
 ghost use mathlib.Core.Path.{_≡_};
 ghost use Rattle.protocol.specs.Setup.{inRange};
-ghost use Rattle.listing.specs.Written.{Written};
+ghost use Rattle.decimal.specs.Written.{Written};
 ghost use Rattle.run.specs.Ran.{Roomy, linesOf};
 use protocol::setup::Setup;
 

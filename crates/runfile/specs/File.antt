@@ -1,91 +1,13 @@
--- 01, "Frame, run file and listing": what a run file holds, over its bytes, and which files are shaped so.
-use Prim.Native.Nat.{ℕ, _+_, _-_, _*_}
-use mathlib.Core.Bool.{Bool, cond, not, _&&_, _||_}
+-- 01, "Frame, run file and listing": what a run file holds, over its bytes.
+use Prim.Native.Nat.{ℕ, _+_}
+use mathlib.Core.Bool.{cond}
 use mathlib.Core.List.{List, []}
-use lib.Dec.{leb, eqb}
-use lib.ListN.{length, getD, take, replicate}
-use Rattle.laws.specs.Loop.{allFrom}
-use Rattle.layout.specs.Number.{bytesAt, numberAt}
+use lib.Dec.{leb}
+use lib.ListN.{length, take, replicate}
 use Rattle.protocol.specs.declared.setup.Setup.{Setup}
 use Rattle.protocol.specs.declared.step.Step.{Step}
-use Rattle.protocol.specs.Setup.{between, inRange}
-use Rattle.protocol.specs.Gate.{isClock, isWrite, usesClient, usesObject, usesPlace, known}
+use Rattle.shape.specs.Shape.{countOf, setupPlace, firstPlace, placeOf, setupIn, stepIn, noStep, wellFormed}
 use Rattle.runfile.specs.declared.Contents.{Contents}
-
--- "trailer of 8: step count, then the distance from the file's end back to the setup"
-abbrev pub countOf : List ℕ → ℕ
-countOf l = numberAt l (length l - 8) 4
-
-abbrev pub distanceOf : List ℕ → ℕ
-distanceOf l = numberAt l (length l - 4) 4
-
--- where the setup begins, and where record k of the steps does
-abbrev pub setupPlace : List ℕ → ℕ
-setupPlace l = length l - distanceOf l
-
-abbrev pub firstPlace : List ℕ → ℕ
-firstPlace l = setupPlace l + 48
-
-abbrev pub placeOf : ℕ → ℕ → ℕ
-placeOf first k = first + 16 * k
-
--- "setup (48 bytes: dash, volume and object counts, a 0, tv, t, m, 32 volume bytes)"
-unfoldable pub setupIn : List ℕ → ℕ → Setup
-setupIn l p = record {
-  clients = getD l p 0;
-  volumes = getD l (p + 1) 0;
-  objects = getD l (p + 2) 0;
-  tv = numberAt l (p + 4) 4;
-  t = numberAt l (p + 8) 4;
-  m = numberAt l (p + 12) 4;
-  volume = bytesAt l (p + 16) 32;
-}
-
-abbrev pub reserved : List ℕ → ℕ → ℕ
-reserved l p = getD l (p + 3) 0
-
--- "steps of 16 bytes (kind, dash, object, place; clock in 4; value in 8)"
-unfoldable pub stepIn : List ℕ → ℕ → Step
-stepIn l p = record {
-  kind = getD l p 0;
-  client = getD l (p + 1) 0;
-  object = getD l (p + 2) 0;
-  place = getD l (p + 3) 0;
-  clock = numberAt l (p + 4) 4;
-  value = numberAt l (p + 8) 8;
-}
-
--- "unused fields 0". "Its shape asks nothing of an unknown kind or of that step's fields."
-unfoldable pub stepFits : Step → Bool
-stepFits x =
-    not (known x)
-    || (usesClient x || eqb (x .client) 0)
-    && (usesObject x || eqb (x .object) 0)
-    && (usesPlace x || eqb (x .place) 0)
-    && (isClock x || eqb (x .clock) 0)
-    && (isWrite x || eqb (x .value) 0)
-
-abbrev pub stepFitsAt : List ℕ → ℕ → ℕ → Bool
-stepFitsAt l first k = stepFits (stepIn l (placeOf first k))
-
-abbrev pub stepsFit : List ℕ → ℕ → ℕ → Bool
-stepsFit l first n = allFrom (stepFitsAt l first) 0 n
-
--- "up to 4,000 steps"; "the distance .. 56 + 16 × count"; there is room for it
-abbrev pub trailerFits : ℕ → ℕ → ℕ → Bool
-trailerFits n count distance = leb count 4000 && eqb distance (56 + 16 * count) && leb distance n
-
--- "A run file, at most 65,536 bytes": setup and trailer are there, and the trailer is right
-unfoldable pub measured : List ℕ → Bool
-measured l = between 56 65536 (length l) && trailerFits (length l) (countOf l) (distanceOf l)
-
--- the 0 after the counts, the setup and the steps
-unfoldable pub contentsFit : List ℕ → Bool
-contentsFit l = eqb (reserved l (setupPlace l)) 0 && inRange (setupIn l (setupPlace l)) && stepsFit l (firstPlace l) (countOf l)
-
--- "Run file shaped as above, its setup in range? 9."
-unfoldable pub wellFormed : List ℕ → Bool
-wellFormed l = measured l && contentsFit l
 
 -- what is read of a file that is refused
 abbrev pub noSetup : Setup
@@ -105,8 +27,5 @@ unfoldable pub noteOf : List ℕ → List ℕ
 noteOf l = cond (wellFormed l) (take (setupPlace l) l) []
 
 -- record k of the steps that begin at `first`; where it is not in the file, a step with nothing in it
-abbrev pub noStep : Step
-noStep = record { kind = 0; client = 0; object = 0; place = 0; clock = 0; value = 0 }
-
 unfoldable pub stepAt : List ℕ → ℕ → ℕ → Step
 stepAt l first k = cond (leb (placeOf first k + 16) (length l)) (stepIn l (placeOf first k)) noStep

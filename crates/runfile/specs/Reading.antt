@@ -10,9 +10,11 @@ use lib.ListN.{getD}
 use Rattle.laws.specs.Choice.{true-or-false, and-true}
 use Rattle.protocol.specs.declared.step.Step.{Step}
 use Rattle.protocol.specs.Setup.{inRange}
+use Rattle.shape.specs.Shape.{countOf, setupPlace, firstPlace, reserved, setupIn, stepsFit, measured, contentsFit, wellFormed}
+use Rattle.shape.specs.Parts.{formed-parts}
 use Rattle.runfile.specs.declared.Contents.{Contents}
-use Rattle.runfile.specs.File.{countOf, setupPlace, firstPlace, reserved, setupIn, stepsFit, measured, contentsFit, wellFormed, stepAt, contents, contentsOf}
-use Rattle.runfile.specs.Steps.{stepsOf, step-there, formed-parts}
+use Rattle.runfile.specs.File.{stepAt, contents, contentsOf}
+use Rattle.runfile.specs.Steps.{stepsOf, step-there}
 
 -- r is what was read of the file l, and it is not refused
 module _ (l : List ℕ) (r : Contents) (e : r ≡ contentsOf l) (a : r .refusal ≡ 0) where

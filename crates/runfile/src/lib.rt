@@ -1,11 +1,9 @@
 // The reader of run files: a note, the setup, the steps and a trailer (01, "Frame, run file and listing").
-mod record;
-mod shape;
-
 ghost use mathlib.Core.Path.{_≡_};
 ghost use Rattle.runfile.specs.File.{noContents, contentsOf, noteOf, stepAt};
 use protocol::setup::Setup;
 use protocol::step::Step;
+use shape::record;
 
 // What a run file holds: the setup, how many steps, and where their records begin. `refusal` is 9 for a file that is not shaped as 01 says, and 0
 // for one that is; the other fields of a refused file are 0.

@@ -1,6 +1,7 @@
 // One change, by the number of its field: 1 to 7 the setup, 10 to 31 the tables, 40 to 50 the message list, 60 to 63 copies, 70 to 74 requests.
 use crate::text::byte;
 use crate::text::word;
+use lending::Case;
 use protocol::setup::Setup;
 use words::VALUES;
 use words::Values;
@@ -9,13 +10,6 @@ use words::Words;
 use words::client;
 use words::network;
 use words::server;
-
-// What a step is handed besides the words and values. The records stand in the words too; the first so many copies and requests are lent.
-pub struct Case {
-    pub setup: Setup,
-    pub copies: usize,
-    pub requests: usize,
-}
 
 // A setup of zeros.
 pub fn none() -> Case {

@@ -1,15 +1,10 @@
 // Steps on tables that no run reaches: unsound ones, and ones at or past a limit. The cases stand in the file `stdin`, as numbers among words; the model
 // reads the same file, and what it prints of its answers and its tables is the file `stdout`.
 mod change;
-mod fields;
-mod left;
-mod lines;
-mod rows;
-mod take;
 mod text;
 
-use crate::change::Case;
 use crate::text::Found;
+use lending::Case;
 use words::Values;
 use words::Words;
 
@@ -58,8 +53,8 @@ fn taken(
     while i < count {
         let words_before = *words;
         let values_before = *values;
-        let answer = take::take(case, &mut *words, &mut *values, text::step(bytes, at));
-        take::show(id, answer);
+        let answer = lending::take(case, &mut *words, &mut *values, text::step(bytes, at));
+        left::answer::show(id, answer);
         left::show(&words_before, &values_before, &*words, &*values);
         at = text::after(bytes, at, 6);
         i += 1;

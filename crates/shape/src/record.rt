@@ -1,0 +1,69 @@
+// What stands in the bytes of a setup and of a step.
+ghost use Prim.Native.Nat.{_+_, _≤_};
+ghost use mathlib.Core.Path.{_≡_};
+ghost use lib.ListN.{length};
+ghost use Rattle.layout.specs.Number.{bytesAt};
+ghost use Rattle.shape.specs.Shape.{setupIn, stepIn, noStep};
+use protocol::setup::Setup;
+use protocol::step::Step;
+
+fn wide(byte: u8) -> u32
+    ensures { λ r. ⌜ r ≡ byte ⌝ }
+{
+    byte as u32
+}
+
+fn volumes_in(file: &[u8], at: usize) -> [u8; 32]
+    requires { ⌜ at + 32 ≤ length (now file) ⌝ }
+    ensures { λ r. ⌜ r ≡ bytesAt (now (file .entry)) at 32 ⌝ }
+{
+    let mut volumes = [0u8; 32];
+    let mut object = 0;
+    while object < 32 {
+        volumes[object] = file[at + object];
+        object += 1;
+    }
+    volumes
+}
+
+pub fn setup_in(file: &[u8], at: usize) -> Setup
+    requires { ⌜ at + 48 ≤ length (now file) ⌝ }
+    ensures { λ r. ⌜ r ≡ setupIn (now (file .entry)) at ⌝ }
+{
+    Setup {
+        clients: wide(file[at]),
+        volumes: wide(file[at + 1]),
+        objects: wide(file[at + 2]),
+        tv: layout::read_u32(file, at + 4),
+        t: layout::read_u32(file, at + 8),
+        m: layout::read_u32(file, at + 12),
+        volume: volumes_in(file, at + 16),
+    }
+}
+
+pub fn step_in(file: &[u8], at: usize) -> Step
+    requires { ⌜ at + 16 ≤ length (now file) ⌝ }
+    ensures { λ r. ⌜ r ≡ stepIn (now (file .entry)) at ⌝ }
+{
+    Step {
+        kind: file[at],
+        client: file[at + 1],
+        object: file[at + 2],
+        place: file[at + 3],
+        clock: layout::read_u32(file, at + 4),
+        value: layout::read_u64(file, at + 8),
+    }
+}
+
+pub fn no_step() -> Step
+    ensures { λ r. ⌜ r ≡ noStep ⌝ }
+{
+    Step {
+        kind: 0,
+        client: 0,
+        object: 0,
+        place: 0,
+        clock: 0,
+        value: 0,
+    }
+}
