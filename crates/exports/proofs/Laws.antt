@@ -7,12 +7,13 @@ use lib.ListN.{length}
 use lib.Seq.{sets}
 use borrow.Author.Tests.{le-leb, lt-leb}
 use Rattle.protocol.specs.declared.message.Message.{Message}
-use Rattle.frame.specs.declared.fields.Fields.{Fields}
+use Rattle.fields.specs.declared.Fields.{Fields}
 use Rattle.frame.specs.declared.Decoded.{Decoded}
 use Rattle.frame.specs.declared.Decoded.the-variants as decoded
 use Rattle.frame.specs.declared.Encoded.{Encoded}
 use Rattle.frame.specs.declared.Encoded.the-variants as encoded
-use Rattle.frame.specs.Frame.{fieldsOf, messageIn, same, sound, framed, decodedNumber, encodedNumber, Decodes, Encodes}
+use Rattle.fields.specs.Fields.{fieldsOf, messageIn, same, sound}
+use Rattle.frame.specs.Frame.{framed, decodedNumber, encodedNumber, Decodes, Encodes}
 use Rattle.run.specs.declared.Listed.{Listed}
 use Rattle.run.specs.declared.Listed.the-variants as listing
 use Rattle.run.specs.Listed.{listRefusal, listedBytes, listedNumber, listedLength, none-refused}

@@ -6,10 +6,11 @@ use mathlib.Core.Path.{_≡_}
 use lib.Dec.{leb, eqb}
 use lib.ListN.{length, getD}
 use lib.Seq.{sets}
-use Rattle.frame.specs.declared.fields.Fields.{Fields}
+use Rattle.fields.specs.declared.Fields.{Fields}
 use Rattle.frame.specs.declared.Decoded.{Decoded}
 use Rattle.frame.specs.declared.Decoded.the-variants.{Accepted, Refused}
-use Rattle.frame.specs.Frame.{row, fieldsOf, messageIn, sound, isFrame, messageOf, fits, framed, refusal}
+use Rattle.fields.specs.Fields.{row, fieldsOf, messageIn, sound}
+use Rattle.frame.specs.Frame.{isFrame, messageOf, fits, framed, refusal}
 use Rattle.run.specs.Listed.{fileListing, listRefusal, listedBytes}
 
 -- a listing and its length; a call that is refused leaves both as they were

@@ -5,9 +5,9 @@ ghost use mathlib.Core.Path.{_≡_};
 ghost use lib.ListN.{length};
 ghost use lib.Seq.{sets};
 ghost use Rattle.exports.specs.Calls.{Lists, fieldsFrom, EncodesFields, numbersOf, DecodesFields};
+use fields::Fields;
 use frame::Decoded;
 use frame::Encoded;
-use frame::fields::Fields;
 use run::Listed;
 
 // The listing of a run file's bytes, at the start of the output, and its length. 9 for what is no run file, 8 for an output that is too short.
@@ -46,8 +46,8 @@ pub extern "C" fn gevtsomi_encode(
         object_expiry: numbers[4],
         value,
     };
-    let m = frame::fields::message_in(f);
-    if frame::fields::same(frame::fields::fields_of(m), f) {
+    let m = fields::message_in(f);
+    if fields::same(fields::fields_of(m), f) {
         return match frame::encode(m, out) {
             Encoded::Written => 0,
             Encoded::Refused => 8,
@@ -82,7 +82,7 @@ pub extern "C" fn gevtsomi_decode(frame: &[u8], fields: &mut [u64]) -> u8
     }
     match frame::decode(frame) {
         Decoded::Accepted(m) => {
-            store(fields, frame::fields::fields_of(m));
+            store(fields, fields::fields_of(m));
             0
         }
         Decoded::Refused => 8,

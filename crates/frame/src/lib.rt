@@ -1,10 +1,9 @@
 // A message as a frame of 32 bytes, and back (01, "Frame, run file and listing").
-pub mod fields;
 mod place;
 
 ghost use mathlib.Core.Path.{_≡_};
 ghost use Rattle.frame.specs.Frame.{accepted, Decodes, Encodes};
-use crate::fields::Fields;
+use fields::Fields;
 use protocol::message::Message;
 
 // What stands in bytes: a message, or no frame of one, which is 8 (`decodedNumber`).

@@ -4,7 +4,7 @@ ghost use mathlib.Core.Path.{_≡_};
 ghost use lib.ListN.{length};
 ghost use Rattle.layout.specs.Number.{Stored};
 ghost use Rattle.frame.specs.Frame.{head, numbers, laid, fieldsIn};
-use crate::fields::Fields;
+use fields::Fields;
 
 pub fn read(bytes: &[u8]) -> Fields
     requires { ⌜ 32 ≤ length (now bytes) ⌝ }

@@ -1,6 +1,6 @@
+use fields::Fields;
 use frame::Decoded;
 use frame::Encoded;
-use frame::fields::Fields;
 use protocol::message::Kind;
 use protocol::message::Message;
 
@@ -43,7 +43,7 @@ fn encoded(r: Encoded) {
 }
 
 fn again(m: Message) {
-    fields(frame::fields::fields_of(m));
+    fields(fields::fields_of(m));
     let mut out = [238u8; 36];
     encoded(frame::encode(m, &mut out));
     bytes(&out);

@@ -23,7 +23,7 @@ fn completed(writes: u32) {
 fn delivered(message: Message, writes: u32) {
     completed(writes);
     text(b"  delivered:");
-    fields(frame::fields::fields_of(message));
+    fields(fields::fields_of(message));
 }
 
 // The case, 01's number and value of the answer, and the message in it.

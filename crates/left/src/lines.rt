@@ -1,5 +1,5 @@
 // The pieces of the printed lines.
-use frame::fields::Fields;
+use fields::Fields;
 
 pub fn text(bytes: &[u8]) {
     io::write_all(1, bytes);

@@ -10,9 +10,9 @@ use words::Values;
 use words::Words;
 
 fn message(i: usize, before: Message, after: Message) {
-    let fields_before = frame::fields::fields_of(before);
-    let fields_after = frame::fields::fields_of(after);
-    if frame::fields::same(fields_before, fields_after) {
+    let fields_before = fields::fields_of(before);
+    let fields_after = fields::fields_of(after);
+    if fields::same(fields_before, fields_after) {
         return;
     }
     number(b"  message ", i as u64);

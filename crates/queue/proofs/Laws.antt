@@ -14,8 +14,8 @@ use Rattle.protocol.specs.declared.message.Message.{Message}
 use Rattle.protocol.specs.Messages.{blank, messageAt, pushed, removed}
 use Rattle.protocol.specs.Server.{sent}
 use Rattle.protocol.specs.Decide.{taken}
-use Rattle.frame.specs.declared.fields.Fields.{Fields}
-use Rattle.frame.specs.Frame.{row, fieldsOf, messageIn}
+use Rattle.fields.specs.declared.Fields.{Fields}
+use Rattle.fields.specs.Fields.{row, fieldsOf, messageIn}
 use Rattle.words.specs.Fields.{wordLengths, valueLengths, at, atValue, WORDS, VALUES, LENGTH, MESSAGES, MESSAGE-VALUE}
 use Rattle.words.specs.Rows.{wordsOf, Narrow, fieldsAt, messageFrom}
 use Rattle.words.specs.View.{tablesOf, recordsOf}

@@ -16,9 +16,9 @@ use Rattle.laws.specs.Shift.{shifted, shifted-before, shifted-in}
 use Rattle.laws.specs.Tabulate.{tabulate, tabulate-set, tabulate-remove}
 use Rattle.protocol.specs.declared.message.Message.{Message}
 use Rattle.protocol.specs.Messages.{blank}
-use Rattle.frame.specs.declared.fields.Fields.{Fields}
-use Rattle.frame.specs.Frame.{fieldsOf, messageIn}
-use Rattle.frame.specs.Round.{message-back}
+use Rattle.fields.specs.declared.Fields.{Fields}
+use Rattle.fields.specs.Fields.{fieldsOf, messageIn}
+use Rattle.fields.specs.Round.{message-back}
 use Rattle.words.specs.Rows.{wordsOf, Narrow, fieldsAt, messageFrom}
 
 -- two rows with the same words

@@ -6,7 +6,6 @@ ghost use Rattle.protocol.specs.Server.{sent};
 ghost use Rattle.protocol.specs.Decide.{taken};
 ghost use Rattle.words.specs.View.{tablesOf, recordsOf};
 use crate::row;
-use frame::fields;
 use protocol::message::Kind;
 use protocol::message::Message;
 use words::Values;

@@ -6,7 +6,7 @@ ghost use Rattle.laws.specs.Parts.{parts};
 ghost use Rattle.laws.specs.Store.{storeEach, always};
 ghost use Rattle.words.specs.Fields.{wordLengths, valueLengths, at, MESSAGES, MESSAGE-VALUE};
 ghost use Rattle.words.specs.Rows.{wordsOf, Narrow, fieldsAt};
-use frame::fields::Fields;
+use fields::Fields;
 use words::Values;
 use words::Words;
 use words::network;

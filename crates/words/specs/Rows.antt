@@ -8,8 +8,8 @@ use Rattle.laws.specs.Tabulate.{tabulate}
 use Rattle.protocol.specs.declared.message.Message.{Message}
 use Rattle.protocol.specs.declared.message.Queue.{Queue}
 use Rattle.protocol.specs.Messages.{blank}
-use Rattle.frame.specs.declared.fields.Fields.{Fields}
-use Rattle.frame.specs.Frame.{row, messageIn}
+use Rattle.fields.specs.declared.Fields.{Fields}
+use Rattle.fields.specs.Fields.{row, messageIn}
 use Rattle.words.specs.Fields.{LENGTH, MESSAGES, MESSAGE-VALUE}
 
 -- the nine words of a message with these fields, in the frame's order

@@ -1,7 +1,7 @@
-// A frame's fields as numbers, and the message that they are.
+// A message's fields as numbers, by its kind, and the message that they are.
 ghost use mathlib.Core.Path.{_≡_};
 ghost use Rattle.protocol.specs.declared.message.Kind.the-variants.{Grant};
-ghost use Rattle.frame.specs.Frame.{row, kindFields, fieldsOf, payloadIn, kindIn, messageIn, same};
+ghost use Rattle.fields.specs.Fields.{row, kindFields, fieldsOf, payloadIn, kindIn, messageIn, same};
 use protocol::message::Kind;
 use protocol::message::Message;
 use protocol::message::Payload;

@@ -1,7 +1,7 @@
 use borrow.Author.Needs.{needs}
-use Rattle.frame.proofs.Laws.{same-payload, with-payload}
-use Rattle.frame.proofs.fields.payload_in.Statement.{statement}
-use Rattle.frame.proofs.fields.payload_in.Tie as tie
+use Rattle.fields.proofs.Laws.{same-payload, with-payload}
+use Rattle.fields.proofs.payload_in.Statement.{statement}
+use Rattle.fields.proofs.payload_in.Tie as tie
 
 returns : tie.Need-returns
 returns c = search (same-payload, needs)

@@ -1,7 +1,7 @@
 use borrow.Author.Needs.{needs}
-use Rattle.frame.proofs.Laws.{by-renew, by-grant, by-invalidate, by-ack, by-offer, by-dropped}
-use Rattle.frame.proofs.fields.kind_fields.Statement.{statement}
-use Rattle.frame.proofs.fields.kind_fields.Tie as tie
+use Rattle.fields.proofs.Laws.{by-renew, by-grant, by-invalidate, by-ack, by-offer, by-dropped}
+use Rattle.fields.proofs.kind_fields.Statement.{statement}
+use Rattle.fields.proofs.kind_fields.Tie as tie
 
 enum-known-kind : tie.Need-enum-known-kind
 enum-known-kind c = search needs

@@ -1,7 +1,7 @@
 use borrow.Author.Needs.{needs}
-use Rattle.frame.proofs.Laws.{kind-2, kind-3, kind-4, kind-5, kind-6, kind-else}
-use Rattle.frame.proofs.fields.kind_in.Statement.{statement}
-use Rattle.frame.proofs.fields.kind_in.Tie as tie
+use Rattle.fields.proofs.Laws.{kind-2, kind-3, kind-4, kind-5, kind-6, kind-else}
+use Rattle.fields.proofs.kind_in.Statement.{statement}
+use Rattle.fields.proofs.kind_in.Tie as tie
 
 grant-in-requires : tie.Need-grant-in-requires
 grant-in-requires c κs = search needs

@@ -1,7 +1,7 @@
 use borrow.Author.Needs.{needs}
-use Rattle.frame.proofs.Laws.{with-value, with-none}
-use Rattle.frame.proofs.fields.with_lease.Statement.{statement}
-use Rattle.frame.proofs.fields.with_lease.Tie as tie
+use Rattle.fields.proofs.Laws.{with-value, with-none}
+use Rattle.fields.proofs.with_lease.Statement.{statement}
+use Rattle.fields.proofs.with_lease.Tie as tie
 
 enum-known-payload : tie.Need-enum-known-payload
 enum-known-payload c = search needs

@@ -1,6 +1,6 @@
 use borrow.Author.Needs.{needs}
-use Rattle.frame.proofs.fields.message_in.Statement.{statement}
-use Rattle.frame.proofs.fields.message_in.Tie as tie
+use Rattle.fields.proofs.message_in.Statement.{statement}
+use Rattle.fields.proofs.message_in.Tie as tie
 
 kind-in-requires : tie.Need-kind-in-requires
 kind-in-requires c κs = search needs

@@ -1,7 +1,7 @@
 use borrow.Author.Needs.{needs}
-use Rattle.frame.specs.Frame.{same}
-use Rattle.frame.proofs.fields.same.Statement.{statement}
-use Rattle.frame.proofs.fields.same.Tie as tie
+use Rattle.fields.specs.Fields.{same}
+use Rattle.fields.proofs.same.Statement.{statement}
+use Rattle.fields.proofs.same.Tie as tie
 
 returns : tie.Need-returns
 unfolding same
