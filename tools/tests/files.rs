@@ -76,6 +76,29 @@ fn a_failure_leaves_the_file_as_it_was() {
     assert_eq!(names(&folder), ["out"]);
 }
 
+/// The room for a file ends in the midst of it.
+#[test]
+fn a_write_that_fails_leaves_the_file_as_it_was() {
+    let folder = folder("no_room");
+    let out = folder.join("out").display().to_string();
+    fs::write(&out, "before").unwrap();
+    let mut limited = Command::new("sh");
+    limited.args([
+        "-c",
+        "trap '' XFSZ; ulimit -f 1; exec \"$@\"",
+        "sh",
+        EXPLAIN,
+        &path("5-old-messages.run"),
+        "-o",
+        &out,
+    ]);
+    let ended = limited.output().unwrap();
+    let errors = String::from_utf8(ended.stderr).unwrap();
+    assert_eq!(ended.status.code(), Some(1), "{errors}");
+    assert!(errors.starts_with(&format!("cannot write {out}: ")), "{errors}");
+    assert_eq!((fs::read(&out).unwrap(), names(&folder)), (b"before".to_vec(), vec!["out".into()]));
+}
+
 #[test]
 fn a_link_stays_and_a_device_is_written() {
     let folder = folder("link");
