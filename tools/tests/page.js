@@ -22,6 +22,8 @@ const answered = word => lines.filter(line => new RegExp(`^[0-9]+ [^:]*: ${word}
 const numbers = some => some.map(line => +line.dataset.step);
 const some = all => all.filter((_, place) => place % Math.ceil(all.length / 50) === 0);
 
+const laneName = name => [...names.querySelectorAll('.lane-name')].find(text => text.textContent === name);
+
 function pick(id, value) {
   get(id).value = value;
   get(id).dispatchEvent(new Event('change'));
@@ -70,12 +72,11 @@ check('choosing a step scrolls to its lane and its line', () => {
 });
 
 check('each step is on the lane of its client or of the server', () => {
-  const line = name => [...names.querySelectorAll('.lane-name')].find(text => text.textContent === name);
   for (const step of some(lines)) {
     const words = step.textContent;
     const asked = words.match(/^[0-9]+ (?:read|ask|restart) client ([0-9]+)/);
     if (!asked || +asked[1] >= clients) continue;
-    same(+line(`client ${asked[1]}`).getAttribute('y') - 4, +step.dataset.lane, words);
+    same(+laneName(`client ${asked[1]}`).getAttribute('y') - 4, +step.dataset.lane, words);
   }
 });
 
@@ -119,7 +120,7 @@ check('the filter by client leaves that client and the server', () => {
   pick('client', '7');
   const left = [...document.querySelectorAll('[data-client]')].filter(seen);
   same(left.every(element => element.dataset.client === '7'), true, 'only client 7');
-  same(left.some(element => element.closest('.lanes')) && left.some(element => element.closest('#listing')), true, 'some');
+  same(['.lanes', '#listing'].map(part => left.some(element => element.closest(part))), [true, true], 'some');
   const lanesLeft = [...names.querySelectorAll('.lane-name')].filter(seen).map(text => text.textContent);
   same(lanesLeft, ['server', 'client 7'], 'lanes');
   pick('client', '');
@@ -131,12 +132,13 @@ check('what the filter leaves moves together', () => {
   frame.scrollTo(0, 0);
   const [before, high] = [places(), bounds(lanes).height];
   pick('client', '7');
-  const line = name => bounds([...names.querySelectorAll('.lane-name')].find(text => text.textContent === name)).bottom;
+  const line = name => bounds(laneName(name)).bottom;
   same([bounds(lanes).height < high / 2, line('client 7') - line('server') < 200], [true, true], 'room');
   const laneLine = bounds(lanes.querySelector('g[data-client="7"] > .lane')).top;
   const arrows = [...lanes.querySelectorAll('g[data-client="7"] > .arrow')].map(bounds);
   const server = bounds(lanes.querySelector('g:not([data-client]) > .lane')).top;
-  same(arrows.length > 0 && arrows.every(({ top, bottom }) => top >= server - 2 && bottom <= laneLine + 2), true, 'arrows');
+  const between = ({ top, bottom }) => top >= server - 2 && bottom <= laneLine + 2;
+  same(arrows.length > 0 && arrows.every(between), true, 'arrows');
   for (const step of lines.filter(shows).slice(0, 20)) {
     step.click();
     same(inSight(spot), true, `step ${step.dataset.step} in sight`);
@@ -189,7 +191,8 @@ check('what is filtered out is passed over', () => {
 check('every text is as wide as was reckoned, or narrower', () => {
   for (const text of document.querySelectorAll('svg text')) {
     const reckoned = 0.61 * parseFloat(getComputedStyle(text).fontSize) * [...text.textContent].length;
-    if (text.getComputedTextLength() > reckoned) throw `${text.textContent}: ${text.getComputedTextLength()} of ${reckoned}`;
+    const found = text.getComputedTextLength();
+    if (found > reckoned) throw `${text.textContent}: ${found} of ${reckoned}`;
   }
 });
 

@@ -3,7 +3,7 @@
 // How far down something is, by how far down it was drawn.
 let fold = y => y;
 
-const pictured = [...document.querySelectorAll('.names text, .lanes line, .lanes rect, .lanes circle, .lanes polygon, .lanes text')];
+const pictured = [...names.querySelectorAll('text'), ...lanes.querySelectorAll('line, rect, circle, polygon, text')];
 const drawn = new Map(pictured.map(element =>
   [element, Object.fromEntries([...element.attributes].map(one => [one.name, one.value]))]));
 const flights = new Set([...lanes.querySelectorAll('.arrow')].map(arrow => arrow.parentNode));
@@ -68,9 +68,10 @@ function beginning(group, y) {
 // where others are: the arrow still tells all when it is pointed at.
 const worded = new Set();
 function free(x, y, angle, from, wide, across) {
+  const [cos, sin] = [Math.cos(angle), Math.sin(angle)];
   const cells = [];
   for (let along = from; along < from + wide; along += 5) {
-    const [right, down] = [along * Math.cos(angle) - across * Math.sin(angle), along * Math.sin(angle) + across * Math.cos(angle)];
+    const [right, down] = [along * cos - across * sin, along * sin + across * cos];
     cells.push(`${Math.round((x + right) / 10)} ${Math.round((y + down) / 10)}`);
   }
   const good = !cells.some(cell => worded.has(cell));
@@ -88,6 +89,7 @@ function turn(group, toY) {
   const [length, degrees] = [Math.hypot(toY - fromY, x2 - x1), angle => angle * 180 / Math.PI];
   arrow.setAttribute('y1', fromY);
   arrow.setAttribute('y2', toY);
+  const start = `translate(${x1} ${fromY}) rotate(${degrees(is)})`;
   for (const element of [...group.children].filter(one => one !== arrow && drawn.has(one))) {
     const { class: name, transform } = drawn.get(element);
     if (transform) {
@@ -96,11 +98,12 @@ function turn(group, toY) {
       const across = (f - y1) * Math.cos(was) - (e - x1) * Math.sin(was);
       const wide = element.textContent.length * 5.185;
       const there = Math.max(8, Math.min(along, length - 12 - wide));
-      element.setAttribute('transform', `translate(${x1} ${fromY}) rotate(${degrees(is)}) translate(${there} ${across})`);
       const fits = there + wide < length && free(x1, fromY, is, there, wide, across);
+      element.setAttribute('transform', `${start} translate(${there} ${across})`);
       element.setAttribute('visibility', fits || !filters.length ? 'visible' : 'hidden');
     } else if (name.startsWith('head')) {
-      element.setAttribute('transform', `translate(${x2} ${toY}) rotate(${degrees(is - was)}) translate(${-x2} ${-y2})`);
+      const tip = `translate(${x2} ${toY}) rotate(${degrees(is - was)})`;
+      element.setAttribute('transform', `${tip} translate(${-x2} ${-y2})`);
     } else {
       element.setAttribute('transform', `translate(0 ${name.startsWith('doubled') ? fromY - y1 : toY - y2})`);
     }
