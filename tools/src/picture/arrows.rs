@@ -14,8 +14,8 @@ use crate::timeline::Timeline;
 
 const LONG: f64 = 8.0 * COLUMN;
 /// Labels are tried at spots this far from one another, so many of them.
-const APART: f64 = 11.0;
-const TRIES: usize = 24;
+const APART: f64 = 4.0;
+const TRIES: usize = 60;
 /// From the line to words above it and below it.
 const SIDES: [f64; 2] = [-3.0, 9.5];
 
