@@ -4,10 +4,7 @@ use std::env;
 use std::io::{self, Write};
 use std::process::ExitCode;
 
-use model::gen::runs::Run;
-
 use crate::arguments::Arguments;
-use crate::input::Input;
 use crate::output::{to_file, to_standard_output, Output};
 
 /// Why a command ends without its output.
@@ -71,13 +68,4 @@ fn written(file: Option<&str>, output: &Output) -> Result<bool, Failure> {
 /// Where standard error takes nothing, there is nobody to tell.
 fn tell(message: &str) {
     let _ = writeln!(io::stderr(), "{message}");
-}
-
-pub fn standard_input() -> Result<Vec<u8>, Failure> {
-    Input::read(None).map(|input| input.bytes)
-}
-
-/// The run of standard input's bytes, a run file or a text.
-pub fn run_of_either(input: &[u8]) -> Result<Run, Failure> {
-    Input::of_standard_input(input).run_of_either()
 }

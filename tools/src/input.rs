@@ -41,10 +41,6 @@ impl Input {
         }
     }
 
-    pub fn of_standard_input(bytes: &[u8]) -> Input {
-        Input { name: None, bytes: bytes.to_vec() }
-    }
-
     pub fn name(&self) -> &str {
         self.name.as_deref().unwrap_or("standard input")
     }

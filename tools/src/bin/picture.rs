@@ -2,16 +2,20 @@
 
 use std::process::ExitCode;
 
-use tools::command::{self, run_of_either, standard_input, Failure};
+use tools::arguments::Arguments;
+use tools::command::{self, Failure};
+use tools::input::Input;
+use tools::output::Output;
 use tools::picture::layout::Window;
 use tools::picture::{page, svg};
 
 const HELP: &str = r#"picture: a run over time
 
-  picture svg [--from N] [--to N] < run.run > run.svg       a picture alone
-  picture html [--from N] [--to N] < run.run > run.html     a page that holds it
+  picture svg [--from N] [--to N] [FILE]      a picture alone
+  picture html [--from N] [--to N] [FILE]     a page that holds it
 
-The input is a run file or its text form. Each step is a column; the clock moves
+FILE is a run file or its text; without one, standard input is read. -o OUT
+writes a file instead of standard output. Each step is a column; the clock moves
 in the columns of clock steps alone. The server has a lane and each client one:
 leases are bars, messages arrows from sending to delivery, writes bars from
 acceptance to completion with their latest end, reads circles.
@@ -27,45 +31,37 @@ It works offline.
 
 fn main() -> ExitCode {
     command::main(HELP, |arguments| {
-        let Some((form, options)) = arguments.split_first() else {
-            return Err(wrong("expected svg or html"));
+        let Some((form, rest)) = arguments.split_first() else {
+            return Err(Failure::Usage("found no argument, expected svg or html".into()));
         };
         if form != "svg" && form != "html" {
-            return Err(wrong(&format!("expected svg or html, found {form}")));
+            return Err(Failure::Usage(format!("found {form:?}, expected svg or html")));
         }
-        let (from, to) = range(options)?;
-        let run = run_of_either(&standard_input()?)?;
-        let window = window(from, to, run.steps.len())?;
-        let picture = if form == "svg" { svg(&run, narrowed(window)) } else { page(&run, window) };
-        Ok(picture.into_bytes())
+        let mut arguments = Arguments::new(rest);
+        let from = step(&mut arguments, "--from")?;
+        let to = step(&mut arguments, "--to")?;
+        let run = Input::read(arguments.file()?.as_deref())?.run_of_either()?;
+        let wanted = window(from, to, run.steps.len())?;
+        if form == "html" {
+            return Ok(Output::from(page(&run, wanted)));
+        }
+        let shown = wanted.narrowed();
+        let told = narrowing(shown, wanted).into_iter().collect();
+        Ok(Output { told, ..svg(&run, shown).into() })
     })
 }
 
-fn narrowed(wanted: Window) -> Window {
-    let Window { from, to } = wanted.narrowed();
-    if to < wanted.to {
-        let last = wanted.to;
-        eprintln!("picture: steps {from} to {to} alone, up to {last} it is too wide for a picture: take --from and --to, or html");
-    }
-    Window { from, to }
+/// What standard error says where a picture alone would be too wide.
+fn narrowing(shown: Window, wanted: Window) -> Option<String> {
+    let Window { from, to } = shown;
+    let last = wanted.to;
+    (to < last).then(|| {
+        format!("picture: steps {from} to {to} alone, up to {last} it is too wide for a picture: take --from and --to, or html")
+    })
 }
 
-fn wrong(message: &str) -> Failure {
-    Failure::Usage(format!("picture: {message}"))
-}
-
-fn range(options: &[String]) -> Result<(Option<usize>, Option<usize>), Failure> {
-    let mut range = (None, None);
-    for option in options.chunks(2) {
-        let number = option.get(1).and_then(|number| number.parse().ok());
-        let number: usize = number.ok_or_else(|| wrong(&format!("expected a step after {}", option[0])))?;
-        match option[0].as_str() {
-            "--from" => range.0 = Some(number),
-            "--to" => range.1 = Some(number),
-            other => return Err(wrong(&format!("unknown option {other}"))),
-        }
-    }
-    Ok(range)
+fn step(arguments: &mut Arguments, name: &str) -> Result<Option<usize>, Failure> {
+    Ok(arguments.number(name, "the number of a step")?.map(|number| number as usize))
 }
 
 /// A run without steps has an empty window.
