@@ -1,4 +1,3 @@
-// What a client does: what it knows of a volume, what it receives, and its steps (01, "Steps" and "Messages received").
+// What a client receives (01, "Messages received"), and what it knows of a volume.
 pub mod receive;
-pub mod steps;
 pub mod view;

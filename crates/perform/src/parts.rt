@@ -11,7 +11,6 @@ ghost use Rattle.protocol.specs.Gate.{usesClient, refusalOfStep};
 ghost use Rattle.protocol.specs.Decide.{kept, answered, counting, readDecided, performed};
 ghost use Rattle.words.specs.View.{tablesOf, numbersOf, recordsOf};
 use crate::verdict;
-use client::steps;
 use delivery::Verdict;
 use protocol::records::Copy;
 use protocol::records::Request;
@@ -30,7 +29,7 @@ pub fn read(s: Setup, words: &Words, c: Copy, step: Step) -> Verdict
     requires { ⌜ step .object < s .objects ⌝ }
     ensures { λ v. ⌜ v ≡ record { change = kept; answer = readDecided s (numbersOf (now (words .entry))) c (step .client) (step .object) .outcome .answer } ⌝ }
 {
-    verdict::keeping(steps::read(s, words, c, step.client, step.object))
+    verdict::keeping(client_steps::read(s, words, c, step.client, step.object))
 }
 
 // Steps 3 and 9, a client's. What becomes of its records.
@@ -50,10 +49,10 @@ pub fn of_client(
     ensures { λ _. ⌜ recordsOf (now (words .exit)) (now (values .exit)) ≡ recordsOf (now (words .entry)) (now (values .entry)) ⌝ }
 {
     if step.kind == 3 {
-        steps::ask(s, words, values, c, r, step.client, step.object);
+        client_steps::ask(s, words, values, c, r, step.client, step.object);
         return verdict::asking(step.object);
     }
-    steps::restart(s, words, &*values, step.client);
+    client_steps::restart(s, words, &*values, step.client);
     verdict::restarting()
 }
 

@@ -1,5 +1,5 @@
 -- What each way through a function comes to. Of the words w, place 1 has the length of the list.
-use Prim.Native.Nat.{ℕ, _+_, _*_, _%_, _-_, _<_, _≤_}
+use Prim.Native.Nat.{ℕ, _+_, _*_, _-_, _<_, _≤_}
 use native.Mathlib.Omega.{arith}
 use mathlib.Core.List.{List}
 use mathlib.Core.Path.{_≡_, refl, sym, ap, _∙_}
@@ -15,7 +15,7 @@ use Rattle.protocol.specs.Messages.{blank, messageAt, pushed, removed}
 use Rattle.protocol.specs.Server.{sent}
 use Rattle.protocol.specs.Decide.{taken}
 use Rattle.fields.specs.declared.Fields.{Fields}
-use Rattle.fields.specs.Fields.{row, fieldsOf, messageIn}
+use Rattle.fields.specs.Fields.{fieldsOf, messageIn}
 use Rattle.words.specs.Fields.{wordLengths, valueLengths, at, atValue, WORDS, VALUES, LENGTH, MESSAGES, MESSAGE-VALUE}
 use Rattle.words.specs.Rows.{wordsOf, Narrow, fieldsAt, messageFrom}
 use Rattle.words.specs.View.{tablesOf, recordsOf}
@@ -41,19 +41,6 @@ module _ (w x : List ℕ) (i : ℕ) where
   pub past-place : (m : Message) → 64 ≤ i → m ≡ blank → m ≡ messageAt (tablesOf w x .queue) i
   unfolding tablesOf
   past-place m h g = g ∙ sym (tabulate-past (messageFrom count (parts wordLengths w MESSAGES) (parts valueLengths x MESSAGE-VALUE)) 0 64 i blank h)
-
--- ---- the words of a row, read
-
-pub word-at : (w : List ℕ) (i k : ℕ) → i < 64 → k < 9 → getD w (at MESSAGES + (i * 9 + k)) 0 ≡ getD (parts wordLengths w MESSAGES) (i * 9 + k) 0
-word-at w i k h j = part-at wordLengths w MESSAGES (i * 9 + k) (omega arith)
-
-pub load-is : (r x : List ℕ) (i a b c d k₀ k₁ k₂ k₃ k₄ k₅ k₆ k₇ k₈ : ℕ) → i < 64 → a ≡ k₀ % 256 → b ≡ k₁ % 256 → c ≡ k₂ % 256 → d ≡ k₃ % 256
-    → k₀ ≡ getD r (i * 9 + 0) 0 → k₁ ≡ getD r (i * 9 + 1) 0 → k₂ ≡ getD r (i * 9 + 2) 0 → k₃ ≡ getD r (i * 9 + 3) 0 → k₄ ≡ getD r (i * 9 + 4) 0
-    → k₅ ≡ getD r (i * 9 + 5) 0 → k₆ ≡ getD r (i * 9 + 6) 0 → k₇ ≡ getD r (i * 9 + 7) 0 → k₈ ≡ getD r (i * 9 + 8) 0
-    → row a b c d k₄ k₅ k₆ k₇ k₈ (getD x (atValue MESSAGE-VALUE + i) 0) ≡ fieldsAt r (parts valueLengths x MESSAGE-VALUE) i
-unfolding fieldsAt
-load-is r x i a b c d k₀ k₁ k₂ k₃ k₄ k₅ k₆ k₇ k₈ h p q s t e₀ e₁ e₂ e₃ e₄ e₅ e₆ e₇ e₈ =
-    rw (p, q, s, t, e₀, e₁, e₂, e₃, e₄, e₅, e₆, e₇, e₈, part-at valueLengths x MESSAGE-VALUE i h)
 
 -- ---- what a function leaves of the tables, and that it leaves the records
 

@@ -1,3 +1,2 @@
 // The message list in the words and values (01, "Tables"): send, remove, double and look, in place.
 pub mod list;
-pub mod row;

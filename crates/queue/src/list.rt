@@ -5,7 +5,6 @@ ghost use Rattle.protocol.specs.Tables.{withQueue};
 ghost use Rattle.protocol.specs.Server.{sent};
 ghost use Rattle.protocol.specs.Decide.{taken};
 ghost use Rattle.words.specs.View.{tablesOf, recordsOf};
-use crate::row;
 use protocol::message::Kind;
 use protocol::message::Message;
 use words::Values;

@@ -1,7 +1,7 @@
-use Rattle.queue.proofs.Laws.{load-is}
+use Rattle.row.proofs.Reading.{load-is}
 use borrow.Author.Needs.{needs}
-use Rattle.queue.proofs.row.load.Statement.{statement}
-use Rattle.queue.proofs.row.load.Tie as tie
+use Rattle.row.proofs.load.Statement.{statement}
+use Rattle.row.proofs.load.Tie as tie
 
 word-requires : tie.Need-word-requires
 word-requires c κs = search needs

@@ -1,9 +1,9 @@
 use native.Mathlib.Omega.{arith}
 use Rattle.protocol.specs.Ranges.{ranges}
-use Rattle.client.proofs.Stepping.{restarts}
+use Rattle.client_steps.proofs.Stepping.{restarts}
 use borrow.Author.Needs.{needs}
-use Rattle.client.proofs.steps.restart.Statement.{statement}
-use Rattle.client.proofs.steps.restart.Tie as tie
+use Rattle.client_steps.proofs.restart.Statement.{statement}
+use Rattle.client_steps.proofs.restart.Tie as tie
 
 cast-n : tie.Need-cast-n
 cast-n c = search needs

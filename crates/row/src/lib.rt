@@ -1,4 +1,4 @@
-// One row: the fields of a message as nine words.
+// One row of the message list: the fields of a message as nine words.
 ghost use mathlib.Core.Path.{_≡_};
 ghost use Prim.Native.Nat.{ℕ, _+_, _*_, _%_, _<_};
 ghost use lib.ListN.{getD};

@@ -1,7 +1,7 @@
-use Rattle.client.proofs.Stepping.{asks}
+use Rattle.client_steps.proofs.Stepping.{asks}
 use borrow.Author.Needs.{needs}
-use Rattle.client.proofs.steps.ask.Statement.{statement}
-use Rattle.client.proofs.steps.ask.Tie as tie
+use Rattle.client_steps.proofs.ask.Statement.{statement}
+use Rattle.client_steps.proofs.ask.Tie as tie
 
 volume-of-requires : tie.Need-volume-of-requires
 volume-of-requires c κs = search needs

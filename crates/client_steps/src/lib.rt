@@ -1,3 +1,4 @@
+// What a client does by itself: read, ask, restart (01, "Steps" 2, 3 and 9).
 ghost use mathlib.Core.Path.{_≡_};
 ghost use mathlib.Core.Bool.{true};
 ghost use Prim.Native.Nat.{_<_};

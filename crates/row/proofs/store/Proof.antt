@@ -6,8 +6,8 @@ use Rattle.laws.specs.Loop.{foldFrom, fold-again, fold-end}
 use Rattle.laws.specs.Store.{storeAt, storeEach, always}
 use Rattle.words.specs.Fields.{at, MESSAGES}
 use borrow.Author.Needs.{needs}
-use Rattle.queue.proofs.row.store.Statement.{statement}
-use Rattle.queue.proofs.row.store.Tie as tie
+use Rattle.row.proofs.store.Statement.{statement}
+use Rattle.row.proofs.store.Tie as tie
 
 abbrev Inv-loop : tie.InvT-loop
 Inv-loop words₀ place row k₀ words k = (k ≤ 9) × (foldFrom (storeAt always (λ (k : ℕ). at MESSAGES + (place * 9 + k)) (λ (k : ℕ). getD row k 0)) words k (9 - k) ≡ foldFrom (storeAt always (λ (k : ℕ). at MESSAGES + (place * 9 + k)) (λ (k : ℕ). getD row k 0)) words₀ 0 9)

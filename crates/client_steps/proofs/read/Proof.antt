@@ -1,7 +1,7 @@
-use Rattle.client.proofs.Stepping.{read-shown, read-first}
+use Rattle.client_steps.proofs.Stepping.{read-shown, read-first}
 use borrow.Author.Needs.{needs}
-use Rattle.client.proofs.steps.read.Statement.{statement}
-use Rattle.client.proofs.steps.read.Tie as tie
+use Rattle.client_steps.proofs.read.Statement.{statement}
+use Rattle.client_steps.proofs.read.Tie as tie
 
 volume-of-requires : tie.Need-volume-of-requires
 volume-of-requires c κs = search needs

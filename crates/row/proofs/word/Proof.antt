@@ -1,7 +1,7 @@
-use Rattle.queue.proofs.Laws.{word-at}
+use Rattle.row.proofs.Reading.{word-at}
 use borrow.Author.Needs.{needs}
-use Rattle.queue.proofs.row.word.Statement.{statement}
-use Rattle.queue.proofs.row.word.Tie as tie
+use Rattle.row.proofs.word.Statement.{statement}
+use Rattle.row.proofs.word.Tie as tie
 
 mul-result : tie.Need-mul-result
 mul-result c = search needs
