@@ -17,7 +17,8 @@ use Rattle.frame.specs.Frame.{framed, decodedNumber, encodedNumber, Decodes, En
 use Rattle.run.specs.declared.Listed.{Listed}
 use Rattle.run.specs.declared.Listed.the-variants as listing
 use Rattle.run.specs.Listed.{listRefusal, listedBytes, listedNumber, listedLength, none-refused}
-use Rattle.exports.specs.Calls.{Lists, EncodesFields, numbersOf, DecodesFields}
+use Rattle.numbers.specs.Numbers.{numbersOf}
+use Rattle.exports.specs.Calls.{Lists, EncodesFields, DecodesFields}
 
 module _ (file before after : List ℕ) (n : ℕ) (r : Listed) (e : listedNumber r ≡ listRefusal file (length before)) (f : listedLength r ≡ length (listedBytes file (length before)))
     (g : after ≡ sets before 0 (listedBytes file (length before))) where

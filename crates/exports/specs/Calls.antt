@@ -1,7 +1,7 @@
 -- What a caller from another language gets: 01's number, 0 for none, and what stands in what it lent.
 use Prim.Native.Nat.{ℕ}
 use mathlib.Core.Bool.{Bool, cond, _&&_}
-use mathlib.Core.List.{List, [], _∷_}
+use mathlib.Core.List.{List}
 use mathlib.Core.Path.{_≡_}
 use lib.Dec.{leb, eqb}
 use lib.ListN.{length, getD}
@@ -11,6 +11,7 @@ use Rattle.frame.specs.declared.Decoded.{Decoded}
 use Rattle.frame.specs.declared.Decoded.the-variants.{Accepted, Refused}
 use Rattle.fields.specs.Fields.{row, fieldsOf, messageIn, sound}
 use Rattle.frame.specs.Frame.{isFrame, messageOf, fits, framed, refusal}
+use Rattle.numbers.specs.Numbers.{numbersOf}
 use Rattle.run.specs.Listed.{fileListing, listRefusal, listedBytes}
 
 -- a listing and its length; a call that is refused leaves both as they were
@@ -29,11 +30,6 @@ fieldsFrom head numbers value =
 pub record EncodesFields (f : Fields) (before after : List ℕ) (r : ℕ) : Type 0 where
   pub number : r ≡ refusal (sound f && fits before)
   pub bytes : after ≡ cond (sound f) (framed (messageIn f) before) before
-
--- the ten fields as numbers, in the frame's order
-abbrev pub numbersOf : Fields → List ℕ
-numbersOf f =
-    f .kind ∷ f .client ∷ f .object ∷ f .present ∷ f .number ∷ f .«volume_expiry» ∷ f .epoch ∷ f .version ∷ f .«object_expiry» ∷ f .value ∷ []
 
 abbrev pub fieldsStored : List ℕ → Decoded → List ℕ
 fieldsStored l (Accepted m) = sets l 0 (numbersOf (fieldsOf m))

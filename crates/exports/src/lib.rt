@@ -1,10 +1,6 @@
 // The library that other languages link (`rt staticlib exports`): calls on numbers and slices, each 0 or 01's number of a refusal, which changes nothing.
 // A slice is two arguments, its address and its length.
-ghost use Prim.Native.Nat.{_≤_};
-ghost use mathlib.Core.Path.{_≡_};
-ghost use lib.ListN.{length};
-ghost use lib.Seq.{sets};
-ghost use Rattle.exports.specs.Calls.{Lists, fieldsFrom, EncodesFields, numbersOf, DecodesFields};
+ghost use Rattle.exports.specs.Calls.{Lists, fieldsFrom, EncodesFields, DecodesFields};
 use fields::Fields;
 use frame::Decoded;
 use frame::Encoded;
@@ -56,22 +52,6 @@ pub extern "C" fn gevtsomi_encode(
     8
 }
 
-fn store(out: &mut [u64], f: Fields)
-    requires { ⌜ 10 ≤ length (now out) ⌝ }
-    ensures { λ _. ⌜ now (out .exit) ≡ sets (now (out .entry)) 0 (numbersOf f) ⌝ }
-{
-    out[0] = f.kind as u64;
-    out[1] = f.client as u64;
-    out[2] = f.object as u64;
-    out[3] = f.present as u64;
-    out[4] = f.number as u64;
-    out[5] = f.volume_expiry as u64;
-    out[6] = f.epoch as u64;
-    out[7] = f.version as u64;
-    out[8] = f.object_expiry as u64;
-    out[9] = f.value;
-}
-
 // The fields of a frame's message, as ten numbers in the frame's order.
 #[no_mangle]
 pub extern "C" fn gevtsomi_decode(frame: &[u8], fields: &mut [u64]) -> u8
@@ -82,7 +62,7 @@ pub extern "C" fn gevtsomi_decode(frame: &[u8], fields: &mut [u64]) -> u8
     }
     match frame::decode(frame) {
         Decoded::Accepted(m) => {
-            store(fields, fields::fields_of(m));
+            numbers::store(fields, fields::fields_of(m));
             0
         }
         Decoded::Refused => 8,

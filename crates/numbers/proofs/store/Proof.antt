@@ -1,8 +1,8 @@
 use native.Mathlib.Omega.{arith}
 use lib.ListN.{length-set}
 use borrow.Author.Needs.{needs}
-use Rattle.exports.proofs.store.Statement.{statement}
-use Rattle.exports.proofs.store.Tie as tie
+use Rattle.numbers.proofs.store.Statement.{statement}
+use Rattle.numbers.proofs.store.Tie as tie
 
 cast-out : tie.Need-cast-out
 cast-out c = search needs
