@@ -12,7 +12,7 @@ use Rattle.protocol.specs.History.{HistoryAgrees}
 use Rattle.shape.specs.Shape.{setupPlace, reserved, stepsFit, firstPlace, countOf, measured, contentsFit, wellFormed}
 use Rattle.runfile.specs.Steps.{stepsOf}
 use Rattle.listing.specs.Listing.{listingOf}
-use Rattle.step.specs.Calls.{Calls, Kept, calls-answer, calls-there, calls-keep, calls-in-words}
+use Rattle.promises.specs.Calls.{Calls, Kept, calls-answer, calls-there, calls-keep, calls-in-words}
 use Rattle.run.specs.Listed.{setupOf, answersOf, leftBy, fileListing, listRefusal, listedBytes, listed-formed}
 
 file-in-range : (l : List ℕ) → wellFormed l ≡ true → inRange (setupOf l) ≡ true

@@ -1,4 +1,3 @@
 pub mod Lent
 pub mod Refused
 pub mod Numbers
-pub mod Calls
