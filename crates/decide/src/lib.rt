@@ -3,12 +3,12 @@ ghost use mathlib.Core.Path.{_≡_};
 ghost use Rattle.protocol.specs.Answers.{answerNumber};
 ghost use Rattle.protocol.specs.Decide.{answered, decided};
 ghost use Rattle.words.specs.View.{tablesOf, recordsOf};
-use delivery::Verdict;
 use protocol::records::Copy;
 use protocol::records::Request;
 use protocol::setup::Setup;
 use protocol::step::Answer;
 use protocol::step::Step;
+use verdict::Verdict;
 use words::Values;
 use words::Words;
 

@@ -23,14 +23,9 @@ use queue::list;
 use renewals::receive::receive_renew;
 use server::ack::receive_ack;
 use server::dropped::receive_dropped;
+use verdict::Verdict;
 use words::Values;
 use words::Words;
-
-// What becomes of the client's records, and the answer.
-pub struct Verdict {
-    pub change: Change,
-    pub answer: Answer,
-}
 
 // RENEW, ACK and DROPPED. How many writes completed.
 fn by_server(s: Setup, words: &mut Words, values: &mut Values, client: usize, k: Kind) -> u32

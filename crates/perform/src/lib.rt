@@ -1,21 +1,29 @@
-// An accepted step, in place.
+// An accepted step, in place, by its kind. Each part returns as little as it can.
 ghost use mathlib.Core.Bool.{true};
 ghost use mathlib.Core.Path.{_≡_};
+ghost use Prim.Native.Nat.{_<_};
 ghost use Rattle.protocol.specs.Setup.{inRange};
 ghost use Rattle.protocol.specs.Sound.{tablesSound};
 ghost use Rattle.protocol.specs.Gate.{refusalOfStep};
-ghost use Rattle.protocol.specs.Decide.{answered, performed};
-ghost use Rattle.words.specs.View.{tablesOf, recordsOf};
-use delivery::Verdict;
+ghost use Rattle.protocol.specs.Decide.{kept, answered, readDecided, performed};
+ghost use Rattle.words.specs.View.{tablesOf, numbersOf, recordsOf};
 use protocol::records::Copy;
 use protocol::records::Request;
 use protocol::setup::Setup;
 use protocol::step::Step;
+use verdict::Verdict;
 use words::Values;
 use words::Words;
 
-mod parts;
-mod verdict;
+// Step 2, whose verdict changes no record.
+fn read(s: Setup, words: &Words, c: Copy, step: Step) -> Verdict
+    requires { ⌜ inRange s ≡ true ⌝ }
+    requires { ⌜ step .client < s .clients ⌝ }
+    requires { ⌜ step .object < s .objects ⌝ }
+    ensures { λ v. ⌜ v ≡ record { change = kept; answer = readDecided s (numbersOf (now (words .entry))) c (step .client) (step .object) .outcome .answer } ⌝ }
+{
+    verdict::keeping(client_steps::read(s, words, c, step.client, step.object))
+}
 
 pub fn perform(
     s: Setup,
@@ -32,13 +40,13 @@ pub fn perform(
     ensures { λ _. ⌜ recordsOf (now (words .exit)) (now (values .exit)) ≡ recordsOf (now (words .entry)) (now (values .entry)) ⌝ }
 {
     if step.kind == 2 {
-        return parts::read(s, &*words, c, step);
+        return read(s, &*words, c, step);
     }
     if kinds::uses_client(step) {
-        return verdict::changing(parts::of_client(s, words, values, c, r, step));
+        return verdict::changing(one_client::of_client(s, words, values, c, r, step));
     }
     if step.kind == 5 {
         return delivery::deliver(s, words, values, c, r, step.place as usize);
     }
-    verdict::counting(parts::of_no_client(s, words, values, step))
+    verdict::counting(no_client::of_no_client(s, words, values, step))
 }

@@ -80,9 +80,9 @@ use Rattle.protocol.proofs.step.Step.Laws as U′
 use Rattle.protocol.specs.declared.step.Target.{Target}
 use Rattle.protocol.proofs.step.Target as P-
 use Rattle.protocol.proofs.step.Target.Laws as P′
-use Rattle.delivery.specs.declared.Verdict.{Verdict}
-use Rattle.delivery.proofs.Verdict as D-
-use Rattle.delivery.proofs.Verdict.Laws as D′
+use Rattle.verdict.specs.declared.Verdict.{Verdict}
+use Rattle.verdict.proofs.Verdict as D-
+use Rattle.verdict.proofs.Verdict.Laws as D′
 use Rattle.protocol.proofs.step.Change as C-
 use Rattle.protocol.proofs.step.Change.Laws as C′
 use Rattle.protocol.proofs.step.Answer as N-

@@ -1,6 +1,6 @@
 use borrow.Author.Needs.{needs}
-use Rattle.perform.proofs.verdict.keeping.Statement.{statement}
-use Rattle.perform.proofs.verdict.keeping.Tie as tie
+use Rattle.verdict.proofs.keeping.Statement.{statement}
+use Rattle.verdict.proofs.keeping.Tie as tie
 
 kept-requires : tie.Need-kept-requires
 kept-requires c κs = search needs

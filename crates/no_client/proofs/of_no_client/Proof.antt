@@ -1,10 +1,10 @@
 use Rattle.protocol.specs.SoundLaws.{sound-clock, growing, sound-length}
 use Rattle.protocol.specs.Soundness.StepCases.{passed, object-exists, place-exists, version-grows, epochs-grow}
 use Rattle.protocol.specs.Tables.{noRequest}
-use Rattle.perform.proofs.Performing.{by-clock, by-write, by-lose, by-double, by-restart-server, last-of-no-client}
+use Rattle.no_client.proofs.Performing.{by-clock, by-write, by-lose, by-double, by-restart-server, last-of-no-client}
 use borrow.Author.Needs.{needs}
-use Rattle.perform.proofs.parts.of_no_client.Statement.{statement}
-use Rattle.perform.proofs.parts.of_no_client.Tie as tie
+use Rattle.no_client.proofs.of_no_client.Statement.{statement}
+use Rattle.no_client.proofs.of_no_client.Tie as tie
 
 pass-time-requires : tie.Need-pass-time-requires
 pass-time-requires c κs = let a = c .before .before .before in (a .pre .0, growing _ _ (a .pre .1 .0))

@@ -1,7 +1,7 @@
-use Rattle.perform.proofs.Performing.{none-completed, some-completed}
+use Rattle.verdict.proofs.Answering.{none-completed, some-completed}
 use borrow.Author.Needs.{needs}
-use Rattle.perform.proofs.verdict.counting.Statement.{statement}
-use Rattle.perform.proofs.verdict.counting.Tie as tie
+use Rattle.verdict.proofs.counting.Statement.{statement}
+use Rattle.verdict.proofs.counting.Tie as tie
 
 keeping-requires : tie.Need-keeping-requires
 keeping-requires c κs = search needs

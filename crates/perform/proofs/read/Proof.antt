@@ -1,7 +1,7 @@
 use Rattle.perform.proofs.Performing.{answering}
 use borrow.Author.Needs.{needs}
-use Rattle.perform.proofs.parts.read.Statement.{statement}
-use Rattle.perform.proofs.parts.read.Tie as tie
+use Rattle.perform.proofs.read.Statement.{statement}
+use Rattle.perform.proofs.read.Tie as tie
 
 read-requires : tie.Need-read-requires
 read-requires c κs = search needs

@@ -1,8 +1,8 @@
 use Rattle.protocol.specs.Soundness.StepCases.{passed, client-exists, object-exists}
-use Rattle.perform.proofs.Performing.{by-ask, by-restart-client, last-of-client}
+use Rattle.one_client.proofs.Performing.{by-ask, by-restart-client, last-of-client}
 use borrow.Author.Needs.{needs}
-use Rattle.perform.proofs.parts.of_client.Statement.{statement}
-use Rattle.perform.proofs.parts.of_client.Tie as tie
+use Rattle.one_client.proofs.of_client.Statement.{statement}
+use Rattle.one_client.proofs.of_client.Tie as tie
 
 ask-requires : tie.Need-ask-requires
 ask-requires c κs = let a = c .before .before .before .before in let q = passed _ _ _ _ (a .pre .1 .0) in (a .pre .0, (client-exists q (a .pre .1 .1 .0), object-exists q (rw (c .before .before .if1 .taken))))

@@ -1,13 +1,14 @@
-// What a step comes to for the client's records, and its answer.
+// The verdict on a step: what becomes of the client's records, and the answer.
 ghost use mathlib.Core.Path.{_≡_};
 ghost use Rattle.protocol.specs.Answers.{completedAnswer};
 ghost use Rattle.protocol.specs.Decide.{kept};
-use delivery::Verdict;
 use protocol::step::Answer;
 use protocol::step::Change;
-use protocol::step::CopyChange;
-use protocol::step::Sweep;
-use protocol::step::Turn;
+
+pub struct Verdict {
+    pub change: Change,
+    pub answer: Answer,
+}
 
 // The client's records stay.
 pub fn keeping(answer: Answer) -> Verdict
@@ -36,27 +37,5 @@ pub fn changing(change: Change) -> Verdict
     Verdict {
         change,
         answer: Answer::Done,
-    }
-}
-
-// Step 3: "take the next number, replace the standing request".
-pub fn asking(object: u8) -> Change
-    ensures { λ g. ⌜ g ≡ record { copy = CopyChange.Keep; request = Turn.Take object; sweep = Sweep.Keep } ⌝ }
-{
-    Change {
-        copy: CopyChange::Keep,
-        request: Turn::Take(object),
-        sweep: Sweep::Keep,
-    }
-}
-
-// Step 9: "only its next request number remains".
-pub fn restarting() -> Change
-    ensures { λ g. ⌜ g ≡ record { copy = CopyChange.Keep; request = Turn.End; sweep = Sweep.Erase } ⌝ }
-{
-    Change {
-        copy: CopyChange::Keep,
-        request: Turn::End,
-        sweep: Sweep::Erase,
     }
 }
