@@ -18,7 +18,6 @@ use words::Values;
 use words::Words;
 use words::network;
 use words::server;
-use writes::complete;
 
 // The write of `value` stands, with its latest end and whom it waits for.
 fn begin(s: Setup, words: &mut Words, values: &mut Values, object: usize, value: u64)
@@ -117,5 +116,5 @@ pub fn accept_write(
 {
     begin(s, &mut *words, &mut *values, object, value);
     notify(s, &mut *words, &mut *values, object);
-    complete::settle_one(s, &mut *words, &mut *values, object)
+    completion::settle_one(s, &mut *words, &mut *values, object)
 }

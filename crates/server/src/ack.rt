@@ -11,7 +11,6 @@ use protocol::setup::Setup;
 use words::Values;
 use words::Words;
 use words::server;
-use writes::complete;
 
 // "needs a standing write, its epoch and its new version"
 fn ack_taken(s: Setup, words: &Words, object: usize, epoch: u32, version: u32) -> bool
@@ -48,7 +47,7 @@ pub fn receive_ack(
     if ack_taken(s, &*words, object, epoch, version) {
         words[server::LEASE + (client * 32 + object)] = 0;
         words[server::WAITING + (client * 32 + object)] = 0;
-        return complete::settle_one(s, &mut *words, &mut *values, object);
+        return completion::settle_one(s, &mut *words, &mut *values, object);
     }
     0
 }

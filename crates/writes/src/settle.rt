@@ -6,7 +6,7 @@ ghost use Rattle.protocol.specs.SoundLaws.{Growing};
 ghost use Rattle.protocol.specs.Writes.{settled, clockStaged};
 ghost use Rattle.words.specs.View.{tablesOf, recordsOf};
 ghost use Rattle.waiting.specs.Triggers.{triggerStaged};
-use crate::complete;
+use completion::complete;
 use protocol::setup::Setup;
 use waiting::test;
 use waiting::test::Trigger;
@@ -30,7 +30,7 @@ pub fn settle(s: Setup, trigger: Trigger, words: &mut Words, values: &mut Values
         if n <= object {
             break;
         }
-        complete::complete(s, &mut *words, &mut *values, object);
+        complete(s, &mut *words, &mut *values, object);
         count += 1;
         from = object + 1;
     }

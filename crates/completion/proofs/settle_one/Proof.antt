@@ -1,7 +1,7 @@
-use Rattle.writes.proofs.Completing.{one-yes, one-no}
+use Rattle.completion.proofs.Completing.{one-yes, one-no}
 use borrow.Author.Needs.{needs}
-use Rattle.writes.proofs.complete.settle_one.Statement.{statement}
-use Rattle.writes.proofs.complete.settle_one.Tie as tie
+use Rattle.completion.proofs.settle_one.Statement.{statement}
+use Rattle.completion.proofs.settle_one.Tie as tie
 
 ready-requires : tie.Need-ready-requires
 ready-requires c κs = search needs

@@ -1,3 +1,4 @@
+// Completing one write at the server (01, "Steps"): what it does to the tables, and whether it is time.
 ghost use mathlib.Core.Path.{_≡_};
 ghost use mathlib.Core.Bool.{true};
 ghost use Prim.Native.Nat.{_<_};

@@ -1,9 +1,9 @@
 use native.Mathlib.Omega.{arith}
 use Rattle.words.specs.Reads.{version-word}
-use Rattle.writes.proofs.Completing.{posts}
+use Rattle.completion.proofs.Completing.{posts}
 use borrow.Author.Needs.{needs}
-use Rattle.writes.proofs.complete.post.Statement.{statement}
-use Rattle.writes.proofs.complete.post.Tie as tie
+use Rattle.completion.proofs.post.Statement.{statement}
+use Rattle.completion.proofs.post.Tie as tie
 
 add-values : tie.Need-add-values
 add-values c = search needs

@@ -1,8 +1,8 @@
 use mathlib.Core.Path.{refl}
-use Rattle.writes.proofs.Completing.{released-version, completes}
+use Rattle.completion.proofs.Completing.{released-version, completes}
 use borrow.Author.Needs.{needs}
-use Rattle.writes.proofs.complete.complete.Statement.{statement}
-use Rattle.writes.proofs.complete.complete.Tie as tie
+use Rattle.completion.proofs.complete.Statement.{statement}
+use Rattle.completion.proofs.complete.Tie as tie
 
 volume-of-requires : tie.Need-volume-of-requires
 volume-of-requires c κs = search needs
