@@ -1,2 +1,2 @@
-// RENEW at the server (01, "Messages received"): its rules in order.
+// RENEW received at the server (01, "Messages received"): one that is not newer than the last is passed over.
 pub mod receive;

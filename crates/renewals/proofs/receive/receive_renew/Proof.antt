@@ -1,6 +1,6 @@
 use native.Mathlib.Omega.{arith}
 use Rattle.protocol.specs.Ranges.{ranges}
-use Rattle.renewals.proofs.Rules.{renew-old, renew-new, noted-clock, noted-grows}
+use Rattle.renewals.proofs.Noting.{renew-old, renew-new, noted-clock, noted-grows}
 use borrow.Author.Needs.{needs}
 use Rattle.renewals.proofs.receive.receive_renew.Statement.{statement}
 use Rattle.renewals.proofs.receive.receive_renew.Tie as tie

@@ -15,7 +15,7 @@ use Rattle.protocol.specs.declared.setup.Setup.{Setup}
 use Rattle.protocol.specs.SoundLaws.{Growing}
 use Rattle.protocol.specs.Tables.{byVolume, versionAt, standingAt, waitingAt}
 use Rattle.protocol.specs.Writes.{invalidation}
-use Rattle.protocol.specs.Server.{offering, ofVolume, waitedIn, lowestWaited, mustDrop}
+use Rattle.protocol.specs.Server.{ofVolume, waitedIn, lowestWaited, mustDrop}
 use Rattle.words.specs.Fields.{wordLengths, at, VOLUME-EPOCH, UNREACHABLE, STANDING}
 use Rattle.words.specs.View.{tablesOf, numbersOf}
 
@@ -41,10 +41,6 @@ module _ (w x : List ℕ) where
   pub lowest-same : (s : Setup) (d v : ℕ) → lowestWaited s (numbersOf w) d v ≡ lowestWaited s (tablesOf w x) d v
   unfolding lowestWaited tablesOf
   lowest-same s d v = refl
-
-  pub offering-same : (d v n : ℕ) → offering (numbersOf w) d v n ≡ offering (tablesOf w x) d v n
-  unfolding tablesOf
-  offering-same d v n = refl
 
   pub resending-same : (s : Setup) (o d : ℕ) → invalidation s (numbersOf w) o d ≡ invalidation s (tablesOf w x) o d
   unfolding tablesOf

@@ -1,10 +1,10 @@
 use native.Mathlib.Omega.{arith}
 use Rattle.protocol.specs.Ranges.{ranges}
-use Rattle.renewals.proofs.Reading.{low-version, stands, rests}
-use Rattle.renewals.proofs.Rules.{by-offer, by-resend, by-hold, by-grant}
+use Rattle.renewal_rules.proofs.Reading.{low-version, stands, rests}
+use Rattle.renewal_rules.proofs.Rules.{by-offer, by-resend, by-hold, by-grant}
 use borrow.Author.Needs.{needs}
-use Rattle.renewals.proofs.receive.renew_by.Statement.{statement}
-use Rattle.renewals.proofs.receive.renew_by.Tie as tie
+use Rattle.renewal_rules.proofs.renew_by.Statement.{statement}
+use Rattle.renewal_rules.proofs.renew_by.Tie as tie
 
 volume-of-requires : tie.Need-volume-of-requires
 volume-of-requires c κs = search needs

@@ -1,7 +1,7 @@
-use Rattle.renewals.proofs.Reading.{drops}
+use Rattle.renewal_rules.proofs.Reading.{drops}
 use borrow.Author.Needs.{needs}
-use Rattle.renewals.proofs.receive.must_drop.Statement.{statement}
-use Rattle.renewals.proofs.receive.must_drop.Tie as tie
+use Rattle.renewal_rules.proofs.must_drop.Statement.{statement}
+use Rattle.renewal_rules.proofs.must_drop.Tie as tie
 
 add-result : tie.Need-add-result
 add-result c = search needs

@@ -1,10 +1,10 @@
 use native.Mathlib.Omega.{arith}
 use Rattle.protocol.specs.Ranges.{ranges}
 use Rattle.words.specs.Reads.{clock-word}
-use Rattle.renewals.proofs.Rules.{grants}
+use Rattle.grants.proofs.Granting.{grants}
 use borrow.Author.Needs.{needs}
-use Rattle.renewals.proofs.receive.grant.Statement.{statement}
-use Rattle.renewals.proofs.receive.grant.Tie as tie
+use Rattle.grants.proofs.grant.Statement.{statement}
+use Rattle.grants.proofs.grant.Tie as tie
 
 volume-of-requires : tie.Need-volume-of-requires
 volume-of-requires c κs = search needs

@@ -1,7 +1,7 @@
-use Rattle.renewals.proofs.Rules.{offers}
+use Rattle.grants.proofs.Granting.{offers}
 use borrow.Author.Needs.{needs}
-use Rattle.renewals.proofs.receive.offer.Statement.{statement}
-use Rattle.renewals.proofs.receive.offer.Tie as tie
+use Rattle.grants.proofs.offer.Statement.{statement}
+use Rattle.grants.proofs.offer.Tie as tie
 
 offering-requires : tie.Need-offering-requires
 offering-requires c κs = search needs
