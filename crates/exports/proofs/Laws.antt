@@ -1,24 +1,13 @@
 -- What each way through a call found, put together.
-use Prim.Native.Nat.{ℕ, _<_, _≤_}
-use mathlib.Core.Bool.{Bool, true, false, cond}
+use Prim.Native.Nat.{ℕ}
 use mathlib.Core.List.{List}
 use mathlib.Core.Path.{_≡_, sym, ap, _∙_}
 use lib.ListN.{length}
 use lib.Seq.{sets}
-use borrow.Author.Tests.{le-leb, lt-leb}
-use Rattle.protocol.specs.declared.message.Message.{Message}
-use Rattle.fields.specs.declared.Fields.{Fields}
-use Rattle.frame.specs.declared.Decoded.{Decoded}
-use Rattle.frame.specs.declared.Decoded.the-variants as decoded
-use Rattle.frame.specs.declared.Encoded.{Encoded}
-use Rattle.frame.specs.declared.Encoded.the-variants as encoded
-use Rattle.fields.specs.Fields.{fieldsOf, messageIn, same, sound}
-use Rattle.frame.specs.Frame.{framed, decodedNumber, encodedNumber, Decodes, Encodes}
 use Rattle.run.specs.declared.Listed.{Listed}
 use Rattle.run.specs.declared.Listed.the-variants as listing
 use Rattle.run.specs.Listed.{listRefusal, listedBytes, listedNumber, listedLength, none-refused}
-use Rattle.numbers.specs.Numbers.{numbersOf}
-use Rattle.exports.specs.Calls.{Lists, EncodesFields, DecodesFields}
+use Rattle.exports.specs.Calls.{Lists}
 
 module _ (file before after : List ℕ) (n : ℕ) (r : Listed) (e : listedNumber r ≡ listRefusal file (length before)) (f : listedLength r ≡ length (listedBytes file (length before)))
     (g : after ≡ sets before 0 (listedBytes file (length before))) where
@@ -31,38 +20,3 @@ module _ (file before after : List ℕ) (n : ℕ) (r : Listed) (e : listedNumber
   pub list-refused : (k : ℕ) → r ≡ listing.Refused k → Lists file before after n n k
   list-refused k h =
       record { number = sym (ap listedNumber h) ∙ e; written = rw (none-refused file (length before) (sym f ∙ ap listedLength h)); bytes = g }
-
-module _ (f g : Fields) (m : Message) (b : Bool) (em : m ≡ messageIn f) (eg : g ≡ fieldsOf m) (eb : b ≡ same g f) where
-  right : sound f ≡ b
-  right = rw (eb, eg, em)
-
-  pub encode-wrong : (before : List ℕ) → b ≡ false → EncodesFields f before before 8
-  encode-wrong before h = record { number = rw (right, h); bytes = rw (right, h) }
-
-  module _ (before after : List ℕ) (r : Encoded) (h : b ≡ true) (w : Encodes m before after r) where
-    in-place : after ≡ cond (sound f) (framed (messageIn f) before) before
-    in-place = rw (right, h, ← em) (w .bytes)
-
-    pub encode-written : r ≡ encoded.Written → EncodesFields f before after 0
-    encode-written k = record { number = rw (right, h) (ap encodedNumber (sym k) ∙ w .number); bytes = in-place }
-
-    pub encode-short : r ≡ encoded.Refused → EncodesFields f before after 8
-    encode-short k = record { number = rw (right, h) (ap encodedNumber (sym k) ∙ w .number); bytes = in-place }
-
-module _ (frame before : List ℕ) where
-  pub decode-short : length before < 10 → DecodesFields frame before before 8
-  decode-short h = record { number = rw (lt-leb _ _ h); fields = rw (lt-leb _ _ h) }
-
-  module _ (r : Decoded) (h : 10 ≤ length before) (w : Decodes frame r) where
-    pub decode-yes : (m : Message) (g : Fields) (after : List ℕ) → r ≡ decoded.Accepted m → g ≡ fieldsOf m → after ≡ sets before 0 (numbersOf g)
-        → DecodesFields frame before after 0
-    decode-yes m g after e f k = record {
-      number = rw (le-leb _ _ h) (ap decodedNumber (sym e) ∙ w .number);
-      fields = rw (le-leb _ _ h, ← w .message, e) (k ∙ rw f);
-    }
-
-    pub decode-no : r ≡ decoded.Refused → DecodesFields frame before before 8
-    decode-no e = record {
-      number = rw (le-leb _ _ h) (ap decodedNumber (sym e) ∙ w .number);
-      fields = rw (le-leb _ _ h, ← w .message, e);
-    }

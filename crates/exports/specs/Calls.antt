@@ -1,17 +1,11 @@
 -- What a caller from another language gets: 01's number, 0 for none, and what stands in what it lent.
 use Prim.Native.Nat.{ℕ}
-use mathlib.Core.Bool.{Bool, cond, _&&_}
+use mathlib.Core.Bool.{cond}
 use mathlib.Core.List.{List}
 use mathlib.Core.Path.{_≡_}
-use lib.Dec.{leb, eqb}
-use lib.ListN.{length, getD}
+use lib.Dec.{eqb}
+use lib.ListN.{length}
 use lib.Seq.{sets}
-use Rattle.fields.specs.declared.Fields.{Fields}
-use Rattle.frame.specs.declared.Decoded.{Decoded}
-use Rattle.frame.specs.declared.Decoded.the-variants.{Accepted, Refused}
-use Rattle.fields.specs.Fields.{row, fieldsOf, messageIn, sound}
-use Rattle.frame.specs.Frame.{isFrame, messageOf, fits, framed, refusal}
-use Rattle.numbers.specs.Numbers.{numbersOf}
 use Rattle.run.specs.Listed.{fileListing, listRefusal, listedBytes}
 
 -- a listing and its length; a call that is refused leaves both as they were
@@ -19,26 +13,3 @@ pub record Lists (file before after : List ℕ) (n m r : ℕ) : Type 0 where
   pub number : r ≡ listRefusal file (length before)
   pub written : m ≡ cond (eqb (listRefusal file (length before)) 0) (length (fileListing file)) n
   pub bytes : after ≡ sets before 0 (listedBytes file (length before))
-
--- the fields of a frame: the four bytes of its head, its five numbers and its value
-abbrev pub fieldsFrom : List ℕ → List ℕ → ℕ → Fields
-fieldsFrom head numbers value =
-    row (getD head 0 0) (getD head 1 0) (getD head 2 0) (getD head 3 0)
-    (getD numbers 0 0) (getD numbers 1 0) (getD numbers 2 0) (getD numbers 3 0) (getD numbers 4 0) value
-
--- .. encoded where they are right
-pub record EncodesFields (f : Fields) (before after : List ℕ) (r : ℕ) : Type 0 where
-  pub number : r ≡ refusal (sound f && fits before)
-  pub bytes : after ≡ cond (sound f) (framed (messageIn f) before) before
-
-abbrev pub fieldsStored : List ℕ → Decoded → List ℕ
-fieldsStored l (Accepted m) = sets l 0 (numbersOf (fieldsOf m))
-fieldsStored l Refused = l
-
--- "a lent output long enough?": ten numbers
-abbrev pub hasTen : List ℕ → Bool
-hasTen l = leb 10 (length l)
-
-pub record DecodesFields (frame before after : List ℕ) (r : ℕ) : Type 0 where
-  pub number : r ≡ refusal (hasTen before && isFrame frame)
-  pub fields : after ≡ cond (hasTen before) (fieldsStored before (messageOf frame)) before

@@ -1,9 +1,8 @@
 // The library that other languages link (`rt staticlib exports`): calls on numbers and slices, each 0 or 01's number of a refusal, which changes nothing.
 // A slice is two arguments, its address and its length.
-ghost use Rattle.exports.specs.Calls.{Lists, fieldsFrom, EncodesFields, DecodesFields};
-use fields::Fields;
-use frame::Decoded;
-use frame::Encoded;
+ghost use Rattle.exports.specs.Calls.{Lists};
+ghost use Rattle.frame_numbers.specs.Calls.{EncodesFields, DecodesFields};
+ghost use Rattle.numbers.specs.Numbers.{fieldsFrom};
 use run::Listed;
 
 // The listing of a run file's bytes, at the start of the output, and its length. 9 for what is no run file, 8 for an output that is too short.
@@ -30,26 +29,7 @@ pub extern "C" fn gevtsomi_encode(
 ) -> u8
     ensures { λ r. ⌜ EncodesFields (fieldsFrom (now (head .entry)) (now (numbers .entry)) value) (now (out .entry)) (now (out .exit)) r ⌝ }
 {
-    let f = Fields {
-        kind: head[0],
-        client: head[1],
-        object: head[2],
-        present: head[3],
-        number: numbers[0],
-        volume_expiry: numbers[1],
-        epoch: numbers[2],
-        version: numbers[3],
-        object_expiry: numbers[4],
-        value,
-    };
-    let m = fields::message_in(f);
-    if fields::same(fields::fields_of(m), f) {
-        return match frame::encode(m, out) {
-            Encoded::Written => 0,
-            Encoded::Refused => 8,
-        };
-    }
-    8
+    frame_numbers::encode(head, numbers, value, out)
 }
 
 // The fields of a frame's message, as ten numbers in the frame's order.
@@ -57,14 +37,5 @@ pub extern "C" fn gevtsomi_encode(
 pub extern "C" fn gevtsomi_decode(frame: &[u8], fields: &mut [u64]) -> u8
     ensures { λ r. ⌜ DecodesFields (now (frame .entry)) (now (fields .entry)) (now (fields .exit)) r ⌝ }
 {
-    if fields.len() < 10 {
-        return 8;
-    }
-    match frame::decode(frame) {
-        Decoded::Accepted(m) => {
-            numbers::store(fields, fields::fields_of(m));
-            0
-        }
-        Decoded::Refused => 8,
-    }
+    frame_numbers::decode(frame, fields)
 }

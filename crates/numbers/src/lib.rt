@@ -3,7 +3,7 @@ ghost use Prim.Native.Nat.{_≤_};
 ghost use mathlib.Core.Path.{_≡_};
 ghost use lib.ListN.{length};
 ghost use lib.Seq.{sets};
-ghost use Rattle.numbers.specs.Numbers.{numbersOf};
+ghost use Rattle.numbers.specs.Numbers.{numbersOf, fieldsFrom};
 use fields::Fields;
 
 pub fn store(out: &mut [u64], f: Fields)
@@ -20,4 +20,21 @@ pub fn store(out: &mut [u64], f: Fields)
     out[7] = f.version as u64;
     out[8] = f.object_expiry as u64;
     out[9] = f.value;
+}
+
+pub fn fields_from(head: &[u8; 4], numbers: &[u32; 5], value: u64) -> Fields
+    ensures { λ r. ⌜ r ≡ fieldsFrom (now (head .entry)) (now (numbers .entry)) value ⌝ }
+{
+    Fields {
+        kind: head[0],
+        client: head[1],
+        object: head[2],
+        present: head[3],
+        number: numbers[0],
+        volume_expiry: numbers[1],
+        epoch: numbers[2],
+        version: numbers[3],
+        object_expiry: numbers[4],
+        value,
+    }
 }

@@ -16,13 +16,13 @@ same-length : tie.Need-same-length
 same-length c = search needs
 
 returns : tie.Need-returns
-returns c = search (list-written, needs)
+returns c = search list-written
 
 same-length-2 : tie.Need-same-length-2
 same-length-2 c = search needs
 
 returns-2 : tie.Need-returns-2
-returns-2 c = search (list-refused, needs)
+returns-2 c = search list-refused
 
 pub gevtsomi-list-spec : {M : Type 1} → statement M
 gevtsomi-list-spec =

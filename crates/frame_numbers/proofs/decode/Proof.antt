@@ -1,10 +1,10 @@
-use Rattle.exports.proofs.Laws.{decode-short, decode-yes, decode-no}
+use Rattle.frame_numbers.proofs.Laws.{decode-short, decode-yes, decode-no}
 use borrow.Author.Needs.{needs}
-use Rattle.exports.proofs.gevtsomi_decode.Statement.{statement}
-use Rattle.exports.proofs.gevtsomi_decode.Tie as tie
+use Rattle.frame_numbers.proofs.decode.Statement.{statement}
+use Rattle.frame_numbers.proofs.decode.Tie as tie
 
 returns : tie.Need-returns
-returns c = search (decode-short, needs)
+returns c = search decode-short
 
 decode-requires : tie.Need-decode-requires
 decode-requires c κs = search needs
@@ -25,13 +25,13 @@ same-length : tie.Need-same-length
 same-length c = search needs
 
 returns-2 : tie.Need-returns-2
-returns-2 c = search (decode-yes, needs)
+returns-2 c = search decode-yes
 
 returns-3 : tie.Need-returns-3
-returns-3 c = search (decode-no, needs)
+returns-3 c = search decode-no
 
-pub gevtsomi-decode-spec : {M : Type 1} → statement M
-gevtsomi-decode-spec =
+pub decode-spec : {M : Type 1} → statement M
+decode-spec =
     tie.close
     (tie.spec
     returns
