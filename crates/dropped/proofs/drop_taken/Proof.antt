@@ -1,7 +1,7 @@
-use Rattle.server.proofs.Dropping.{drop-takes}
+use Rattle.dropped.proofs.Dropping.{drop-takes}
 use borrow.Author.Needs.{needs}
-use Rattle.server.proofs.dropped.drop_taken.Statement.{statement}
-use Rattle.server.proofs.dropped.drop_taken.Tie as tie
+use Rattle.dropped.proofs.drop_taken.Statement.{statement}
+use Rattle.dropped.proofs.drop_taken.Tie as tie
 
 mul-offer : tie.Need-mul-offer
 mul-offer c = search needs

@@ -1,10 +1,10 @@
 use native.Mathlib.Omega.{arith}
 use mathlib.Core.List.{[]}
 use Rattle.words.specs.Reads.{version-word}
-use Rattle.server.proofs.Acking.{ack-stands, ack-rests, standing-version}
+use Rattle.ack.proofs.Acking.{ack-stands, ack-rests, standing-version}
 use borrow.Author.Needs.{needs}
-use Rattle.server.proofs.ack.ack_taken.Statement.{statement}
-use Rattle.server.proofs.ack.ack_taken.Tie as tie
+use Rattle.ack.proofs.ack_taken.Statement.{statement}
+use Rattle.ack.proofs.ack_taken.Tie as tie
 
 volume-of-requires : tie.Need-volume-of-requires
 volume-of-requires c κs = search needs

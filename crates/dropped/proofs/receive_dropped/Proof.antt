@@ -1,9 +1,9 @@
 use native.Mathlib.Omega.{arith}
 use Rattle.protocol.specs.Ranges.{ranges}
-use Rattle.server.proofs.Dropping.{drop-grows, drop-yes, drop-no}
+use Rattle.dropped.proofs.Dropping.{drop-grows, drop-yes, drop-no}
 use borrow.Author.Needs.{needs}
-use Rattle.server.proofs.dropped.receive_dropped.Statement.{statement}
-use Rattle.server.proofs.dropped.receive_dropped.Tie as tie
+use Rattle.dropped.proofs.receive_dropped.Statement.{statement}
+use Rattle.dropped.proofs.receive_dropped.Tie as tie
 
 drop-taken-requires : tie.Need-drop-taken-requires
 drop-taken-requires c κs = ((omega (arith, c .before .pre .1 .1 .0, ranges _ (c .before .pre .0) .clients .1)), (omega (arith, c .before .pre .1 .1 .1, ranges _ (c .before .pre .0) .volumes .1)))

@@ -6,8 +6,8 @@ use Rattle.laws.specs.Store.{storeAt, storeEach}
 use Rattle.protocol.specs.Tables.{byObject}
 use Rattle.protocol.specs.Server.{ofVolume}
 use borrow.Author.Needs.{needs}
-use Rattle.server.proofs.dropped.clear_in_volume.Statement.{statement}
-use Rattle.server.proofs.dropped.clear_in_volume.Tie as tie
+use Rattle.dropped.proofs.clear_in_volume.Statement.{statement}
+use Rattle.dropped.proofs.clear_in_volume.Tie as tie
 
 abbrev Inv-loop : tie.InvT-loop
 Inv-loop s words₀ field client volume n object₀ words object = (object ≤ s .objects) × (foldFrom (storeAt (ofVolume s volume) (λ (o : ℕ). field + byObject client o) (λ (o : ℕ). 0)) words object (s .objects - object) ≡ foldFrom (storeAt (ofVolume s volume) (λ (o : ℕ). field + byObject client o) (λ (o : ℕ). 0)) words₀ 0 (s .objects))

@@ -1,9 +1,9 @@
 use native.Mathlib.Omega.{arith}
 use Rattle.protocol.specs.Ranges.{ranges}
-use Rattle.server.proofs.Acking.{grows-numbers, ack-version, ack-keeps, ack-yes, ack-no}
+use Rattle.ack.proofs.Acking.{grows-numbers, ack-version, ack-keeps, ack-yes, ack-no}
 use borrow.Author.Needs.{needs}
-use Rattle.server.proofs.ack.receive_ack.Statement.{statement}
-use Rattle.server.proofs.ack.receive_ack.Tie as tie
+use Rattle.ack.proofs.receive_ack.Statement.{statement}
+use Rattle.ack.proofs.receive_ack.Tie as tie
 
 ack-taken-requires : tie.Need-ack-taken-requires
 ack-taken-requires c κs = let a = c .before in (a .pre .0, (grows-numbers _ _ (a .args .values .now) (a .pre .1 .0), a .pre .1 .1 .1))
