@@ -21,7 +21,7 @@ use Rattle.protocol.specs.Server.{sent}
 use Rattle.leases.specs.Parts.{Placed, latestBy}
 use Rattle.words.specs.Fields.{wordLengths, valueLengths, at, atValue, CLOCK, VOLUME-EPOCH, VOLUME-EXPIRY, GUARD, VERSION, OBJECT-EXPIRY, STANDING, END, WAITING, PENDING}
 use Rattle.words.specs.View.{tablesOf, recordsOf}
-use Rattle.waiting.specs.Triggers.{oneStaged}
+use Rattle.triggers.specs.Triggers.{oneStaged}
 use Rattle.waiting.specs.Waiting.{waitingFor, waitingIn, waitsIn}
 use Rattle.accept.specs.Invalidates.{notifyOne, invalidated}
 

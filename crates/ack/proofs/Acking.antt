@@ -19,7 +19,7 @@ use Rattle.protocol.specs.Server.{acked, ackTaken, ackStaged}
 use Rattle.leases.specs.Parts.{Placed}
 use Rattle.words.specs.Fields.{wordLengths, at, VOLUME-EPOCH, VERSION, STANDING, LEASE, WAITING}
 use Rattle.words.specs.View.{tablesOf, numbersOf, recordsOf}
-use Rattle.waiting.specs.Triggers.{oneStaged}
+use Rattle.triggers.specs.Triggers.{oneStaged}
 
 pub grows-numbers : (s : Setup) (w x : List ℕ) → Growing s (tablesOf w x .objects) → Growing s (numbersOf w .objects)
 unfolding tablesOf

@@ -16,7 +16,7 @@ use Rattle.protocol.specs.Leases.{guardPassed}
 use Rattle.leases.specs.Parts.{Placed}
 use Rattle.words.specs.Fields.{wordLengths, valueLengths, at, atValue, UNREACHABLE, VERSION, STANDING, END, LEASE, WAITING, VALUE, PENDING}
 use Rattle.words.specs.View.{tablesOf, numbersOf, recordsOf}
-use Rattle.waiting.specs.Triggers.{oneStaged}
+use Rattle.triggers.specs.Triggers.{oneStaged}
 use Rattle.waiting.specs.Waiting.{waitingFor, waitingIn}
 
 -- the test reads no value

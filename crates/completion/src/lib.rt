@@ -6,11 +6,10 @@ ghost use Rattle.protocol.specs.Setup.{inRange};
 ghost use Rattle.protocol.specs.Tables.{versionAt, withObjects};
 ghost use Rattle.protocol.specs.Writes.{posted, completed, settled};
 ghost use Rattle.words.specs.View.{tablesOf, recordsOf};
-ghost use Rattle.waiting.specs.Triggers.{oneStaged};
+ghost use Rattle.triggers.specs.Triggers.{oneStaged};
 use leases::place;
 use protocol::setup::Setup;
 use waiting::clients;
-use waiting::test;
 use words::Values;
 use words::Words;
 use words::server;
@@ -53,7 +52,7 @@ pub fn settle_one(s: Setup, words: &mut Words, values: &mut Values, object: usiz
     ensures { λ r. ⌜ record { count = r; tables = tablesOf (now (words .exit)) (now (values .exit)) } ≡ settled s (oneStaged s (tablesOf (now (words .entry)) (now (values .entry))) object) ⌝ }
     ensures { λ _. ⌜ recordsOf (now (words .exit)) (now (values .exit)) ≡ recordsOf (now (words .entry)) (now (values .entry)) ⌝ }
 {
-    if test::ready(s, &*words, object) {
+    if triggers::ready(s, &*words, object) {
         complete(s, &mut *words, &mut *values, object);
         return 1;
     }

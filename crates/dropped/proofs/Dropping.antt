@@ -17,8 +17,8 @@ use Rattle.protocol.specs.Writes.{Counted, settled}
 use Rattle.protocol.specs.Server.{ofVolume, disowned, dropped, dropTaken, dropStaged}
 use Rattle.words.specs.Fields.{wordLengths, at, VOLUME-EPOCH, SESSION-EXPIRY, UNREACHABLE, OFFER, LEASE, WAITING}
 use Rattle.words.specs.View.{tablesOf, numbersOf, recordsOf}
-use Rattle.waiting.specs.declared.test.Trigger.the-variants.{Volume}
-use Rattle.waiting.specs.Triggers.{triggered, triggerStaged}
+use Rattle.triggers.specs.declared.Trigger.the-variants.{Volume}
+use Rattle.triggers.specs.Triggers.{triggered, triggerStaged}
 
 pub drop-takes : (w : List ℕ) (d v n e : ℕ) → d < 16 → v < 8
     → (eqb e (getD w (at VOLUME-EPOCH + v) 0) && (not (eqb n 0) && eqb n (getD w (at OFFER + byVolume d v) 0))) ≡ dropTaken (numbersOf w) d v n e

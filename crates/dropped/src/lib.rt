@@ -12,7 +12,7 @@ ghost use Rattle.words.specs.Fields.{WORDS};
 ghost use Rattle.words.specs.View.{tablesOf, numbersOf, recordsOf};
 use leases::place;
 use protocol::setup::Setup;
-use waiting::test::Trigger;
+use triggers::Trigger;
 use words::Values;
 use words::Words;
 use words::pass;

@@ -1,2 +1,1 @@
 pub mod Waiting
-pub mod Triggers

@@ -19,9 +19,9 @@ use Rattle.protocol.specs.Server.{ofVolume}
 use Rattle.protocol.specs.SoundLaws.{Growing, completed-keeps}
 use Rattle.words.specs.Fields.{wordLengths, WORDS, CLOCK}
 use Rattle.words.specs.View.{tablesOf, numbersOf, recordsOf}
-use Rattle.waiting.specs.declared.test.Trigger.{Trigger}
-use Rattle.waiting.specs.declared.test.Trigger.the-variants.{Clock, Volume}
-use Rattle.waiting.specs.Triggers.{triggered, triggerStaged}
+use Rattle.triggers.specs.declared.Trigger.{Trigger}
+use Rattle.triggers.specs.declared.Trigger.the-variants.{Clock, Volume}
+use Rattle.triggers.specs.Triggers.{triggered, triggerStaged}
 
 -- the tests read no value
 triggered-same : (s : Setup) (p : Trigger) (w x : List ℕ) → triggered s p (numbersOf w) ≡ triggered s p (tablesOf w x)

@@ -5,11 +5,11 @@ ghost use Rattle.protocol.specs.Setup.{inRange};
 ghost use Rattle.protocol.specs.SoundLaws.{Growing};
 ghost use Rattle.protocol.specs.Writes.{settled, clockStaged};
 ghost use Rattle.words.specs.View.{tablesOf, recordsOf};
-ghost use Rattle.waiting.specs.Triggers.{triggerStaged};
+ghost use Rattle.triggers.specs.Triggers.{triggerStaged};
 use completion::complete;
 use protocol::setup::Setup;
-use waiting::test;
-use waiting::test::Trigger;
+use triggers::Trigger;
+use triggers::next_triggered;
 use words::Values;
 use words::Words;
 use words::network;
@@ -26,7 +26,7 @@ pub fn settle(s: Setup, trigger: Trigger, words: &mut Words, values: &mut Values
     let mut count: u32 = 0;
     let mut from = 0;
     loop {
-        let object = test::next_triggered(s, trigger, &*words, from);
+        let object = next_triggered(s, trigger, &*words, from);
         if n <= object {
             break;
         }

@@ -7,7 +7,7 @@ use Rattle.protocol.specs.Writes.{completeIf, settled}
 use Rattle.protocol.specs.Ranges.{ranges}
 use Rattle.protocol.specs.SoundLaws.{Growing}
 use Rattle.words.specs.View.{tablesOf, recordsOf}
-use Rattle.waiting.specs.Triggers.{triggered}
+use Rattle.triggers.specs.Triggers.{triggered}
 use Rattle.writes.proofs.Settling.{settle-version, settle-end, settle-again, settle-grows}
 use borrow.Author.Needs.{needs}
 use Rattle.writes.proofs.settle.settle.Statement.{statement}

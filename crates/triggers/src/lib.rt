@@ -1,4 +1,4 @@
-// When a standing write completes.
+// Which standing writes are ready or due (01, "Steps" 1 and 4), and what makes the server go through them.
 ghost use mathlib.Core.Path.{_≡_};
 ghost use mathlib.Core.Bool.{true};
 ghost use Prim.Native.Nat.{_≤_, _<_};
@@ -6,11 +6,11 @@ ghost use Rattle.laws.specs.Skip.{Found};
 ghost use Rattle.protocol.specs.Setup.{inRange};
 ghost use Rattle.protocol.specs.Writes.{ready, due};
 ghost use Rattle.words.specs.View.{numbersOf};
-ghost use Rattle.waiting.specs.Triggers.{triggered};
-use crate::clients;
+ghost use Rattle.triggers.specs.Triggers.{triggered};
 use leases::place;
 use leases::time;
 use protocol::setup::Setup;
+use waiting::clients;
 use words::Words;
 use words::network;
 use words::server;

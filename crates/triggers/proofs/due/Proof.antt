@@ -1,9 +1,9 @@
 use native.Mathlib.Omega.{arith}
 use Rattle.protocol.specs.Ranges.{ranges}
-use Rattle.waiting.proofs.Tests.{due-ready, due-over}
+use Rattle.triggers.proofs.Tests.{due-ready, due-over}
 use borrow.Author.Needs.{needs}
-use Rattle.waiting.proofs.test.due.Statement.{statement}
-use Rattle.waiting.proofs.test.due.Tie as tie
+use Rattle.triggers.proofs.due.Statement.{statement}
+use Rattle.triggers.proofs.due.Tie as tie
 
 ready-requires : tie.Need-ready-requires
 ready-requires c κs = search needs

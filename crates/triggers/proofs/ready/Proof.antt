@@ -1,7 +1,7 @@
-use Rattle.waiting.proofs.Tests.{ready-yes, ready-no}
+use Rattle.triggers.proofs.Tests.{ready-yes, ready-no}
 use borrow.Author.Needs.{needs}
-use Rattle.waiting.proofs.test.ready.Statement.{statement}
-use Rattle.waiting.proofs.test.ready.Tie as tie
+use Rattle.triggers.proofs.ready.Statement.{statement}
+use Rattle.triggers.proofs.ready.Tie as tie
 
 volume-of-requires : tie.Need-volume-of-requires
 volume-of-requires c κs = search needs

@@ -1,7 +1,7 @@
-use Rattle.waiting.proofs.Tests.{by-clock, by-volume, by-other}
+use Rattle.triggers.proofs.Tests.{by-clock, by-volume, by-other}
 use borrow.Author.Needs.{needs}
-use Rattle.waiting.proofs.test.triggered.Statement.{statement}
-use Rattle.waiting.proofs.test.triggered.Tie as tie
+use Rattle.triggers.proofs.triggered.Statement.{statement}
+use Rattle.triggers.proofs.triggered.Tie as tie
 
 enum-told : tie.Need-enum-told
 enum-told c = search needs

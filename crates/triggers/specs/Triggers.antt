@@ -5,8 +5,8 @@ use Rattle.protocol.specs.declared.setup.Setup.{Setup}
 use Rattle.protocol.specs.declared.tables.Tables.{Tables}
 use Rattle.protocol.specs.Writes.{Staged, due, ready}
 use Rattle.protocol.specs.Server.{readyIn}
-use Rattle.waiting.specs.declared.test.Trigger.{Trigger}
-use Rattle.waiting.specs.declared.test.Trigger.the-variants.{Clock, Volume}
+use Rattle.triggers.specs.declared.Trigger.{Trigger}
+use Rattle.triggers.specs.declared.Trigger.the-variants.{Clock, Volume}
 
 -- a clock step completes what is due, a DROPPED what is ready in its volume
 unfoldable pub triggered : Setup → Trigger → Tables → ℕ → Bool

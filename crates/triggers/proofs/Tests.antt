@@ -19,10 +19,10 @@ use Rattle.protocol.specs.Writes.{ready, due, waited}
 use Rattle.leases.specs.Parts.{Placed}
 use Rattle.words.specs.Fields.{wordLengths, at, CLOCK, GUARD, STANDING, END}
 use Rattle.words.specs.View.{tablesOf, numbersOf}
-use Rattle.waiting.specs.declared.test.Trigger.{Trigger}
-use Rattle.waiting.specs.declared.test.Trigger.the-variants.{Clock, Volume}
-use Rattle.waiting.specs.Triggers.{triggered}
+use Rattle.triggers.specs.declared.Trigger.{Trigger}
+use Rattle.triggers.specs.declared.Trigger.the-variants.{Clock, Volume}
+use Rattle.triggers.specs.Triggers.{triggered}
 use Rattle.waiting.specs.Waiting.{waitingFor, waitingIn}
 
 or-in : (a b x : Bool) → (a && b) ≡ true → true ≡ (a && (b || x))
 or-in true true x e = refl

@@ -3,10 +3,10 @@ use Prim.Native.Nat.{_≤_, _-_}
 use Rattle.laws.specs.Loop.{firstFrom, first-again}
 use Rattle.laws.specs.Skip.{found-stop, found-end}
 use Rattle.words.specs.View.{numbersOf}
-use Rattle.waiting.specs.Triggers.{triggered}
+use Rattle.triggers.specs.Triggers.{triggered}
 use borrow.Author.Needs.{needs}
-use Rattle.waiting.proofs.test.next_triggered.Statement.{statement}
-use Rattle.waiting.proofs.test.next_triggered.Tie as tie
+use Rattle.triggers.proofs.next_triggered.Statement.{statement}
+use Rattle.triggers.proofs.next_triggered.Tie as tie
 
 abbrev Inv-loop : tie.InvT-loop
 Inv-loop s trigger words from n object₀ object = (from ≤ object) × (object ≤ s .objects) × (firstFrom (triggered s trigger (numbersOf words)) object (s .objects - object) ≡ firstFrom (triggered s trigger (numbersOf words)) from (s .objects - from))
