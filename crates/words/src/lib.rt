@@ -1,4 +1,4 @@
-// The whole state in two lent arrays of numbers: where each field stands, and passes over one field.
+// The whole state in two lent arrays of numbers: where each field stands, and stores into one field.
 pub mod client;
 pub mod fresh;
 pub mod network;

@@ -5,7 +5,6 @@ ghost use Prim.Native.Nat.{_+_, _≤_, _<_};
 ghost use lib.ListN.{set};
 ghost use Rattle.laws.specs.Flags.{wordOf};
 ghost use Rattle.laws.specs.Parts.{filling};
-ghost use Rattle.laws.specs.Shift.{shifting};
 ghost use Rattle.words.specs.Fields.{WORDS, VALUES};
 use crate::Values;
 use crate::Words;
@@ -43,18 +42,6 @@ pub fn fill(words: &mut Words, field: usize, n: usize, number: u32)
     }
 }
 
-// n words of the field, from `from` on, become those `wide` places further on.
-pub fn shift(words: &mut Words, field: usize, from: usize, n: usize, wide: usize)
-    requires { ⌜ field + (from + n + wide) ≤ WORDS ⌝ }
-    ensures { λ _. ⌜ now (words .exit) ≡ shifting field from n wide (now (words .entry)) ⌝ }
-{
-    let mut j = 0;
-    while j < n {
-        words[field + (from + j)] = words[field + (from + j + wide)];
-        j += 1;
-    }
-}
-
 // The same of the values.
 pub fn fill_values(values: &mut Values, field: usize, n: usize, number: u64)
     requires { ⌜ field + n ≤ VALUES ⌝ }
@@ -64,17 +51,6 @@ pub fn fill_values(values: &mut Values, field: usize, n: usize, number: u64)
     while i < n {
         values[field + i] = number;
         i += 1;
-    }
-}
-
-pub fn shift_values(values: &mut Values, field: usize, from: usize, n: usize, wide: usize)
-    requires { ⌜ field + (from + n + wide) ≤ VALUES ⌝ }
-    ensures { λ _. ⌜ now (values .exit) ≡ shifting field from n wide (now (values .entry)) ⌝ }
-{
-    let mut j = 0;
-    while j < n {
-        values[field + (from + j)] = values[field + (from + j + wide)];
-        j += 1;
     }
 }
 

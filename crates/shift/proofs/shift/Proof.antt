@@ -6,8 +6,8 @@ use Rattle.laws.specs.Loop.{foldFrom, fold-end}
 use Rattle.laws.specs.Store.{storeAt, storeEach, always}
 use Rattle.laws.specs.Shift.{Above, shift-keeps, shift-again}
 use borrow.Author.Needs.{needs}
-use Rattle.words.proofs.pass.shift.Statement.{statement}
-use Rattle.words.proofs.pass.shift.Tie as tie
+use Rattle.shift.proofs.shift.Statement.{statement}
+use Rattle.shift.proofs.shift.Tie as tie
 
 abbrev Inv-loop : tie.InvT-loop
 Inv-loop words₀ field from n wide j₀ words j = (j ≤ n) × (Above words₀ words (field + (from + j)) × (foldFrom (storeAt always (λ (j : ℕ). field + (from + j)) (λ (j : ℕ). getD words₀ (field + (from + j + wide)) 0)) words j (n - j) ≡ foldFrom (storeAt always (λ (j : ℕ). field + (from + j)) (λ (j : ℕ). getD words₀ (field + (from + j + wide)) 0)) words₀ 0 n))

@@ -6,8 +6,8 @@ use Rattle.laws.specs.Loop.{foldFrom, fold-end}
 use Rattle.laws.specs.Store.{storeAt, storeEach, always}
 use Rattle.laws.specs.Shift.{Above, shift-keeps, shift-again}
 use borrow.Author.Needs.{needs}
-use Rattle.words.proofs.pass.shift_values.Statement.{statement}
-use Rattle.words.proofs.pass.shift_values.Tie as tie
+use Rattle.shift.proofs.shift_values.Statement.{statement}
+use Rattle.shift.proofs.shift_values.Tie as tie
 
 abbrev Inv-loop : tie.InvT-loop
 Inv-loop values₀ field from n wide j₀ values j = (j ≤ n) × (Above values₀ values (field + (from + j)) × (foldFrom (storeAt always (λ (j : ℕ). field + (from + j)) (λ (j : ℕ). getD values₀ (field + (from + j + wide)) 0)) values j (n - j) ≡ foldFrom (storeAt always (λ (j : ℕ). field + (from + j)) (λ (j : ℕ). getD values₀ (field + (from + j + wide)) 0)) values₀ 0 n))
