@@ -14,7 +14,8 @@ use Rattle.protocol.specs.declared.step.Answer.{Answer}
 use Rattle.protocol.specs.declared.step.Step.{Step}
 use Rattle.protocol.specs.Gate.{orRefuse}
 use Rattle.protocol.specs.World.{World, freshWorld, stepped, ran, answers}
-use Rattle.shape.specs.Shape.{setupPlace, setupIn, wellFormed}
+use Rattle.file_records.specs.Records.{setupIn}
+use Rattle.shape.specs.Shape.{setupPlace, wellFormed}
 use Rattle.shape.specs.Parts.{Parts, formed-parts}
 use Rattle.runfile.specs.Steps.{stepsOf, length-steps}
 use Rattle.listing.specs.Listing.{header, linesFrom, listingOf, length-header, listing-short}

@@ -15,7 +15,8 @@ use Rattle.protocol.specs.Setup.{inRange}
 use Rattle.protocol.specs.Answers.{answerValue}
 use Rattle.protocol.specs.World.{World, freshWorld, stepped, answerOf, answers}
 use Rattle.protocol.specs.Soundness.Question.{SoundWorld, fresh-sound, stepped-sound}
-use Rattle.shape.specs.Shape.{placeOf, stepIn}
+use Rattle.file_records.specs.Records.{stepIn}
+use Rattle.shape.specs.Shape.{placeOf}
 use Rattle.runfile.specs.File.{stepAt}
 use Rattle.runfile.specs.Steps.{stepsFrom}
 use Rattle.listing.specs.Listing.{lineOf, linesFrom, line-short, answer-small}

@@ -9,7 +9,8 @@ use lib.Seq.{length-take-le}
 use borrow.Author.Tests.{le-leb, lt-leb}
 use Rattle.protocol.specs.declared.setup.Setup.{Setup}
 use Rattle.protocol.specs.declared.step.Step.{Step}
-use Rattle.shape.specs.Shape.{countOf, setupPlace, placeOf, setupIn, stepIn, wellFormed, noStep}
+use Rattle.file_records.specs.Records.{setupIn, stepIn, noStep}
+use Rattle.shape.specs.Shape.{countOf, setupPlace, placeOf, wellFormed}
 use Rattle.shape.specs.Parts.{Parts, formed-parts}
 use Rattle.runfile.specs.declared.Contents.{Contents}
 use Rattle.runfile.specs.File.{stepAt, contents, contentsOf, noContents, noteOf}

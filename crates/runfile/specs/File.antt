@@ -6,7 +6,8 @@ use lib.Dec.{leb}
 use lib.ListN.{length, take, replicate}
 use Rattle.protocol.specs.declared.setup.Setup.{Setup}
 use Rattle.protocol.specs.declared.step.Step.{Step}
-use Rattle.shape.specs.Shape.{countOf, setupPlace, firstPlace, placeOf, setupIn, stepIn, noStep, wellFormed}
+use Rattle.file_records.specs.Records.{setupIn, stepIn, noStep}
+use Rattle.shape.specs.Shape.{countOf, setupPlace, firstPlace, placeOf, wellFormed}
 use Rattle.runfile.specs.declared.Contents.{Contents}
 
 -- what is read of a file that is refused

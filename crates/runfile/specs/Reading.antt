@@ -10,7 +10,8 @@ use lib.ListN.{getD}
 use Rattle.laws.specs.Choice.{true-or-false, and-true}
 use Rattle.protocol.specs.declared.step.Step.{Step}
 use Rattle.protocol.specs.Setup.{inRange}
-use Rattle.shape.specs.Shape.{countOf, setupPlace, firstPlace, reserved, setupIn, stepsFit, measured, contentsFit, wellFormed}
+use Rattle.file_records.specs.Records.{setupIn}
+use Rattle.shape.specs.Shape.{countOf, setupPlace, firstPlace, reserved, stepsFit, measured, contentsFit, wellFormed}
 use Rattle.shape.specs.Parts.{formed-parts}
 use Rattle.runfile.specs.declared.Contents.{Contents}
 use Rattle.runfile.specs.File.{stepAt, contents, contentsOf}

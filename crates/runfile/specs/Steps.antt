@@ -6,7 +6,8 @@ use mathlib.Core.Path.{_≡_, refl, ap}
 use lib.ListN.{length, getD}
 use borrow.Author.Tests.{le-leb}
 use Rattle.protocol.specs.declared.step.Step.{Step}
-use Rattle.shape.specs.Shape.{countOf, firstPlace, placeOf, stepIn}
+use Rattle.file_records.specs.Records.{stepIn}
+use Rattle.shape.specs.Shape.{countOf, firstPlace, placeOf}
 use Rattle.shape.specs.Parts.{Parts, whole}
 use Rattle.runfile.specs.File.{stepAt}
 

@@ -3,7 +3,6 @@ ghost use mathlib.Core.Path.{_≡_};
 ghost use Rattle.runfile.specs.File.{noContents, contentsOf, noteOf, stepAt};
 use protocol::setup::Setup;
 use protocol::step::Step;
-use shape::record;
 
 // What a run file holds: the setup, how many steps, and where their records begin. `refusal` is 9 for a file that is not shaped as 01 says, and 0
 // for one that is; the other fields of a refused file are 0.
@@ -43,7 +42,7 @@ pub fn read(file: &[u8]) -> Contents
         let at = shape::setup_place(file);
         return Contents {
             refusal: 0,
-            setup: record::setup_in(file, at),
+            setup: file_records::setup_in(file, at),
             count: shape::count_of(file),
             first: at + 48,
         };
@@ -68,10 +67,10 @@ pub fn step_at(file: &[u8], first: usize, k: usize) -> Step
 {
     let n = file.len();
     if n < first {
-        return record::no_step();
+        return file_records::no_step();
     }
     if k < (n - first) / 16 {
-        return record::step_in(file, first + 16 * k);
+        return file_records::step_in(file, first + 16 * k);
     }
-    record::no_step()
+    file_records::no_step()
 }

@@ -1,40 +1,31 @@
 -- What each way through a function, or a loop's turn, found, put together.
-use Prim.Native.Nat.{ℕ, zero, suc, _+_, _-_, _≤_, _<_}
-use native.Mathlib.Numerals.{add-one}
-use native.Mathlib.Omega.{arith}
-use mathlib.Core.Bool.{Bool, true, false, _&&_}
-use mathlib.Core.List.{List, [], _∷_, _++_}
+use Prim.Native.Nat.{ℕ, _+_, _-_, _≤_, _<_}
+use mathlib.Core.Bool.{Bool, true, false, not, _&&_, _||_}
+use mathlib.Core.List.{List}
 use mathlib.Core.Path.{_≡_, sym, ap, _∙_}
 use lib.Dec.{eqb}
-use lib.ListN.{length, getD, set, take}
-use lib.Seq.{take-suc-set, take-length}
+use lib.ListN.{length, getD}
 use borrow.Author.Tests.{le-leb, lt-leb}
 use Rattle.laws.specs.Loop.{allFrom, all-by}
-use Rattle.layout.specs.Number.{bytesAt}
 use Rattle.protocol.specs.declared.setup.Setup.{Setup}
 use Rattle.protocol.specs.declared.step.Step.{Step}
 use Rattle.protocol.specs.Setup.{inRange}
-use Rattle.shape.specs.Shape.{countOf, distanceOf, setupPlace, placeOf, setupIn, stepIn, stepFits, stepFitsAt, stepsFit, trailerFits, measured, contentsFit, wellFormed}
+use Rattle.protocol.specs.Gate.{isClock, isWrite, usesClient, usesObject, usesPlace, known}
+use Rattle.file_records.specs.Records.{setupIn, stepIn}
+use Rattle.shape.specs.Shape.{countOf, distanceOf, setupPlace, placeOf, stepFits, stepFitsAt, stepsFit, trailerFits, measured, contentsFit, wellFormed}
 use Rattle.shape.specs.Parts.{Parts, parts}
 
--- bytes taken one after the other
-bytes-more : (l : List ℕ) (p w : ℕ) → bytesAt l p (suc w) ≡ bytesAt l p w ++ (getD l (p + w) 0 ∷ [])
-unfolding bytesAt
-bytes-more l p zero =
-    let e : p + 0 ≡ p = omega arith in
-    rw e
-bytes-more l p (suc w) =
-    let e : p + 1 + w ≡ p + suc w = omega arith in
-    ap (_∷_ (getD l p 0)) (bytes-more l (p + 1) w ∙ rw e)
-
-module _ (l v : List ℕ) (p o : ℕ) where
-  pub copy-again : o < length v → take o v ≡ bytesAt l p o → take (o + 1) (set v o (getD l (p + o) 0)) ≡ bytesAt l p (o + 1)
-  copy-again h e = rw (add-one, take-suc-set v o (getD l (p + o) 0) h, e) (sym (bytes-more l p o))
-
-  pub copy-end : length v ≡ 32 → 32 ≤ o → o ≤ 32 → take o v ≡ bytesAt l p o → v ≡ bytesAt l p 32
-  copy-end k g h e =
-      let i : o ≡ 32 = omega arith in
-      sym (rw k at (take-length v)) ∙ (rw i at e)
+-- which fields the step uses, as the calls gave it
+pub fits-by : (x : Step) (client object place clock value k : Bool) → client ≡ usesClient x → object ≡ usesObject x → place ≡ usesPlace x → clock ≡ isClock x
+    → value ≡ isWrite x → k ≡ known x
+    → (not k
+    || (client || eqb (x .client) 0)
+    && (object || eqb (x .object) 0)
+    && (place || eqb (x .place) 0)
+    && (clock || eqb (x .clock) 0)
+    && (value || eqb (x .value) 0)) ≡ stepFits x
+unfolding stepFits
+fits-by x client object place clock value k e f g h i j = rw (e, f, g, h, i, j)
 
 -- one step asked about
 pub steps-again : (l : List ℕ) (first N k : ℕ) (x : Step) (ok r A : Bool) → k < N → x ≡ stepIn l (placeOf first k) → r ≡ stepFits x

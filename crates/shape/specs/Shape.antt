@@ -1,15 +1,15 @@
--- 01, "Frame, run file and listing": where the parts of a run file stand, what a setup and a step are in its bytes, and which files are shaped so.
+-- 01, "Frame, run file and listing": where the parts of a run file stand, and which files are shaped so.
 use Prim.Native.Nat.{ℕ, _+_, _-_, _*_}
 use mathlib.Core.Bool.{Bool, not, _&&_, _||_}
 use mathlib.Core.List.{List}
 use lib.Dec.{leb, eqb}
 use lib.ListN.{length, getD}
 use Rattle.laws.specs.Loop.{allFrom}
-use Rattle.layout.specs.Number.{bytesAt, numberAt}
-use Rattle.protocol.specs.declared.setup.Setup.{Setup}
+use Rattle.layout.specs.Number.{numberAt}
 use Rattle.protocol.specs.declared.step.Step.{Step}
 use Rattle.protocol.specs.Setup.{between, inRange}
 use Rattle.protocol.specs.Gate.{isClock, isWrite, usesClient, usesObject, usesPlace, known}
+use Rattle.file_records.specs.Records.{setupIn, stepIn}
 
 -- "trailer of 8: step count, then the distance from the file's end back to the setup"
 abbrev pub countOf : List ℕ → ℕ
@@ -28,35 +28,9 @@ firstPlace l = setupPlace l + 48
 abbrev pub placeOf : ℕ → ℕ → ℕ
 placeOf first k = first + 16 * k
 
--- "setup (48 bytes: dash, volume and object counts, a 0, tv, t, m, 32 volume bytes)"
-unfoldable pub setupIn : List ℕ → ℕ → Setup
-setupIn l p = record {
-  clients = getD l p 0;
-  volumes = getD l (p + 1) 0;
-  objects = getD l (p + 2) 0;
-  tv = numberAt l (p + 4) 4;
-  t = numberAt l (p + 8) 4;
-  m = numberAt l (p + 12) 4;
-  volume = bytesAt l (p + 16) 32;
-}
-
+-- the 0 after a setup's counts
 abbrev pub reserved : List ℕ → ℕ → ℕ
 reserved l p = getD l (p + 3) 0
-
--- "steps of 16 bytes (kind, dash, object, place; clock in 4; value in 8)"
-unfoldable pub stepIn : List ℕ → ℕ → Step
-stepIn l p = record {
-  kind = getD l p 0;
-  client = getD l (p + 1) 0;
-  object = getD l (p + 2) 0;
-  place = getD l (p + 3) 0;
-  clock = numberAt l (p + 4) 4;
-  value = numberAt l (p + 8) 8;
-}
-
--- a step with nothing in it
-abbrev pub noStep : Step
-noStep = record { kind = 0; client = 0; object = 0; place = 0; clock = 0; value = 0 }
 
 -- "unused fields 0". "Its shape asks nothing of an unknown kind or of that step's fields."
 unfoldable pub stepFits : Step → Bool

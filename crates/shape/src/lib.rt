@@ -1,5 +1,4 @@
-// What stands in the bytes of a run file, and which files are shaped as 01 says.
-pub mod record;
+// Where the parts of a run file stand, and which files are shaped as 01 says.
 
 ghost use Prim.Native.Nat.{_+_, _*_, _≤_};
 ghost use mathlib.Core.Path.{_≡_};
@@ -28,7 +27,7 @@ fn steps_fit(file: &[u8], first: usize, count: u32) -> bool
     let mut ok = true;
     let mut k = 0;
     while k < n {
-        ok = ok & step_fits(record::step_in(file, first + 16 * k));
+        ok = ok & step_fits(file_records::step_in(file, first + 16 * k));
         k += 1;
     }
     ok
@@ -80,7 +79,7 @@ fn contents_fit(file: &[u8]) -> bool
     ensures { λ r. ⌜ r ≡ contentsFit (now (file .entry)) ⌝ }
 {
     let at = setup_place(file);
-    let head = (file[at + 3] == 0) & setup::in_range(record::setup_in(file, at));
+    let head = (file[at + 3] == 0) & setup::in_range(file_records::setup_in(file, at));
     head & steps_fit(file, at + 48, count_of(file))
 }
 

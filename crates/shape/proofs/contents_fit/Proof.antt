@@ -28,7 +28,7 @@ steps-fit-requires : tie.Need-steps-fit-requires
 steps-fit-requires c κs = search needs
 
 returns : tie.Need-returns
-returns c = search (contents-by, needs)
+returns c = search contents-by
 
 pub contents-fit-spec : {M : Type 1} → statement M
 contents-fit-spec =

@@ -4,10 +4,10 @@ use Rattle.shape.proofs.measured.Statement.{statement}
 use Rattle.shape.proofs.measured.Tie as tie
 
 returns : tie.Need-returns
-returns c = search (too-short, needs)
+returns c = search too-short
 
 returns-2 : tie.Need-returns-2
-returns-2 c = search (too-long, needs)
+returns-2 c = search too-long
 
 sub-read-u32 : tie.Need-sub-read-u32
 sub-read-u32 c = search needs
@@ -25,7 +25,7 @@ trailer-fits-requires : tie.Need-trailer-fits-requires
 trailer-fits-requires c κs = search needs
 
 returns-3 : tie.Need-returns-3
-returns-3 c = search (by-trailer, needs)
+returns-3 c = search by-trailer
 
 pub measured-spec : {M : Type 1} → statement M
 measured-spec =

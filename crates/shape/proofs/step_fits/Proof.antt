@@ -1,5 +1,5 @@
 use borrow.Author.Needs.{needs}
-use Rattle.shape.specs.Shape.{stepFits}
+use Rattle.shape.proofs.Laws.{fits-by}
 use Rattle.shape.proofs.step_fits.Statement.{statement}
 use Rattle.shape.proofs.step_fits.Tie as tie
 
@@ -22,8 +22,7 @@ known-requires : tie.Need-known-requires
 known-requires c κs = search needs
 
 returns : tie.Need-returns
-unfolding stepFits
-returns c = cc
+returns c = search fits-by
 
 pub step-fits-spec : {M : Type 1} → statement M
 step-fits-spec =

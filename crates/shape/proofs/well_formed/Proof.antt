@@ -10,10 +10,10 @@ contents-fit-requires : tie.Need-contents-fit-requires
 contents-fit-requires c κs = search (parts-by, needs)
 
 returns : tie.Need-returns
-returns c = search (by-contents, needs)
+returns c = search by-contents
 
 returns-2 : tie.Need-returns-2
-returns-2 c = search (not-measured, needs)
+returns-2 c = search not-measured
 
 pub well-formed-spec : {M : Type 1} → statement M
 well-formed-spec = tie.close (tie.spec measured-requires contents-fit-requires returns returns-2)

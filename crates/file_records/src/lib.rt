@@ -1,9 +1,9 @@
-// What stands in the bytes of a setup and of a step.
+// What stands in the bytes of a setup and of a step of a run file.
 ghost use Prim.Native.Nat.{_+_, _≤_};
 ghost use mathlib.Core.Path.{_≡_};
 ghost use lib.ListN.{length};
 ghost use Rattle.layout.specs.Number.{bytesAt};
-ghost use Rattle.shape.specs.Shape.{setupIn, stepIn, noStep};
+ghost use Rattle.file_records.specs.Records.{setupIn, stepIn, noStep};
 use protocol::setup::Setup;
 use protocol::step::Step;
 

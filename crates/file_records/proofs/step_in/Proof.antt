@@ -1,7 +1,7 @@
-use Rattle.shape.specs.Shape.{stepIn}
+use Rattle.file_records.proofs.Laws.{step-by}
 use borrow.Author.Needs.{needs}
-use Rattle.shape.proofs.record.step_in.Statement.{statement}
-use Rattle.shape.proofs.record.step_in.Tie as tie
+use Rattle.file_records.proofs.step_in.Statement.{statement}
+use Rattle.file_records.proofs.step_in.Tie as tie
 
 shared-slice-read-t4 : tie.Need-shared-slice-read-t4
 shared-slice-read-t4 c = search needs
@@ -37,8 +37,7 @@ read-u64-requires : tie.Need-read-u64-requires
 read-u64-requires c κs = search needs
 
 returns : tie.Need-returns
-unfolding stepIn
-returns c = cc
+returns c = search step-by
 
 pub step-in-spec : {M : Type 1} → statement M
 step-in-spec =

@@ -1,7 +1,7 @@
-use Rattle.shape.specs.Shape.{setupIn}
+use Rattle.file_records.proofs.Laws.{setup-by}
 use borrow.Author.Needs.{needs}
-use Rattle.shape.proofs.record.setup_in.Statement.{statement}
-use Rattle.shape.proofs.record.setup_in.Tie as tie
+use Rattle.file_records.proofs.setup_in.Statement.{statement}
+use Rattle.file_records.proofs.setup_in.Tie as tie
 
 shared-slice-read-wide : tie.Need-shared-slice-read-wide
 shared-slice-read-wide c = search needs
@@ -52,8 +52,7 @@ volumes-in-requires : tie.Need-volumes-in-requires
 volumes-in-requires c κs = search needs
 
 returns : tie.Need-returns
-unfolding setupIn
-returns c = cc
+returns c = search setup-by
 
 pub setup-in-spec : {M : Type 1} → statement M
 setup-in-spec =

@@ -3,9 +3,9 @@ use Prim.Native.Nat.{_-_, _≤_}
 use mathlib.Core.Path.{_≡_, refl}
 use lib.ListN.{length, take, length-set}
 use Rattle.layout.specs.Number.{bytesAt}
-use Rattle.shape.proofs.Laws.{copy-again, copy-end}
-use Rattle.shape.proofs.record.volumes_in.Statement.{statement}
-use Rattle.shape.proofs.record.volumes_in.Tie as tie
+use Rattle.file_records.proofs.Laws.{copy-again, copy-end}
+use Rattle.file_records.proofs.volumes_in.Statement.{statement}
+use Rattle.file_records.proofs.volumes_in.Tie as tie
 
 abbrev Inv-loop : tie.InvT-loop
 Inv-loop file at v₀ o₀ v o = (o ≤ 32) × ((length v ≡ 32) × (take o v ≡ bytesAt file at o))
