@@ -2,38 +2,20 @@
 use Prim.Native.Nat.{ℕ}
 use mathlib.Core.Bool.{Bool, cond, _&&_}
 use mathlib.Core.Path.{_≡_}
-use mathlib.Core.List.{List, [], _∷_, _++_}
+use mathlib.Core.List.{List, _++_}
 use lib.Dec.{eqb, leb}
-use lib.ListN.{length, getD, drop}
-use Rattle.layout.specs.Number.{bytesOf, numberAt}
+use lib.ListN.{length, drop}
 use Rattle.protocol.specs.declared.message.Message.{Message}
 use Rattle.fields.specs.declared.Fields.{Fields}
-use Rattle.fields.specs.Fields.{row, fieldsOf, messageIn, sound}
+use Rattle.fields.specs.Fields.{fieldsOf, messageIn, sound}
+use Rattle.frame_places.specs.Places.{laid, fieldsIn}
 use Rattle.frame.specs.declared.Decoded.{Decoded}
 use Rattle.frame.specs.declared.Decoded.the-variants as decoded
 use Rattle.frame.specs.declared.Encoded.{Encoded}
 use Rattle.frame.specs.declared.Encoded.the-variants as encoded
 
--- "A frame is 32 bytes, little endian: kind, dash, object, value present, one byte each;
-abbrev pub head : Fields → List ℕ
-head f = f .kind ∷ (f .client ∷ (f .object ∷ (f .present ∷ [])))
-
--- number, volume expiry, epoch, version, object expiry;
-unfoldable pub numbers : Fields → List ℕ
-numbers f = bytesOf 4 (f .number) ++ (bytesOf 4 (f .«volume_expiry») ++ (bytesOf 4 (f .epoch) ++ (bytesOf 4 (f .version) ++ bytesOf 4 (f .«object_expiry»))))
-
--- value in 8 bytes."
-unfoldable pub laid : Fields → List ℕ
-laid f = head f ++ (numbers f ++ bytesOf 8 (f .value))
-
 abbrev pub frameOf : Message → List ℕ
 frameOf m = laid (fieldsOf m)
-
--- the fields that stand in a frame's bytes
-unfoldable pub fieldsIn : List ℕ → Fields
-fieldsIn l =
-    row (getD l 0 0) (getD l 1 0) (getD l 2 0) (getD l 3 0) (numberAt l 4 4) (numberAt l 8 4) (numberAt l 12 4) (numberAt l 16 4) (numberAt l 20 4)
-    (numberAt l 24 8)
 
 unfoldable pub accepted : Fields → Decoded
 accepted f = cond (sound f) (decoded.Accepted (messageIn f)) decoded.Refused

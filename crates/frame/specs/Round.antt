@@ -1,42 +1,26 @@
 -- Each message that fits has one frame, and each frame that is accepted is that of exactly one message.
-use Prim.Native.Nat.{ℕ, _<_}
+use Prim.Native.Nat.{ℕ}
 use native.Mathlib.Omega.{arith}
 use mathlib.Core.Bool.{true}
-use mathlib.Core.List.{List, [], append-assoc, append-nil}
+use mathlib.Core.List.{List}
 use mathlib.Core.Logic.{⊎-elim}
 use mathlib.Core.Path.{_≡_, sym, ap, _∙_}
 use lib.Dec.{eqb}
-use lib.ListN.{length, drop}
-use lib.Seq.{drop-cons, drop-length}
+use lib.ListN.{length}
 use borrow.Author.Tests.{eq-eqb, eqb-true}
 use Rattle.laws.specs.Choice.{true-or-false}
-use Rattle.layout.specs.Number.{littleEndian, bytesOf, bytesAt, limit, numberAt, Bytes, read-back, number-then, number-below}
+use Rattle.layout.specs.Number.{bytesOf, Bytes, number-below}
 use Rattle.protocol.specs.declared.message.Message.{Message}
 use Rattle.fields.specs.declared.Fields.{Fields}
 use Rattle.fields.specs.Fields.{fieldsOf, messageIn, same}
 use Rattle.fields.specs.Round.{message-back, same-self, same-true}
+use Rattle.frame_places.specs.Places.{numbers, laid, fieldsIn}
+use Rattle.frame_places.specs.Round.{FieldsFit, fields-back, laid-back}
 use Rattle.frame.specs.declared.Decoded.the-variants.{Accepted, Refused}
-use Rattle.frame.specs.Frame.{numbers, laid, frameOf, fieldsIn, accepted, messageOf}
-
--- Each field has a number of its width, as every message of a program does
-pub record FieldsFit (f : Fields) : Type 0 where
-  pub client : f .client < 256
-  pub object : f .object < 256
-  pub number : f .number < limit 4
-  pub volume-expiry : f .«volume_expiry» < limit 4
-  pub epoch : f .epoch < limit 4
-  pub version : f .version < limit 4
-  pub object-expiry : f .«object_expiry» < limit 4
-  pub value : f .value < limit 8
+use Rattle.frame.specs.Frame.{frameOf, accepted, messageOf}
 
 abbrev pub Fits : Message → Type 0
 Fits m = FieldsFit (fieldsOf m)
-
--- fields: laid out and read back
-fields-back : (f : Fields) → FieldsFit f → fieldsIn (laid f) ≡ f
-unfolding fieldsIn laid numbers littleEndian bytesOf bytesAt
-fields-back f h =
-    rw (read-back 4 (f .number) (h .number), read-back 4 (f .«volume_expiry») (h .volume-expiry), read-back 4 (f .epoch) (h .epoch), read-back 4 (f .version) (h .version), read-back 4 (f .«object_expiry») (h .object-expiry), read-back 8 (f .value) (h .value))
 
 accepted-own : (m : Message) → accepted (fieldsOf m) ≡ Accepted m
 unfolding accepted
@@ -49,15 +33,6 @@ accepted-own m =
 pub decodes : (m : Message) → Fits m → messageOf (frameOf m) ≡ Accepted m
 unfolding messageOf laid numbers bytesOf
 decodes m h = ap accepted (fields-back (fieldsOf m) h) ∙ accepted-own m
-
--- a frame: read and laid out again
-laid-back : (l : List ℕ) → Bytes l → length l ≡ 32 → laid (fieldsIn l) ≡ l
-unfolding laid numbers fieldsIn
-laid-back l b h =
-    let none : drop 32 l ≡ [] = rw h at (drop-length l) in
-    let value : bytesOf 8 (numberAt l 24 8) ≡ drop 24 l =
-    sym (append-nil _) ∙ (rw none at (number-then l b 24 8 (omega arith))) in
-    simp append-assoc (rw (value, number-then l b 20 4 (omega arith), number-then l b 16 4 (omega arith), number-then l b 12 4 (omega arith), number-then l b 8 4 (omega arith), number-then l b 4 4 (omega arith), ← drop-cons l 3 0 (omega arith), ← drop-cons l 2 0 (omega arith), ← drop-cons l 1 0 (omega arith), ← drop-cons l 0 0 (omega arith)))
 
 never : {A : Type 0} {m : Message} → Refused ≡ Accepted m → A
 never q = let z : _≡_ {A = ℕ} 0 1 = cc in absurd (omega arith)

@@ -1,6 +1,4 @@
 // A message as a frame of 32 bytes, and back (01, "Frame, run file and listing").
-mod place;
-
 ghost use mathlib.Core.Path.{_≡_};
 ghost use Rattle.frame.specs.Frame.{accepted, Decodes, Encodes};
 use fields::Fields;
@@ -34,7 +32,7 @@ pub fn decode(bytes: &[u8]) -> Decoded
     ensures { λ r. ⌜ Decodes (now (bytes .entry)) r ⌝ }
 {
     if bytes.len() == 32 {
-        return accept(place::read(bytes));
+        return accept(frame_places::read(bytes));
     }
     Decoded::Refused
 }
@@ -44,7 +42,7 @@ pub fn encode(message: Message, out: &mut [u8]) -> Encoded
     ensures { λ r. ⌜ Encodes message (now (out .entry)) (now (out .exit)) r ⌝ }
 {
     if 32 <= out.len() {
-        place::write(out, fields::fields_of(message));
+        frame_places::write(out, fields::fields_of(message));
         return Encoded::Written;
     }
     Encoded::Refused

@@ -13,10 +13,10 @@ same-requires : tie.Need-same-requires
 same-requires c κs = search needs
 
 returns : tie.Need-returns
-returns c = search (accept-yes, needs)
+returns c = search accept-yes
 
 returns-2 : tie.Need-returns-2
-returns-2 c = search (accept-no, needs)
+returns-2 c = search accept-no
 
 pub accept-spec : {M : Type 1} → statement M
 accept-spec =

@@ -1,7 +1,7 @@
 use borrow.Author.Needs.{needs}
-use Rattle.frame.proofs.Laws.{numbers-stored}
-use Rattle.frame.proofs.place.write_numbers.Statement.{statement}
-use Rattle.frame.proofs.place.write_numbers.Tie as tie
+use Rattle.frame_places.proofs.Laws.{numbers-stored}
+use Rattle.frame_places.proofs.write_numbers.Statement.{statement}
+use Rattle.frame_places.proofs.write_numbers.Tie as tie
 
 write-u32-requires : tie.Need-write-u32-requires
 write-u32-requires c κs = search needs

@@ -1,7 +1,7 @@
 use borrow.Author.Needs.{needs}
-use Rattle.frame.specs.Frame.{fieldsIn}
-use Rattle.frame.proofs.place.read.Statement.{statement}
-use Rattle.frame.proofs.place.read.Tie as tie
+use Rattle.frame_places.proofs.Laws.{read-by}
+use Rattle.frame_places.proofs.read.Statement.{statement}
+use Rattle.frame_places.proofs.read.Tie as tie
 
 shared-slice-read-t3 : tie.Need-shared-slice-read-t3
 shared-slice-read-t3 c = search needs
@@ -34,8 +34,7 @@ read-u64-requires : tie.Need-read-u64-requires
 read-u64-requires c κs = search needs
 
 returns : tie.Need-returns
-unfolding fieldsIn
-returns c = cc
+returns c = search read-by
 
 pub read-spec : {M : Type 1} → statement M
 read-spec =

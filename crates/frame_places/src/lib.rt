@@ -1,9 +1,9 @@
-// Where each field of a frame stands.
+// The fields of a message at their places in the 32 bytes of a frame.
 ghost use Prim.Native.Nat.{_≤_};
 ghost use mathlib.Core.Path.{_≡_};
 ghost use lib.ListN.{length};
 ghost use Rattle.layout.specs.Number.{Stored};
-ghost use Rattle.frame.specs.Frame.{head, numbers, laid, fieldsIn};
+ghost use Rattle.frame_places.specs.Places.{head, numbers, laid, fieldsIn};
 use fields::Fields;
 
 pub fn read(bytes: &[u8]) -> Fields

@@ -1,7 +1,7 @@
 use borrow.Author.Needs.{needs}
-use Rattle.frame.proofs.Laws.{all-stored}
-use Rattle.frame.proofs.place.write.Statement.{statement}
-use Rattle.frame.proofs.place.write.Tie as tie
+use Rattle.frame_places.proofs.Laws.{all-stored}
+use Rattle.frame_places.proofs.write.Statement.{statement}
+use Rattle.frame_places.proofs.write.Tie as tie
 
 write-head-requires : tie.Need-write-head-requires
 write-head-requires c κs = search needs
@@ -16,7 +16,7 @@ same-length : tie.Need-same-length
 same-length c = search needs
 
 returns : tie.Need-returns
-returns c = search (all-stored, needs)
+returns c = search all-stored
 
 pub write-spec : {M : Type 1} → statement M
 write-spec =

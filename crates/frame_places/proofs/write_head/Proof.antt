@@ -1,8 +1,8 @@
 use borrow.Author.Needs.{needs}
 use native.Mathlib.Omega.{arith}
 use lib.ListN.{length-set}
-use Rattle.frame.proofs.place.write_head.Statement.{statement}
-use Rattle.frame.proofs.place.write_head.Tie as tie
+use Rattle.frame_places.proofs.write_head.Statement.{statement}
+use Rattle.frame_places.proofs.write_head.Tie as tie
 
 slice-write-out : tie.Need-slice-write-out
 slice-write-out c = search needs

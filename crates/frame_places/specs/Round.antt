@@ -1,0 +1,36 @@
+-- Fields laid out are read back, and the other way round.
+use Prim.Native.Nat.{ℕ, _<_}
+use native.Mathlib.Omega.{arith}
+use mathlib.Core.List.{List, [], append-assoc, append-nil}
+use mathlib.Core.Path.{_≡_, sym, _∙_}
+use lib.ListN.{length, drop}
+use lib.Seq.{drop-cons, drop-length}
+use Rattle.layout.specs.Number.{littleEndian, bytesOf, bytesAt, limit, numberAt, Bytes, read-back, number-then}
+use Rattle.fields.specs.declared.Fields.{Fields}
+use Rattle.frame_places.specs.Places.{numbers, laid, fieldsIn}
+
+-- Each field has a number of its width, as every message of a program does
+pub record FieldsFit (f : Fields) : Type 0 where
+  pub client : f .client < 256
+  pub object : f .object < 256
+  pub number : f .number < limit 4
+  pub volume-expiry : f .«volume_expiry» < limit 4
+  pub epoch : f .epoch < limit 4
+  pub version : f .version < limit 4
+  pub object-expiry : f .«object_expiry» < limit 4
+  pub value : f .value < limit 8
+
+-- fields: laid out and read back
+pub fields-back : (f : Fields) → FieldsFit f → fieldsIn (laid f) ≡ f
+unfolding fieldsIn laid numbers littleEndian bytesOf bytesAt
+fields-back f h =
+    rw (read-back 4 (f .number) (h .number), read-back 4 (f .«volume_expiry») (h .volume-expiry), read-back 4 (f .epoch) (h .epoch), read-back 4 (f .version) (h .version), read-back 4 (f .«object_expiry») (h .object-expiry), read-back 8 (f .value) (h .value))
+
+-- a frame: read and laid out again
+pub laid-back : (l : List ℕ) → Bytes l → length l ≡ 32 → laid (fieldsIn l) ≡ l
+unfolding laid numbers fieldsIn
+laid-back l b h =
+    let none : drop 32 l ≡ [] = rw h at (drop-length l) in
+    let value : bytesOf 8 (numberAt l 24 8) ≡ drop 24 l =
+    sym (append-nil _) ∙ (rw none at (number-then l b 24 8 (omega arith))) in
+    simp append-assoc (rw (value, number-then l b 20 4 (omega arith), number-then l b 16 4 (omega arith), number-then l b 12 4 (omega arith), number-then l b 8 4 (omega arith), number-then l b 4 4 (omega arith), ← drop-cons l 3 0 (omega arith), ← drop-cons l 2 0 (omega arith), ← drop-cons l 1 0 (omega arith), ← drop-cons l 0 0 (omega arith)))
