@@ -3,31 +3,14 @@ use Prim.Native.Nat.{ℕ, suc, _+_, _<_, _≤_}
 use native.Mathlib.Numerals.{add-one}
 use native.Mathlib.Omega.{arith}
 use mathlib.Core.List.{List, [], _∷_, _++_}
-use mathlib.Core.Path.{_≡_, refl, sym, ap, _∙_}
+use mathlib.Core.Path.{_≡_, refl}
 use lib.ListN.{length, getD, set, drop, length-append}
 use lib.Seq.{sets, drop-cons, drop-length}
-use borrow.Author.Tests.{eq-eqb, ne-eqb}
-use Rattle.protocol.specs.declared.message.Message.{Message}
 use Rattle.protocol.specs.declared.step.Answer.{Answer}
-use Rattle.protocol.specs.declared.step.Answer.the-variants.{Completed, Delivered}
-use Rattle.protocol.specs.Answers.{doneOrCompleted, answerNumber, answerValue}
+use Rattle.protocol.specs.Answers.{answerNumber, answerValue}
 use Rattle.decimal.specs.Decimal.{decimal, field, decimal-short}
 use Rattle.decimal.specs.Written.{Written, written-then}
 use Rattle.listing.specs.Listing.{line, lineOf, header, refusedListing, length-header}
-
-module _ (n : ℕ) where
-  pub none-done : n ≡ 0 → 0 ≡ doneOrCompleted n
-  none-done e = rw (eq-eqb n 0 e)
-
-  pub some-done : (n ≡ 0 → ⊥) → 3 ≡ doneOrCompleted n
-  some-done e = rw (ne-eqb n 0 e)
-
-module _ (a : Answer) (n r : ℕ) where
-  pub completed-number : a ≡ Completed n → r ≡ doneOrCompleted n → r ≡ answerNumber a
-  completed-number e f = f ∙ sym (ap answerNumber e)
-
-  pub delivered-number : (m : Message) → a ≡ Delivered m n → r ≡ doneOrCompleted n → r ≡ answerNumber a
-  delivered-number m e f = f ∙ sym (ap answerNumber e)
 
 -- ---- bytes copied
 pub bytes-again : (l s : List ℕ) (p i : ℕ) (A : List ℕ) → i < length s → sets l (p + i) (drop i s) ≡ A → sets (set l (p + i) (getD s i 0)) (p + (i + 1)) (drop (i + 1) s) ≡ A

@@ -1,6 +1,4 @@
 // The listing of a run in bytes (01, "Frame, run file and listing"). Each function writes at a place of a lent output, and gives the place after.
-mod answer;
-
 ghost use Prim.Native.Nat.{_+_, _≤_};
 ghost use lib.ListN.{length};
 ghost use Rattle.decimal.specs.Written.{Written};
@@ -47,8 +45,8 @@ pub fn write_line(out: &mut [u8], at: usize, step: u64, answer: Answer) -> usize
         out,
         at,
         step,
-        answer::number_of(answer),
-        answer::value_of(answer),
+        answer_numbers::number_of(answer),
+        answer_numbers::value_of(answer),
     )
 }
 

@@ -42,7 +42,7 @@ same-length : tie.Need-same-length Inv-loop μ-loop
 same-length c = search needs
 
 returns : tie.Need-returns Inv-loop μ-loop
-returns c = search (bytes-written, needs)
+returns c = search bytes-written
 
 pub write-bytes-spec : {M : Type 1} → statement M
 write-bytes-spec =

@@ -16,7 +16,7 @@ same-length : tie.Need-same-length
 same-length c = search needs
 
 returns : tie.Need-returns
-returns c = search (answer-written, needs)
+returns c = search answer-written
 
 pub write-line-spec : {M : Type 1} → statement M
 write-line-spec =

@@ -19,7 +19,7 @@ same-length : tie.Need-same-length
 same-length c = search needs
 
 returns : tie.Need-returns
-returns c = search (line-written, needs)
+returns c = search line-written
 
 pub write-numbers-spec : {M : Type 1} → statement M
 write-numbers-spec =

@@ -13,7 +13,7 @@ same-length : tie.Need-same-length
 same-length c = search needs
 
 returns : tie.Need-returns
-returns c = search (refused-written, needs)
+returns c = search refused-written
 
 pub write-refused-spec : {M : Type 1} → statement M
 write-refused-spec =

@@ -1,7 +1,7 @@
-use Rattle.listing.proofs.Laws.{completed-number, delivered-number}
+use Rattle.answer_numbers.proofs.Laws.{completed-number, delivered-number}
 use borrow.Author.Needs.{needs}
-use Rattle.listing.proofs.answer.number_of.Statement.{statement}
-use Rattle.listing.proofs.answer.number_of.Tie as tie
+use Rattle.answer_numbers.proofs.number_of.Statement.{statement}
+use Rattle.answer_numbers.proofs.number_of.Tie as tie
 
 enum-told : tie.Need-enum-told
 enum-told c = search needs
@@ -37,10 +37,10 @@ returns-3 : tie.Need-returns-3
 returns-3 c = search needs
 
 returns-4 : tie.Need-returns-4
-returns-4 c = search (completed-number, needs)
+returns-4 c = search completed-number
 
 returns-5 : tie.Need-returns-5
-returns-5 c = search (delivered-number, needs)
+returns-5 c = search delivered-number
 
 returns-6 : tie.Need-returns-6
 returns-6 c = search needs
