@@ -16,7 +16,7 @@ loop-holds : tie.Need-loop-holds Inv-loop μ-loop
 loop-holds c = search needs
 
 returns : tie.Need-returns Inv-loop μ-loop
-returns c = search (digits-stop, needs)
+returns c = search digits-stop
 
 add-digits : tie.Need-add-digits Inv-loop μ-loop
 add-digits c = search needs
@@ -28,7 +28,7 @@ loop-again : tie.Need-loop-again Inv-loop μ-loop
 loop-again c = (search needs, search (digits-again, needs))
 
 returns-2 : tie.Need-returns-2 Inv-loop μ-loop
-returns-2 c = search (digits-end, needs)
+returns-2 c = search digits-end
 
 pub width-spec : {M : Type 1} → statement M
 width-spec =

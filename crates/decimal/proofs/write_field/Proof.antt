@@ -17,7 +17,7 @@ same-length : tie.Need-same-length
 same-length c = search needs
 
 returns : tie.Need-returns
-returns c = search (field-written, needs)
+returns c = search field-written
 
 pub write-field-spec : {M : Type 1} → statement M
 write-field-spec =

@@ -46,7 +46,7 @@ same-length : tie.Need-same-length Inv-loop μ-loop
 same-length c = search needs
 
 returns : tie.Need-returns Inv-loop μ-loop
-returns c = search (digits-written, needs)
+returns c = search digits-written
 
 pub write-number-spec : {M : Type 1} → statement M
 write-number-spec =

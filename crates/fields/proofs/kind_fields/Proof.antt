@@ -43,22 +43,22 @@ without-lease-requires-6 : tie.Need-without-lease-requires-6
 without-lease-requires-6 c κs = search needs
 
 returns : tie.Need-returns
-returns c = search (by-renew, needs)
+returns c = search by-renew
 
 returns-2 : tie.Need-returns-2
-returns-2 c = search (by-grant, needs)
+returns-2 c = search by-grant
 
 returns-3 : tie.Need-returns-3
-returns-3 c = search (by-invalidate, needs)
+returns-3 c = search by-invalidate
 
 returns-4 : tie.Need-returns-4
-returns-4 c = search (by-ack, needs)
+returns-4 c = search by-ack
 
 returns-5 : tie.Need-returns-5
-returns-5 c = search (by-offer, needs)
+returns-5 c = search by-offer
 
 returns-6 : tie.Need-returns-6
-returns-6 c = search (by-dropped, needs)
+returns-6 c = search by-dropped
 
 pub kind-fields-spec : {M : Type 1} → statement M
 kind-fields-spec =

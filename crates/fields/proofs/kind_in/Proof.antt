@@ -7,22 +7,22 @@ grant-in-requires : tie.Need-grant-in-requires
 grant-in-requires c κs = search needs
 
 returns : tie.Need-returns
-returns c = search (kind-2, needs)
+returns c = search kind-2
 
 returns-2 : tie.Need-returns-2
-returns-2 c = search (kind-3, needs)
+returns-2 c = search kind-3
 
 returns-3 : tie.Need-returns-3
-returns-3 c = search (kind-4, needs)
+returns-3 c = search kind-4
 
 returns-4 : tie.Need-returns-4
-returns-4 c = search (kind-5, needs)
+returns-4 c = search kind-5
 
 returns-5 : tie.Need-returns-5
-returns-5 c = search (kind-6, needs)
+returns-5 c = search kind-6
 
 returns-6 : tie.Need-returns-6
-returns-6 c = search (kind-else, needs)
+returns-6 c = search kind-else
 
 pub kind-in-spec : {M : Type 1} → statement M
 kind-in-spec =

@@ -10,10 +10,10 @@ enum-told : tie.Need-enum-told
 enum-told c = search needs
 
 returns : tie.Need-returns
-returns c = search (with-value, needs)
+returns c = search with-value
 
 returns-2 : tie.Need-returns-2
-returns-2 c = search (with-none, needs)
+returns-2 c = search with-none
 
 pub with-lease-spec : {M : Type 1} → statement M
 with-lease-spec = tie.close (tie.spec enum-known-payload enum-told returns returns-2)

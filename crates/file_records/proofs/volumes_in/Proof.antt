@@ -36,7 +36,7 @@ loop-again : tie.Need-loop-again Inv-loop μ-loop
 loop-again c = (search needs, (simp length-set (search needs), search (copy-again, needs)))
 
 returns : tie.Need-returns Inv-loop μ-loop
-returns c = search (copy-end, needs)
+returns c = search copy-end
 
 pub volumes-in-spec : {M : Type 1} → statement M
 volumes-in-spec =

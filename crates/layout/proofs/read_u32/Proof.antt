@@ -28,7 +28,7 @@ join-requires : tie.Need-join-requires
 join-requires c κs = search needs
 
 returns : tie.Need-returns
-returns c = search (four, needs)
+returns c = search four
 
 pub read-u32-spec : {M : Type 1} → statement M
 read-u32-spec =

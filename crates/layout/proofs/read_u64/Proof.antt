@@ -25,7 +25,7 @@ add-result : tie.Need-add-result
 add-result c = search needs
 
 returns : tie.Need-returns
-returns c = search (eight, needs)
+returns c = search eight
 
 pub read-u64-spec : {M : Type 1} → statement M
 read-u64-spec =

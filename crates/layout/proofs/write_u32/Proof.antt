@@ -42,7 +42,7 @@ same-length : tie.Need-same-length
 same-length c = search needs
 
 returns : tie.Need-returns
-returns c = search (store-four, needs)
+returns c = search store-four
 
 pub write-u32-spec : {M : Type 1} → statement M
 write-u32-spec =

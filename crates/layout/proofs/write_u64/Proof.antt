@@ -22,7 +22,7 @@ same-length : tie.Need-same-length
 same-length c = search needs
 
 returns : tie.Need-returns
-returns c = search (store-eight, needs)
+returns c = search store-eight
 
 pub write-u64-spec : {M : Type 1} → statement M
 write-u64-spec =

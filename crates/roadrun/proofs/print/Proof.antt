@@ -19,13 +19,13 @@ same-length : tie.Need-same-length
 same-length c = search needs
 
 returns : tie.Need-returns
-returns c = search (print-listed, needs)
+returns c = search print-listed
 
 same-length-2 : tie.Need-same-length-2
 same-length-2 c = search needs
 
 returns-2 : tie.Need-returns-2
-returns-2 c = search (print-refused, needs)
+returns-2 c = search print-refused
 
 pub print-spec : {M : Type 1} → statement M
 print-spec =

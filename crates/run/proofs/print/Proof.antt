@@ -16,7 +16,7 @@ same-length : tie.Need-same-length
 same-length c = search needs
 
 returns : tie.Need-returns
-returns c = search (print-written, needs)
+returns c = search print-written
 
 pub print-spec : {M : Type 1} → statement M
 print-spec =

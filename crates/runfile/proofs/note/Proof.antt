@@ -13,13 +13,13 @@ slice-aggregate-result : tie.Need-slice-aggregate-result
 slice-aggregate-result c = search (note-long, needs)
 
 returns : tie.Need-returns
-returns c = search (note-yes, needs)
+returns c = search note-yes
 
 slice-aggregate-result-2 : tie.Need-slice-aggregate-result-2
 slice-aggregate-result-2 c = search needs
 
 returns-2 : tie.Need-returns-2
-returns-2 c = search (note-no, needs)
+returns-2 c = search note-no
 
 pub note-spec : {M : Type 1} → statement M
 note-spec =

@@ -19,13 +19,13 @@ add-t6 : tie.Need-add-t6
 add-t6 c = search needs
 
 returns : tie.Need-returns
-returns c = search (read-yes, needs)
+returns c = search read-yes
 
 refused-requires : tie.Need-refused-requires
 refused-requires c κs = search needs
 
 returns-2 : tie.Need-returns-2
-returns-2 c = search (read-no, needs)
+returns-2 c = search read-no
 
 pub read-spec : {M : Type 1} → statement M
 read-spec =

@@ -31,7 +31,7 @@ loop-again : tie.Need-loop-again Inv-loop μ-loop
 loop-again c = (search needs, search (all-by, needs))
 
 returns : tie.Need-returns Inv-loop μ-loop
-returns c = search (all-end, needs)
+returns c = search all-end
 
 pub volumes-fit-spec : {M : Type 1} → statement M
 volumes-fit-spec =

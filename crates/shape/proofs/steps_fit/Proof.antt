@@ -38,7 +38,7 @@ loop-again : tie.Need-loop-again Inv-loop μ-loop
 loop-again c = (search needs, steps-again _ _ _ _ _ (c .before .before .before .loop .ok) _ _ (c .before .before .loop-test .taken) (c .before .step-in .ensures) (c .step-fits .ensures) (c .before .before .before .loop .inv .1))
 
 returns : tie.Need-returns Inv-loop μ-loop
-returns c = search (all-end, needs)
+returns c = search all-end
 
 pub steps-fit-spec : {M : Type 1} → statement M
 steps-fit-spec =

@@ -40,7 +40,7 @@ returns : tie.Need-returns
 returns c = search ready-yes
 
 returns-2 : tie.Need-returns-2
-returns-2 c = search (ready-no, needs)
+returns-2 c = search ready-no
 
 pub ready-spec : {M : Type 1} → statement M
 ready-spec =

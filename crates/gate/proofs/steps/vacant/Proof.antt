@@ -16,10 +16,10 @@ element-copy-out-result : tie.Need-element-copy-out-result
 element-copy-out-result c = search needs
 
 returns : tie.Need-returns
-returns c = search (vacant-words, needs)
+returns c = search vacant-words
 
 returns-2 : tie.Need-returns-2
-returns-2 c = search (vacant-past, needs)
+returns-2 c = search vacant-past
 
 pub vacant-spec : {M : Type 1} → statement M
 vacant-spec =

@@ -16,10 +16,10 @@ element-copy-out-result : tie.Need-element-copy-out-result
 element-copy-out-result c = search needs
 
 returns : tie.Need-returns
-returns c = search (grows-words, needs)
+returns c = search grows-words
 
 returns-2 : tie.Need-returns-2
-returns-2 c = search (grows-past, needs)
+returns-2 c = search grows-past
 
 pub version-grows-spec : {M : Type 1} → statement M
 version-grows-spec =
