@@ -1,2 +1,3 @@
 pub mod WorkedRun
 pub mod Calls
+pub mod UntilShown

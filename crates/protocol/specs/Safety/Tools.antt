@@ -1,4 +1,4 @@
--- The laws of what later rules may change, by which alone the proofs go: the tests of time (T1 to T5), whom the server does not count on (E1) and what a
+-- The laws of what later rules may change, by which alone the proofs go: the tests of time (T1 to T6), whom the server does not count on (E1) and what a
 -- DROPPED leaves; and laws of the standing request, of functions and of the message list.
 use Prim.Native.Nat.{ℕ, zero, suc, _+_, _<_, _≤_, min}
 use native.Mathlib.Decide.{decLe}
@@ -70,6 +70,11 @@ over-dead clock end e p h = let q = over-past clock end p in le-ltb clock e (ome
 pub passed-dead : (t : Tables) (v : ℕ) → guardPassed t v ≡ true → serverAlive (t .clock) (guardAt t v) ≡ false
 unfolding guardPassed
 passed-dead t v p = not-true _ p
+
+-- T6: a lease is alive where it is granted
+pub granted-alive : (clock d : ℕ) {length : ℕ} → 1 ≤ length → clientAlive (clientClock clock d) (clock + length) ≡ true
+unfolding clientAlive clientClock
+granted-alive clock d {length} h = lt-ltb clock (clock + length) (omega arith)
 
 -- ---- E1: a mark excuses the client for every object of the volume, no mark for none, and other marks do not matter
 
