@@ -103,7 +103,9 @@ impl<R: Rules> World<'_, R> {
             return 0;
         }
         self.requests[client].end();
-        self.tables.clients.epoch[client][volume as usize] = epoch;
+        if !mistakes.offer_keeps_epoch {
+            self.tables.clients.epoch[client][volume as usize] = epoch;
+        }
         if !mistakes.offer_keeps_leases {
             self.tables.clients.expiry[client][volume as usize] = 0;
         }

@@ -70,6 +70,8 @@ mistakes! {
     offer_keeps_leases,
     /// Keeps the object expiries at an OFFER.
     offer_keeps_object_expiries,
+    /// Keeps the known epoch at an OFFER.
+    offer_keeps_epoch,
     /// Keeps the standing request at an INVALIDATE.
     invalidate_keeps_request,
     /// Sends no ACK where it holds no copy.
@@ -116,12 +118,16 @@ mistakes! {
     resend_highest,
     /// Grants an object whose write stands.
     grant_during_write,
+    /// Sends no GRANT where the client holds the version.
+    grant_only_news,
     /// Counts an ACK of another version.
     ack_any_version,
     /// Counts a DROPPED of another number.
     dropped_any_number,
     /// Keeps the offer after its DROPPED.
     dropped_keeps_offer,
+    /// Keeps the mark after a DROPPED.
+    dropped_keeps_mark,
     /// Keeps the object leases after a DROPPED.
     dropped_keeps_leases,
     /// Waits on after a DROPPED.

@@ -195,7 +195,9 @@ impl<R: Rules> World<'_, R> {
             object_expiry,
             value: (version != server.version[object]).then_some(server.value[object]),
         };
-        self.send(client, Kind::Grant(grant));
+        if grant.value.is_some() || !self.rules.mistakes().grant_only_news {
+            self.send(client, Kind::Grant(grant));
+        }
     }
 
     /// ACK: of the standing write, its epoch and its new version. Epoch and
@@ -228,7 +230,9 @@ impl<R: Rules> World<'_, R> {
         if epoch != server.epoch[volume] || offer == 0 || !same_number {
             return 0;
         }
-        server.unreachable[volume] &= !(1 << client);
+        if !mistakes.dropped_keeps_mark {
+            server.unreachable[volume] &= !(1 << client);
+        }
         if !mistakes.dropped_keeps_offer {
             server.offer[volume][client] = 0;
         }
