@@ -27,5 +27,6 @@ pub mod sound;
 pub mod step;
 pub mod step_record;
 pub mod tables;
+pub mod until_shown;
 pub mod world;
 pub mod write_runfile;

@@ -1,0 +1,113 @@
+//! How soon a client shows an object again (02, A1): it asks, everything is
+//! delivered at place 0, and it asks once more after a DROPPED.
+//!
+//! The claim is about reachable states, which only the caller can know of:
+//! where the premises hold, the read is shown after the steps claimed.
+
+use crate::answer::Answer;
+use crate::bits::members;
+use crate::message::{Kind, Message};
+use crate::mistakes::Rules;
+use crate::step_record::Step;
+use crate::world::World;
+
+/// Far past every claim. It ends here under any mistake, and from a full list.
+const MOST_STEPS: u32 = 64;
+
+/// The last next number from which two asks are accepted: question 6 asks
+/// each of them for one below 4,294,967,295.
+const LAST_NEXT: u32 = u32::MAX - 2;
+
+/// An ask that is granted: RENEW and GRANT are delivered.
+const GRANTED: u32 = 3;
+
+/// An ask that is offered: RENEW, OFFER and DROPPED are delivered.
+const OFFERED: u32 = 4;
+
+/// How it went, and what the read answered then.
+#[derive(Clone, Copy, Debug, PartialEq, Eq)]
+pub struct Ending {
+    /// Asks and deliveries that were accepted.
+    pub steps: u32,
+    /// The first ask or delivery that was not ends it.
+    pub refused: Option<u8>,
+    /// The message delivered last.
+    pub delivered: Option<Message>,
+    /// How many messages are left in the list.
+    pub messages: usize,
+    pub read: Answer,
+}
+
+impl Ending {
+    const NONE: Ending = Ending { steps: 0, refused: None, delivered: None, messages: 0, read: Answer::Done };
+
+    fn goes_on(&self) -> bool {
+        self.refused.is_none() && self.steps < MOST_STEPS
+    }
+}
+
+impl<R: Rules> World<'_, R> {
+    /// What 02 asks of the state beside its being reachable.
+    pub fn until_shown_premises(&self, client: u8, object: u8) -> bool {
+        let volume = self.setup.volume(object.into());
+        self.tables.queue.len == 0
+            && !self.write_stands_in(volume)
+            && self.requests[usize::from(client)].next <= LAST_NEXT
+    }
+
+    fn write_stands_in(&self, volume: usize) -> bool {
+        let mut standing = members(self.tables.server.standing & self.setup.all_objects());
+        standing.any(|object| self.setup.volume(object) == volume)
+    }
+
+    /// The asks and deliveries that 02 claims to be enough. The mark is what
+    /// the server holds, the known epoch what the client does.
+    pub fn until_shown_claim(&self, client: u8, object: u8) -> u32 {
+        let (client, volume) = (usize::from(client), self.setup.volume(object.into()));
+        let server = &self.tables.server;
+        let marked = server.unreachable[volume] >> client & 1 == 1;
+        let known = self.tables.clients.epoch[client][volume] == server.epoch[volume];
+        if known && !marked {
+            GRANTED
+        } else {
+            OFFERED + GRANTED
+        }
+    }
+
+    /// Asks, delivers, and does so once more after a DROPPED of this client.
+    /// It asks although the copy may be alive, or a request stand.
+    pub fn until_shown(&mut self, client: u8, object: u8) -> Ending {
+        let mut ending = Ending::NONE;
+        let dropped = self.ask_and_deliver(client, object, &mut ending);
+        if dropped && ending.goes_on() {
+            self.ask_and_deliver(client, object, &mut ending);
+        }
+        ending.messages = self.tables.queue.len;
+        ending.read = self.step(&Step::read(client, object));
+        ending
+    }
+
+    /// Whether a DROPPED of this client was among the deliveries.
+    fn ask_and_deliver(&mut self, client: u8, object: u8, ending: &mut Ending) -> bool {
+        let mut dropped = false;
+        self.counted(&Step::ask(client, object), ending);
+        while self.tables.queue.len > 0 && ending.goes_on() {
+            self.counted(&Step::deliver(0), ending);
+            let of_client = ending.delivered.filter(|message| message.client == client);
+            dropped |= of_client.is_some_and(|message| matches!(message.kind, Kind::Dropped { .. }));
+        }
+        dropped
+    }
+
+    fn counted(&mut self, step: &Step, ending: &mut Ending) {
+        match self.step(step) {
+            Answer::Refused(number) => {
+                ending.refused = Some(number);
+                return;
+            }
+            Answer::Delivered { message, .. } => ending.delivered = Some(message),
+            _ => (),
+        }
+        ending.steps += 1;
+    }
+}

@@ -1,0 +1,11 @@
+//! 02, A1: how soon a client shows an object again. On the states of the
+//! generated runs, and on runs by hand.
+
+#[path = "../common/mod.rs"]
+mod common;
+
+mod cases;
+mod claim;
+mod followed;
+mod premises;
+mod trial;
