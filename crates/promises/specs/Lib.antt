@@ -1,3 +1,4 @@
 pub mod WorkedRun
 pub mod Calls
+pub mod Reached
 pub mod UntilShown

@@ -1,5 +1,5 @@
 -- 02, A1: from every state that a run reaches, a client's read is shown after 3 or 7 asks and deliveries.
--- Letters as in Policy and Phases; m is how many steps are still to come, b the ledger's books, l a ledger.
+-- Letters as in Policy and Phases; m is how many steps are still to come.
 use Prim.Native.Nat.{ℕ, zero, suc, _+_, _-_, _<_, _≤_}
 use native.Mathlib.Omega.{arith}
 use mathlib.Core.Bool.{Bool, true, false, cond}
@@ -17,52 +17,19 @@ use Rattle.protocol.specs.declared.step.Answer.the-variants.{Shown}
 use Rattle.protocol.specs.declared.step.Step.{Step}
 use Rattle.protocol.specs.Setup.{inRange, volumeOf}
 use Rattle.protocol.specs.Messages.{messageAt}
-use Rattle.protocol.specs.Client.{showable}
 use Rattle.protocol.specs.Answers.{isRefused}
 use Rattle.protocol.specs.World.{World, freshWorld, stepped, ran, answers}
-use Rattle.protocol.specs.Ledger.{accepts, Books, freshBooks, booksAfter}
+use Rattle.protocol.specs.Ledger.{accepts}
 use Rattle.protocol.specs.Ranges.{Ranges, ranges}
 use Rattle.protocol.specs.Soundness.Answered.{accepted-not-refused}
-use Rattle.protocol.specs.Soundness.Question.{SoundWorld, stepped-sound, fresh-sound}
-use Rattle.protocol.specs.Bookkeeping.Booked.{Booked, fresh-booked}
-use Rattle.protocol.specs.Bookkeeping.Agreed.{step-booked}
-use Rattle.protocol.specs.Safety.View.{copyAt, requestAt}
-use Rattle.protocol.specs.Safety.Invariant.{Inv, from}
-use Rattle.protocol.specs.Safety.Fresh.{fresh-inv}
-use Rattle.protocol.specs.Safety.InvariantKept.{step-keeps, reads-current}
-use Rattle.promises.specs.UntilShown.Policy.{ask, deliver, isDropped, policy, Waits, connected, booksThrough, postedAfter, ShownAfter, ShownInTime}
+use Rattle.protocol.specs.Soundness.Question.{SoundWorld, stepped-sound}
+use Rattle.protocol.specs.Safety.View.{requestAt}
+use Rattle.protocol.specs.Safety.Invariant.{from}
+use Rattle.promises.specs.Reached.{ran-on, run-sound, run-safe, shows-posted}
+use Rattle.promises.specs.UntilShown.Policy.{ask, deliver, isDropped, policy, Quiet, connected, ShownAfter, ShownInTime}
 use Rattle.promises.specs.UntilShown.Steps.{asking, delivering, ask-accepted, ask-leaves, read-shows, deliver-accepted, deliver-leaves}
 use Rattle.promises.specs.UntilShown.Phases.{Only, Idle, Offered, Dropping, Granted, Showing}
 use Rattle.promises.specs.UntilShown.Moves.{asks, grants, offers, drops-leases, clears, shows}
-
--- ---- what every run keeps: the tables are sound and safe, and the ledger goes with them
-pub record Lawful (s : Setup) (b : Books) : Type 0 where
-  pub sound : SoundWorld s (b .world)
-  pub safe : Inv s (b .world)
-  pub booked : Booked s (b .world .tables) (b .ledger)
-
-pub lawful : (s : Setup) → inRange s ≡ true → (xs : List Step) (b : Books) → Lawful s b → Lawful s (booksThrough s b xs)
-unfolding booksThrough booksAfter
-lawful s i [] b h = h
-lawful s i (x ∷ xs) b h = lawful s i xs (booksAfter s b x) (record {
-  sound = stepped-sound s (b .world) x (h .sound);
-  safe = step-keeps s (b .world) x (h .sound) (h .safe);
-  booked = step-booked s (b .world) x (b .ledger) (h .sound) (h .booked) .keeps;
-})
-
-fresh-lawful : (s : Setup) → inRange s ≡ true → Lawful s (freshBooks s)
-fresh-lawful s i = record { sound = fresh-sound s i; safe = fresh-inv s (ranges s i); booked = fresh-booked s }
-
--- the ledger's own world is the run's
-books-world : (s : Setup) (xs : List Step) (b : Books) → booksThrough s b xs .world ≡ ran s (b .world) xs
-unfolding booksThrough booksAfter ran
-books-world s [] b = refl
-books-world s (x ∷ xs) b = books-world s xs (booksAfter s b x)
-
-pub ran-on : (s : Setup) (w : World) (xs ys : List Step) → ran s w (xs ++ ys) ≡ ran s (ran s w xs) ys
-unfolding ran
-ran-on s w [] ys = refl
-ran-on s w (x ∷ xs) ys = ran-on s (stepped s w x) xs ys
 
 -- ---- the policy from a world on: m steps, however many more it may take, and then the copy may be shown
 module _ (s : Setup) (i : inRange s ≡ true) (d o : ℕ) (hd : d < s .clients) (ho : o < s .objects) where
@@ -151,22 +118,6 @@ module _ (s : Setup) (i : inRange s ≡ true) (ys : List Step) (d o : ℕ) where
   abbrev reached : World
   reached = ran s (freshWorld s) ys
 
-  run-lawful : (xs : List Step) → Lawful s (booksThrough s (freshBooks s) xs)
-  run-lawful xs = lawful s i xs (freshBooks s) (fresh-lawful s i)
-
-  pub run-sound : (xs : List Step) → SoundWorld s (ran s (freshWorld s) xs)
-  run-sound xs = rw (books-world s xs (freshBooks s)) at (run-lawful xs .sound)
-
-  run-safe : (xs : List Step) → Inv s (ran s (freshWorld s) xs)
-  run-safe xs = rw (books-world s xs (freshBooks s)) at (run-lawful xs .safe)
-
-  -- a copy that may be shown has the ledger's posted value
-  posted : (xs : List Step) → d < s .clients → o < s .objects → showable s (ran s (freshWorld s) xs .tables) (copyAt s (ran s (freshWorld s) xs .copies) d o) d o ≡ true
-      → copyAt s (ran s (freshWorld s) xs .copies) d o .value ≡ postedAfter s xs o
-  posted xs hd ho e =
-      reads-current s i _ (run-sound xs) (run-safe xs) d o hd ho e
-      ∙ (rw (books-world s xs (freshBooks s)) at (run-lawful xs .booked .values o ho))
-
   shown-after : (m : ℕ) (xs : List Step) (hd : d < s .clients) (ho : o < s .objects) → Leads s i d o hd ho reached m xs → ShownAfter s ys d o m xs
   shown-after m xs hd ho h =
       let e = ran-on s (freshWorld s) ys xs in
@@ -175,15 +126,15 @@ module _ (s : Setup) (i : inRange s ≡ true) (ys : List Step) (d o : ℕ) where
         many = h .many;
         accepted = h .accepted;
         empty = g .empty;
-        shown = read-shows s i _ (run-sound (ys ++ xs)) d o hd ho (g .shows) ∙ ap Shown (posted (ys ++ xs) hd ho (g .shows));
+        shown = read-shows s i _ (run-sound s i (ys ++ xs)) d o hd ho (g .shows) ∙ ap Shown (shows-posted s i (ys ++ xs) d o hd ho (g .shows));
       }
 
-  pub shown-in-time : Waits s (ran s (freshWorld s) ys) d o → ShownInTime s ys d o
+  pub shown-in-time : Quiet s (ran s (freshWorld s) ys) d o → ShownInTime s ys d o
   shown-in-time h n l =
       cond-keeps (λ (m : ℕ). ShownAfter s ys d o m (policy s d o n true reached)) (connected (reached .tables) d (volumeOf s o))
-      (λ e. shown-after 3 _ (h .client) (h .object) (from-connected s i d o (h .client) (h .object) reached (run-sound ys) (idle true e) (omega (arith, h .numbers)) n (omega arith)))
-      (λ e. shown-after 7 _ (h .client) (h .object) (from-unconnected s i d o (h .client) (h .object) reached (run-sound ys) (idle false e) (h .numbers) n l))
+      (λ e. shown-after 3 _ (h .client) (h .object) (from-connected s i d o (h .client) (h .object) reached (run-sound s i ys) (idle true e) (omega (arith, h .numbers)) n (omega arith)))
+      (λ e. shown-after 7 _ (h .client) (h .object) (from-unconnected s i d o (h .client) (h .object) reached (run-sound s i ys) (idle false e) (h .numbers) n l))
     where
       -- here the invariant's fact is used that every number seen is below the next one
       idle : (known : Bool) → connected (reached .tables) d (volumeOf s o) ≡ known → Idle s reached d o known
-      idle known e = record { empty = h .empty; vacant = h .vacant; unseen = run-safe ys .numbers .past d (h .client); connects = e }
+      idle known e = record { empty = h .empty; vacant = h .vacant; unseen = run-safe s i ys .numbers .past d (h .client); connects = e }

@@ -14,8 +14,9 @@ use Rattle.protocol.specs.declared.step.Step.{Step}
 use Rattle.protocol.specs.Setup.{inRange}
 use Rattle.protocol.specs.Answers.{isRefused}
 use Rattle.protocol.specs.World.{World, freshWorld, answerOf, ran}
-use Rattle.promises.specs.UntilShown.Policy.{read, policy, Waits, stepsNeeded, postedAfter, ShownAfter}
-use Rattle.promises.specs.UntilShown.InTime.{ran-on, shown-in-time}
+use Rattle.promises.specs.Reached.{postedAfter, ran-on}
+use Rattle.promises.specs.UntilShown.Policy.{read, policy, Quiet, stepsNeeded, ShownAfter}
+use Rattle.promises.specs.UntilShown.InTime.{shown-in-time}
 use Rattle.promises.specs.Calls.{Calls, calls-answer, calls-leave}
 
 pub record ShownByCalls (s : Setup) (ys xs : List Step) (rs : List Answer) (w u : World) (d o : ℕ) (a : Answer) : Type 0 where
@@ -25,7 +26,7 @@ pub record ShownByCalls (s : Setup) (ys xs : List Step) (rs : List Answer) (w u 
   pub shown : a ≡ Shown (postedAfter s (ys ++ xs) o)
 
 pub calls-shown-in-time : (s : Setup) → inRange s ≡ true → (ys : List Step) {qs : List Answer} {w : World} → Calls s (freshWorld s) ys qs w
-    → (d o : ℕ) → Waits s w d o → (n : ℕ) → 7 ≤ n → {rs : List Answer} {u : World} → Calls s w (policy s d o n true w) rs u
+    → (d o : ℕ) → Quiet s w d o → (n : ℕ) → 7 ≤ n → {rs : List Answer} {u : World} → Calls s w (policy s d o n true w) rs u
     → (a : Answer) → a ≡ answerOf s u (read d o) → ShownByCalls s ys (policy s d o n true w) rs w u d o a
 calls-shown-in-time s i ys {w = w} c d o h n l {rs} {u} k a e = record {
   many = f .many;

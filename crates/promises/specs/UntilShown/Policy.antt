@@ -19,8 +19,8 @@ use Rattle.protocol.specs.Messages.{messageAt}
 use Rattle.protocol.specs.Tables.{epochAt, unreachableAt, standingAt, viewEpochAt}
 use Rattle.protocol.specs.Answers.{isRefused}
 use Rattle.protocol.specs.World.{World, freshWorld, stepped, answerOf, ran, answers}
-use Rattle.protocol.specs.Ledger.{Books, freshBooks, booksAfter}
 use Rattle.protocol.specs.Safety.View.{requestAt}
+use Rattle.promises.specs.Reached.{postedAfter}
 
 -- ---- the steps
 abbrev pub read : ℕ → ℕ → Step
@@ -57,8 +57,8 @@ policy s d o (suc n) due w =
 abbrev pub NoneStands : Setup → Tables → ℕ → Type 0
 NoneStands s t o = (k : ℕ) → k < s .objects → volumeOf s k ≡ volumeOf s o → standingAt t k ≡ false
 
--- the state is one in which the client may wait for its read
-pub record Waits (s : Setup) (w : World) (d o : ℕ) : Type 0 where
+-- nothing is under way, nothing stands in the volume, and the client can ask twice
+pub record Quiet (s : Setup) (w : World) (d o : ℕ) : Type 0 where
   pub client : d < s .clients
   pub object : o < s .objects
   -- "with an empty message list"
@@ -75,14 +75,6 @@ connected t d v = not (unreachableAt t d v) && eqb (viewEpochAt t d v) (epochAt 
 -- "at most 7 asks and deliveries. Three are enough when .."
 abbrev pub stepsNeeded : Setup → World → ℕ → ℕ → ℕ
 stepsNeeded s w d o = cond (connected (w .tables) d (volumeOf s o)) 3 7
-
--- the ledger of a run
-unfoldable pub booksThrough : Setup → Books → List Step → Books
-booksThrough s b [] = b
-booksThrough s b (x ∷ xs) = booksThrough s (booksAfter s b x) xs
-
-abbrev pub postedAfter : Setup → List Step → ℕ → ℕ
-postedAfter s xs o = booksThrough s (freshBooks s) xs .ledger .postedValue o
 
 -- after ys, the steps xs of the policy are n, each is accepted, all is delivered, and "its read is shown", with the ledger's posted value
 pub record ShownAfter (s : Setup) (ys : List Step) (d o n : ℕ) (xs : List Step) : Type 0 where

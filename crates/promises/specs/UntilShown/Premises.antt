@@ -27,15 +27,15 @@ use Rattle.protocol.specs.Soundness.StepCases.{copyOf, requestOf, decision-acce
 use Rattle.protocol.specs.Soundness.Question.{SoundWorld, sounds, stepped-sound}
 use Rattle.protocol.specs.Safety.View.{copyAt, requestAt}
 use Rattle.protocol.specs.Safety.Sweeping.{swept-keep}
-use Rattle.promises.specs.UntilShown.Policy.{read, ask, policy, Waits, ShownInTime}
+use Rattle.promises.specs.Reached.{ran-on, run-sound}
+use Rattle.promises.specs.UntilShown.Policy.{read, ask, policy, Quiet, ShownInTime}
 use Rattle.promises.specs.UntilShown.Steps.{asking, ask-accepted, ask-leaves}
 use Rattle.promises.specs.UntilShown.Phases.{standing}
-use Rattle.promises.specs.UntilShown.InTime.{ran-on, run-sound}
 use Rattle.promises.specs.UntilShown.Examples.{two, after, lose, Observed, observed, Works, Fails, writtenBeside, invalidatedTwice, resting, Table, table}
 
 -- ---- the computed runs: what is seen of them, said of the tables
 -- after ys all premises hold
-pub holds : (ys xs : List Step) (n y : ℕ) → Works ys n xs y → n + 1 < 4294967295 → Waits two (after ys) 0 0
+pub holds : (ys xs : List Step) (n y : ℕ) → Works ys n xs y → n + 1 < 4294967295 → Quiet two (after ys) 0 0
 unfolding observed two
 holds ys xs n y e l = record {
   client = omega arith;
@@ -139,7 +139,7 @@ numbers-taken (suc k) l =
     let e = numbers-taken k (omega arith) in
     ran-on two (freshWorld two) (askedInVain k) (ask 0 0 ∷ lose ∷ [])
     ∙ ap (λ (w : World). ran two w (ask 0 0 ∷ lose ∷ [])) e
-    ∙ one-taken (requestAfter k) (rw e at (run-sound two in-range [] 0 0 (askedInVain k))) (omega (arith, next-after k))
+    ∙ one-taken (requestAfter k) (rw e at (run-sound two in-range (askedInVain k))) (omega (arith, next-after k))
 
 last-request : (k : ℕ) → k ≡ 4294967293 → requestAfter k ≡ standing 4294967293 0
 unfolding requestAfter
