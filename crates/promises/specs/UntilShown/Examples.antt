@@ -88,6 +88,18 @@ abbrev pub Fails : World → ℕ → Bool → ℕ → List Step → Type 0
 Fails w messages beside n xs =
     observed w ≡ record { underWay = messages; standing = false; standingBeside = beside; next = n; before = AskFirst; steps = xs; afterwards = AskFirst }
 
+-- the server restarted, and the lease from before has run out
+abbrev pub restarted : List Step
+restarted = long 0 ++ (restart ∷ clock 10 ∷ [])
+
+-- a write completed past its latest end, 10, and marked the client
+abbrev pub marked : List Step
+marked = long 0 ++ (write 0 7 ∷ lose ∷ clock 11 ∷ [])
+
+-- the volume lease has run out, and the copy is held
+abbrev pub expired : List Step
+expired = long 0 ++ (clock 10 ∷ [])
+
 -- client 0 was granted object 1, a write to it waits, and the INVALIDATE is lost
 abbrev pub writtenBeside : List Step
 writtenBeside = long 1 ++ (write 1 7 ∷ lose ∷ [])
@@ -102,14 +114,11 @@ resting r = record { tables = freshTables; copies = freshWorld two .copies; requ
 
 unfoldable pub Table : Type 0
 Table =
-    -- never connected
+    -- never connected; after a server restart; marked; renewing
     Works [] 1 (long 0) 0
-    -- after a server restart, when the lease from before has run out
-    × Works (long 0 ++ (restart ∷ clock 10 ∷ [])) 3 (long 0) 0
-    -- after a write that completed past its latest end, 10, and marked the client
-    × Works (long 0 ++ (write 0 7 ∷ lose ∷ clock 11 ∷ [])) 3 (long 0) 7
-    -- renewing with a copy held
-    × Works (long 0 ++ (clock 10 ∷ [])) 3 (short 0) 0
+    × Works restarted 3 (long 0) 0
+    × Works marked 3 (long 0) 7
+    × Works expired 3 (short 0) 0
     -- the RENEW is answered by the other object's INVALIDATE
     × Fails (after writtenBeside) 0 true 3 (ask 0 0 ∷ deliver ∷ deliver ∷ deliver ∷ [])
     -- the INVALIDATE makes the client forget its request, so that the GRANT is not taken

@@ -1,4 +1,5 @@
--- 02, A1: each premise of the theorem is needed. For each there is a state that a run reaches, in which the others hold and the read is not shown.
+-- 02, A1: the premises of the theorem hold in each of its cases, and each is needed: there is a state that a run reaches, in which the others hold and the
+-- read is not shown.
 -- Letters: ys steps, w world, k how often the client asked, r its request, m a message.
 use Prim.Native.Nat.{ℕ, zero, suc, _+_, _<_}
 use native.Mathlib.Omega.{arith}
@@ -31,11 +32,10 @@ use Rattle.promises.specs.Reached.{ran-on, run-sound}
 use Rattle.promises.specs.UntilShown.Policy.{read, ask, policy, Quiet, ShownInTime}
 use Rattle.promises.specs.UntilShown.Steps.{asking, ask-accepted, ask-leaves}
 use Rattle.promises.specs.UntilShown.Phases.{standing}
-use Rattle.promises.specs.UntilShown.Examples.{two, after, lose, Observed, observed, Works, Fails, writtenBeside, invalidatedTwice, resting, Table, table}
+use Rattle.promises.specs.UntilShown.Examples.{two, after, lose, Observed, observed, Works, Fails, restarted, marked, expired, writtenBeside, invalidatedTwice, resting, Table, table}
 
 -- ---- the computed runs: what is seen of them, said of the tables
--- after ys all premises hold
-pub holds : (ys xs : List Step) (n y : ℕ) → Works ys n xs y → n + 1 < 4294967295 → Quiet two (after ys) 0 0
+holds : (ys xs : List Step) (n y : ℕ) → Works ys n xs y → n + 1 < 4294967295 → Quiet two (after ys) 0 0
 unfolding observed two
 holds ys xs n y e l = record {
   client = omega arith;
@@ -49,6 +49,12 @@ holds ys xs n y e l = record {
     vacant zero h = ap (λ (x : Observed). x .standing) e
     vacant (suc zero) h = ap (λ (x : Observed). x .standingBeside) e
     vacant (suc (suc k)) h = absurd (omega arith)
+
+-- the premises hold in each of the four cases
+pub quiet-cases : Quiet two (after []) 0 0 × Quiet two (after restarted) 0 0 × Quiet two (after marked) 0 0 × Quiet two (after expired) 0 0
+unfolding Table
+quiet-cases =
+    (holds [] _ 1 0 (table .0) (omega arith), holds restarted _ 3 0 (table .1) (omega arith), holds marked _ 3 7 (table .2) (omega arith), holds expired _ 3 0 (table .3) (omega arith))
 
 -- after ys so many messages are under way, no write stands on the object, one on the volume's other object or not, and this is the client's next number;
 -- and the read is not shown in time
