@@ -10,22 +10,62 @@ use crate::step_record::Step;
 pub struct RunFile<'a> {
     pub note: &'a [u8],
     pub setup: Setup,
-    records: &'a [u8],
+    /// All but the trailer, so that a place here is one in the file.
+    body: &'a [u8],
 }
 
 impl<'a> RunFile<'a> {
     pub fn len(&self) -> usize {
-        self.records.len() / STEP_BYTES
+        self.steps().len()
     }
 
     pub fn is_empty(&self) -> bool {
-        self.records.is_empty()
+        self.len() == 0
     }
 
-    pub fn steps(&self) -> impl Iterator<Item = Step> + 'a {
-        self.records.chunks_exact(STEP_BYTES).map(read_step)
+    /// Where the setup begins: the note is all that stands before it.
+    pub fn setup_place(&self) -> usize {
+        self.note.len()
+    }
+
+    pub fn steps(&self) -> Steps<'a> {
+        Steps { body: self.body, place: self.setup_place() + SETUP_BYTES }
     }
 }
+
+/// Goes over the step records with a running place (02, A2). Whole records
+/// stand between setup and trailer, so it ends at the trailer.
+#[derive(Clone, Debug)]
+pub struct Steps<'a> {
+    body: &'a [u8],
+    place: usize,
+}
+
+impl Steps<'_> {
+    /// Where the next record begins in the file; past the last one, the
+    /// trailer.
+    pub fn place(&self) -> usize {
+        self.place
+    }
+}
+
+impl Iterator for Steps<'_> {
+    type Item = Step;
+
+    #[inline]
+    fn next(&mut self) -> Option<Step> {
+        let record = self.body.get(self.place..)?.first_chunk()?;
+        self.place += STEP_BYTES;
+        Some(read_step(record))
+    }
+
+    fn size_hint(&self) -> (usize, Option<usize>) {
+        let left = (self.body.len() - self.place) / STEP_BYTES;
+        (left, Some(left))
+    }
+}
+
+impl ExactSizeIterator for Steps<'_> {}
 
 /// Distance from the file's end back to the setup.
 pub fn distance(count: usize) -> usize {
@@ -74,11 +114,10 @@ pub fn parts(file: &[u8]) -> Result<RunFile<'_>, Fault> {
     if file.len() < distance(0) {
         return Err(Fault::TooShort(file.len()));
     }
-    let (rest, trailer) = file.split_at(file.len() - TRAILER_BYTES);
-    let note_len = file.len() - distance_back(trailer, file.len())?;
-    let (note, shaped) = rest.split_at(note_len);
-    let (setup, records) = shaped.split_at(SETUP_BYTES);
-    let run = RunFile { note, setup: read_setup(setup)?, records };
+    let (body, trailer) = file.split_at(file.len() - TRAILER_BYTES);
+    let setup_place = file.len() - distance_back(trailer, file.len())?;
+    let (note, shaped) = body.split_at(setup_place);
+    let run = RunFile { note, setup: read_setup(&shaped[..SETUP_BYTES])?, body };
     let mut numbered = run.steps().zip(1..);
     match numbered.find(|(step, _)| *step != step.used_fields()) {
         Some((step, number)) => Err(Fault::Unused { number, step }),
@@ -121,7 +160,7 @@ fn read_setup(bytes: &[u8]) -> Result<Setup, Fault> {
     }
 }
 
-fn read_step(bytes: &[u8]) -> Step {
+fn read_step(bytes: &[u8; STEP_BYTES]) -> Step {
     Step {
         kind: bytes[0],
         client: bytes[1],

@@ -1,0 +1,12 @@
+//! 02, A2: the running place by which the step records of a run file are
+//! found. On generated files, on files by hand, and beside readers whose
+//! place goes wrong.
+
+#[path = "../common/mod.rs"]
+mod common;
+
+mod bytes;
+mod mistakes;
+mod places;
+mod reader;
+mod refused;
