@@ -1,5 +1,5 @@
 -- What each way through a function found, put together.
-use Prim.Native.Nat.{ℕ, _+_, _<_, _≤_}
+use Prim.Native.Nat.{ℕ, _+_, _*_, _<_, _≤_}
 use native.Mathlib.Omega.{arith}
 use mathlib.Core.Bool.{true, false}
 use mathlib.Core.List.{List, _++_}
@@ -8,16 +8,13 @@ use mathlib.Core.Path.{_≡_, sym, ap, _∙_}
 use lib.ListN.{length, take, drop}
 use lib.Seq.{sets, sets-eq, take-append-seam, length-take-le}
 use Rattle.laws.specs.Choice.{true-or-false}
-use Rattle.protocol.specs.Setup.{inRange}
 use Rattle.shape.specs.Shape.{countOf, firstPlace, wellFormed}
-use Rattle.shape.specs.Parts.{Parts, whole, formed-parts}
 use Rattle.runfile.specs.declared.Contents.{Contents}
 use Rattle.runfile.specs.File.{contents, contentsOf}
-use Rattle.runfile.specs.Steps.{stepsOf}
-use Rattle.runfile.specs.Reading.{formed, contents-read, setup-read}
+use Rattle.runfile.specs.Reading.{formed, contents-read, accepted}
 use Rattle.listing.specs.Listing.{header, length-header}
 use Rattle.decimal.specs.Written.{Written, written-then}
-use Rattle.run.specs.Ran.{Roomy, linesOf}
+use Rattle.run_steps.specs.Ran.{linesOf}
 use Rattle.run.specs.declared.Listed.{Listed}
 use Rattle.run.specs.declared.Listed.the-variants as listing-answer
 use Rattle.run.specs.Listed.{setupOf, answersOf, fileListing, listRefusal, listedBytes, listedNumber, listedLength, listing-fits, listed-all, listed-short, listed-none}
@@ -32,18 +29,13 @@ module _ (l : List ℕ) (r : Contents) (e : r ≡ contentsOf l) where
     read-is : r ≡ contents 0 (setupOf l) (countOf l) (firstPlace l)
     read-is = contents-read l r e a
 
-    pub print-fits : 112640 ≤ length out₀ → (inRange (r .setup) ≡ true) × Roomy l (r .first) (r .count) out at
-    print-fits h = (setup-read l r e a, rw read-is (room (formed-parts l (formed l r e a))))
-      where
-        room : Parts l → Roomy l (firstPlace l) (countOf l) out at
-        room p = record {
-          records = omega (arith, whole l p);
-          few = p .few;
-          lines = omega (arith, p .few, w .next, length-header, w .bytes .long);
-        }
+    pub print-fits : 112640 ≤ length out₀ → at + 28 * r .count + 63 ≤ length out
+    print-fits h =
+        let c = accepted l r e a in
+        omega (arith, c .parts .few, c .counted, w .next, length-header, w .bytes .long)
 
-    pub print-written : (out′ : List ℕ) (next : ℕ) → Written out out′ at (linesOf (r .setup) l (r .first) (r .count)) next → Written out₀ out′ 0 (fileListing l) next
-    unfolding fileListing answersOf stepsOf
+    pub print-written : (out′ : List ℕ) (next : ℕ) → Written out out′ at (linesOf (r .setup) l) next → Written out₀ out′ 0 (fileListing l) next
+    unfolding fileListing answersOf
     print-written out′ next g = written-then out₀ out out′ 0 at next header _ w (rw read-is at g)
 
 -- ---- a listing copied into the lent output

@@ -1,6 +1,4 @@
 // A run, from the bytes of its file to the bytes of its listing.
-pub mod steps;
-
 ghost use Prim.Native.Nat.{_≤_};
 ghost use mathlib.Core.Path.{_≡_};
 ghost use lib.ListN.{length};
@@ -24,8 +22,7 @@ fn print(file: &[u8], c: Contents, out: &mut [u8]) -> usize
     ensures { λ r. ⌜ Written (now (out .entry)) (now (out .exit)) 0 (fileListing (now (file .entry))) r ⌝ }
 {
     let at = listing::write_header(out, 0);
-    let s = c.setup;
-    steps::run_steps(file, s, c.first, c.count as usize, out, at)
+    run_steps::run_steps(file, c, out, at)
 }
 
 // The listing of a run file's bytes, whatever they are. What is no run file is refused, 9, and so is an output that is too short for the listing, 8; the

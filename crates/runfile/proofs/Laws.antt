@@ -1,5 +1,5 @@
 -- What each way through a function found, put together.
-use Prim.Native.Nat.{ℕ, _+_, _-_, _*_, _/_, _≤_, _<_}
+use Prim.Native.Nat.{ℕ, _+_, _-_, _≤_, _<_}
 use native.Mathlib.Omega.{arith}
 use mathlib.Core.Bool.{Bool, true, false}
 use mathlib.Core.List.{List}
@@ -10,7 +10,7 @@ use borrow.Author.Tests.{le-leb, lt-leb}
 use Rattle.protocol.specs.declared.setup.Setup.{Setup}
 use Rattle.protocol.specs.declared.step.Step.{Step}
 use Rattle.file_records.specs.Records.{setupIn, stepIn, noStep}
-use Rattle.shape.specs.Shape.{countOf, setupPlace, placeOf, wellFormed}
+use Rattle.shape.specs.Shape.{countOf, setupPlace, wellFormed}
 use Rattle.shape.specs.Parts.{Parts, formed-parts}
 use Rattle.runfile.specs.declared.Contents.{Contents}
 use Rattle.runfile.specs.File.{stepAt, contents, contentsOf, noContents, noteOf}
@@ -44,21 +44,19 @@ module _ (l : List ℕ) where
     unfolding noteOf
     note-no h = rw (← e, h)
 
-module _ (l : List ℕ) (first k : ℕ) where
-  pub before-file : (x : Step) → length l < first → x ≡ noStep → x ≡ stepAt l first k
+module _ (l : List ℕ) (p : ℕ) (x : Step) where
+  not-there : length l < p + 16 → x ≡ noStep → x ≡ stepAt l p
   unfolding stepAt
-  before-file x h e =
-      let g : length l < placeOf first k + 16 = omega arith in
-      rw (lt-leb _ _ g) e
+  not-there h e = rw (lt-leb _ _ h) e
 
-  pub past-file : (x : Step) → first ≤ length l → (length l - first) / 16 ≤ k → x ≡ noStep → x ≡ stepAt l first k
-  unfolding stepAt
-  past-file x h i e =
-      let g : length l < placeOf first k + 16 = omega arith in
-      rw (lt-leb _ _ g) e
+  pub no-record : length l < 16 → x ≡ noStep → x ≡ stepAt l p
+  no-record h e = not-there (omega arith) e
 
-  pub in-file : (x : Step) → first ≤ length l → k < (length l - first) / 16 → x ≡ stepIn l (first + 16 * k) → x ≡ stepAt l first k
+  pub past-last : 16 ≤ length l → length l - 16 < p → x ≡ noStep → x ≡ stepAt l p
+  past-last g h e = not-there (omega arith) e
+
+  pub in-file : 16 ≤ length l → p ≤ length l - 16 → x ≡ stepIn l p → x ≡ stepAt l p
   unfolding stepAt
-  in-file x h i e =
-      let g : placeOf first k + 16 ≤ length l = omega arith in
-      rw (le-leb _ _ g) e
+  in-file g h e =
+      let i : p + 16 ≤ length l = omega arith in
+      rw (le-leb _ _ i) e

@@ -7,7 +7,7 @@ use lib.ListN.{length, take, replicate}
 use Rattle.protocol.specs.declared.setup.Setup.{Setup}
 use Rattle.protocol.specs.declared.step.Step.{Step}
 use Rattle.file_records.specs.Records.{setupIn, stepIn, noStep}
-use Rattle.shape.specs.Shape.{countOf, setupPlace, firstPlace, placeOf, wellFormed}
+use Rattle.shape.specs.Shape.{countOf, setupPlace, firstPlace, wellFormed}
 use Rattle.runfile.specs.declared.Contents.{Contents}
 
 -- what is read of a file that is refused
@@ -27,6 +27,6 @@ contentsOf l = cond (wellFormed l) (contents 0 (setupIn l (setupPlace l)) (count
 unfoldable pub noteOf : List ℕ → List ℕ
 noteOf l = cond (wellFormed l) (take (setupPlace l) l) []
 
--- record k of the steps that begin at `first`; where it is not in the file, a step with nothing in it
-unfoldable pub stepAt : List ℕ → ℕ → ℕ → Step
-stepAt l first k = cond (leb (placeOf first k + 16) (length l)) (stepIn l (placeOf first k)) noStep
+-- the step whose record begins at p; where the file has no such record, a step with nothing in it
+unfoldable pub stepAt : List ℕ → ℕ → Step
+stepAt l p = cond (leb (p + 16) (length l)) (stepIn l p) noStep

@@ -12,10 +12,18 @@ use Rattle.protocol.specs.declared.step.Step.{Step}
 use Rattle.protocol.specs.Setup.{inRange}
 use Rattle.file_records.specs.Records.{setupIn}
 use Rattle.shape.specs.Shape.{countOf, setupPlace, firstPlace, reserved, stepsFit, measured, contentsFit, wellFormed}
-use Rattle.shape.specs.Parts.{formed-parts}
+use Rattle.shape.specs.Parts.{Parts, formed-parts}
+use Rattle.shape.specs.Places.{placeBefore, place-first}
 use Rattle.runfile.specs.declared.Contents.{Contents}
 use Rattle.runfile.specs.File.{stepAt, contents, contentsOf}
-use Rattle.runfile.specs.Steps.{stepsOf, step-there}
+use Rattle.runfile.specs.Steps.{stepsOf, step-is}
+
+-- what a loop over a file's steps is told by what was read of it: how many they are, and where its running place starts
+pub record Accepted (l : List ℕ) (r : Contents) : Type 0 where
+  pub parts : Parts l
+  pub in-range : inRange (r .setup) ≡ true
+  pub counted : r .count ≡ countOf l
+  pub starts : r .first ≡ placeBefore l 0
 
 -- r is what was read of the file l, and it is not refused
 module _ (l : List ℕ) (r : Contents) (e : r ≡ contentsOf l) (a : r .refusal ≡ 0) where
@@ -39,6 +47,9 @@ module _ (l : List ℕ) (r : Contents) (e : r ≡ contentsOf l) (a : r .refusal 
       let k = and-true (eqb (reserved l p) 0 && inRange (setupIn l p)) (stepsFit l (firstPlace l) (countOf l)) h .0 in
       rw contents-read (and-true (eqb (reserved l p) 0) (inRange (setupIn l p)) k .1)
 
-  -- record k is the k-th step
-  pub step-read : (k : ℕ) (d : Step) → k < r .count → stepAt l (r .first) k ≡ getD (stepsOf l) k d
-  step-read k d h = rw contents-read (step-there l (formed-parts l formed) k d (rw contents-read at h))
+  pub accepted : Accepted l r
+  accepted = record { parts = formed-parts l formed; in-range = setup-read; counted = rw contents-read; starts = rw (contents-read, place-first l) }
+
+  -- what is read at the running place before record k is the k-th step
+  pub step-read : (place k : ℕ) (d : Step) → place ≡ placeBefore l k → k < r .count → stepAt l place ≡ getD (stepsOf l) k d
+  step-read place k d e h = step-is l place k e (accepted .parts) (rw (accepted .counted) at h) d

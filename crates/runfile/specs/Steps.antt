@@ -1,14 +1,16 @@
 -- The steps of a run file, in order.
-use Prim.Native.Nat.{ℕ, zero, suc, _+_, _*_, _<_, _≤_}
+use Prim.Native.Nat.{ℕ, zero, suc, _+_, _-_, _*_, _<_, _≤_}
 use native.Mathlib.Omega.{arith}
 use mathlib.Core.List.{List, [], _∷_}
-use mathlib.Core.Path.{_≡_, refl, ap}
+use mathlib.Core.Path.{_≡_, refl, sym, ap, _∙_}
 use lib.ListN.{length, getD}
 use borrow.Author.Tests.{le-leb}
+use Rattle.laws.specs.Loop.{left-more, left-none}
 use Rattle.protocol.specs.declared.step.Step.{Step}
 use Rattle.file_records.specs.Records.{stepIn}
 use Rattle.shape.specs.Shape.{countOf, firstPlace, placeOf}
-use Rattle.shape.specs.Parts.{Parts, whole}
+use Rattle.shape.specs.Parts.{Parts}
+use Rattle.shape.specs.Places.{placeBefore, place-is, place-first, place-next, record-there}
 use Rattle.runfile.specs.File.{stepAt}
 
 -- n records from place p on
@@ -38,15 +40,33 @@ from-at l p (suc n) (suc k) d h =
     let e : p + 16 * suc k ≡ p + 16 + 16 * k = omega arith in
     rw e (from-at l (p + 16) n k d (omega arith))
 
--- the k-th step is what stands in record k
-pub steps-at : (l : List ℕ) (k : ℕ) (d : Step) → k < countOf l → getD (stepsOf l) k d ≡ stepIn l (placeOf (firstPlace l) k)
-unfolding stepsOf
-steps-at l k d h = from-at l (firstPlace l) (countOf l) k d h
+-- ---- the running place
+module _ (l : List ℕ) where
+  -- the steps from the k-th on
+  abbrev pub stepsLeft : ℕ → List Step
+  stepsLeft k = stepsFrom l (placeBefore l k) (countOf l - k)
 
--- record k is in the file, and it is the k-th step
-pub record-there : (l : List ℕ) → Parts l → (k : ℕ) → k < countOf l → placeOf (firstPlace l) k + 16 ≤ length l
-record-there l p k h = omega (arith, whole l p)
+  pub left-first : stepsLeft 0 ≡ stepsOf l
+  unfolding stepsOf
+  left-first =
+      let e : countOf l - 0 ≡ countOf l = omega arith in
+      rw (place-first l, e)
 
-pub step-there : (l : List ℕ) → Parts l → (k : ℕ) (d : Step) → k < countOf l → stepAt l (firstPlace l) k ≡ getD (stepsOf l) k d
-unfolding stepAt
-step-there l p k d h = rw (le-leb _ _ (record-there l p k h), steps-at l k d h)
+  pub left-last : (k : ℕ) → countOf l ≤ k → stepsLeft k ≡ []
+  unfolding stepsFrom
+  left-last k h = rw (left-none (countOf l) k h)
+
+  module _ (place k : ℕ) (e : place ≡ placeBefore l k) (p : Parts l) (h : k < countOf l) where
+    -- what is read there is the record
+    pub step-there : stepAt l place ≡ stepIn l place
+    unfolding stepAt
+    step-there = rw (le-leb _ _ (record-there l place k e p (countOf l) refl h))
+
+    -- and it is the next step
+    pub left-next : stepsLeft k ≡ stepAt l place ∷ stepsLeft (k + 1)
+    unfolding stepsFrom
+    left-next = rw (left-more (countOf l) k h, ← e, ← place-next l place k e, step-there)
+
+    pub step-is : (d : Step) → stepAt l place ≡ getD (stepsOf l) k d
+    unfolding stepsOf
+    step-is d = step-there ∙ ap (stepIn l) (e ∙ place-is l k) ∙ sym (from-at l (firstPlace l) (countOf l) k d h)

@@ -61,16 +61,16 @@ pub fn note(file: &[u8]) -> &[u8]
     &file[..0]
 }
 
-// Record k of the steps that begin at `first`, as `read` gave it. Where the file has no such record, a step with nothing in it.
-pub fn step_at(file: &[u8], first: usize, k: usize) -> Step
-    ensures { λ r. ⌜ r ≡ stepAt (now (file .entry)) first k ⌝ }
+// The step whose record begins at a place, which starts at `first` and goes on by 16. Where the file has no such record, a step with nothing in it.
+pub fn step_at(file: &[u8], place: usize) -> Step
+    ensures { λ r. ⌜ r ≡ stepAt (now (file .entry)) place ⌝ }
 {
     let n = file.len();
-    if n < first {
+    if n < 16 {
         return file_records::no_step();
     }
-    if k < (n - first) / 16 {
-        return file_records::step_in(file, first + 16 * k);
+    if n - 16 < place {
+        return file_records::no_step();
     }
-    file_records::no_step()
+    file_records::step_in(file, place)
 }

@@ -72,9 +72,21 @@ pub fn file(f: &[u8]) {
     last(r.first as u64);
 }
 
-// Record k of a file's steps.
-pub fn record(f: &[u8], k: usize) {
+// The first and the last step of a file, found by going through all records, and what is read after them, where the trailer begins.
+pub fn steps(f: &[u8]) {
     let r = runfile::read(f);
-    let first = r.first;
-    step(runfile::step_at(f, first, k));
+    if r.refusal == 0 {
+        let count = r.count;
+        let mut place = r.first;
+        let mut k = 0;
+        while k < count {
+            let x = runfile::step_at(f, place);
+            place += 16;
+            k += 1;
+            if (k == 1) | (k == count) {
+                step(x);
+            }
+        }
+        step(runfile::step_at(f, place));
+    }
 }

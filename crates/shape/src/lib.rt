@@ -1,9 +1,7 @@
 // Where the parts of a run file stand, and which files are shaped as 01 says.
 
-ghost use Prim.Native.Nat.{_+_, _*_, _≤_};
 ghost use mathlib.Core.Path.{_≡_};
-ghost use lib.ListN.{length};
-ghost use Rattle.shape.specs.Shape.{countOf, setupPlace, stepFits, stepsFit, trailerFits, measured, contentsFit, wellFormed};
+ghost use Rattle.shape.specs.Shape.{countOf, setupPlace, firstPlace, stepFits, stepsFit, trailerFits, measured, contentsFit, wellFormed};
 ghost use Rattle.shape.specs.Parts.{Parts};
 use protocol::step::Step;
 
@@ -17,20 +15,6 @@ fn step_fits(step: Step) -> bool
     let clock = kinds::uses_clock(step) | (step.clock == 0);
     let value = kinds::uses_value(step) | (step.value == 0);
     !kinds::known(step) | (client & object & place & clock & value)
-}
-
-fn steps_fit(file: &[u8], first: usize, count: u32) -> bool
-    requires { ⌜ first + 16 * count ≤ length (now file) ⌝ }
-    ensures { λ r. ⌜ r ≡ stepsFit (now (file .entry)) first count ⌝ }
-{
-    let n = count as usize;
-    let mut ok = true;
-    let mut k = 0;
-    while k < n {
-        ok = ok & step_fits(file_records::step_in(file, first + 16 * k));
-        k += 1;
-    }
-    ok
 }
 
 // The trailer's numbers agree with each other and with a file of n bytes.
@@ -73,6 +57,23 @@ pub fn setup_place(file: &[u8]) -> usize
     n - layout::read_u32(file, n - 4) as usize
 }
 
+// The fields of every step's record. The place goes from record to record, 16 further after each.
+fn steps_fit(file: &[u8]) -> bool
+    requires { ⌜ Parts (now file) ⌝ }
+    ensures { λ r. ⌜ r ≡ stepsFit (now (file .entry)) (firstPlace (now (file .entry))) (countOf (now (file .entry))) ⌝ }
+{
+    let count = count_of(file);
+    let mut place = setup_place(file) + 48;
+    let mut ok = true;
+    let mut k = 0;
+    while k < count {
+        ok = ok & step_fits(file_records::step_in(file, place));
+        place += 16;
+        k += 1;
+    }
+    ok
+}
+
 // The setup is in range, and so are its spare byte and the steps.
 fn contents_fit(file: &[u8]) -> bool
     requires { ⌜ Parts (now file) ⌝ }
@@ -80,7 +81,7 @@ fn contents_fit(file: &[u8]) -> bool
 {
     let at = setup_place(file);
     let head = (file[at + 3] == 0) & setup::in_range(file_records::setup_in(file, at));
-    head & steps_fit(file, at + 48, count_of(file))
+    head & steps_fit(file)
 }
 
 pub fn well_formed(file: &[u8]) -> bool

@@ -18,12 +18,6 @@ setup-in-requires c κs = search needs
 in-range-requires : tie.Need-in-range-requires
 in-range-requires c κs = search needs
 
-add-steps-fit : tie.Need-add-steps-fit
-add-steps-fit c = search needs
-
-count-of-requires : tie.Need-count-of-requires
-count-of-requires c κs = search needs
-
 steps-fit-requires : tie.Need-steps-fit-requires
 steps-fit-requires c κs = search needs
 
@@ -39,7 +33,5 @@ contents-fit-spec =
     shared-slice-read-head
     setup-in-requires
     in-range-requires
-    add-steps-fit
-    count-of-requires
     steps-fit-requires
     returns)

@@ -1,32 +1,43 @@
 use borrow.Author.Needs.{needs}
 use Prim.Native.Nat.{_-_}
+use native.Mathlib.Omega.{arith}
 use native.Mathlib.Nat.{sub-zero}
-use Rattle.laws.specs.Loop.{Scanning, all-end}
-use Rattle.shape.specs.Shape.{stepFitsAt}
-use Rattle.shape.proofs.Laws.{steps-again}
+use mathlib.Core.Path.{_≡_}
+use Rattle.shape.specs.Places.{placeBefore, place-starts, place-next, record-there}
+use Rattle.shape.proofs.Laws.{Asked, steps-again, steps-end}
 use Rattle.shape.proofs.steps_fit.Statement.{statement}
 use Rattle.shape.proofs.steps_fit.Tie as tie
 
+-- the running place is the one before record k
 abbrev Inv-loop : tie.InvT-loop
-Inv-loop file first count n ok₀ k₀ ok k = Scanning (stepFitsAt file first) count ok k
+Inv-loop file count place₀ ok₀ k₀ place ok k = (place ≡ placeBefore file k) × Asked file ok k
 
 abbrev μ-loop : tie.MeasureT-loop
-μ-loop file first count n ok₀ k₀ ok k = count - k
+μ-loop file count place₀ ok₀ k₀ place ok k = count - k
+
+count-of-requires : tie.Need-count-of-requires Inv-loop μ-loop
+count-of-requires c κs = search needs
+
+setup-place-requires : tie.Need-setup-place-requires Inv-loop μ-loop
+setup-place-requires c κs = search needs
+
+add-place : tie.Need-add-place Inv-loop μ-loop
+add-place c = search needs
 
 loop-holds : tie.Need-loop-holds Inv-loop μ-loop
-loop-holds c = (search needs, rw sub-zero)
-
-mul-step-in : tie.Need-mul-step-in Inv-loop μ-loop
-mul-step-in c = search needs
-
-add-step-in : tie.Need-add-step-in Inv-loop μ-loop
-add-step-in c = search needs
+loop-holds c = (search place-starts, (search needs, rw sub-zero))
 
 step-in-requires : tie.Need-step-in-requires Inv-loop μ-loop
-step-in-requires c κs = search needs
+step-in-requires c κs = search record-there
 
 step-fits-requires : tie.Need-step-fits-requires Inv-loop μ-loop
 step-fits-requires c κs = search needs
+
+add-place-2 : tie.Need-add-place-2 Inv-loop μ-loop
+add-place-2 c =
+    let l = c .before .before .before in
+    let p = l .before .before .before .before .pre in
+    omega (arith, record-there _ _ _ (l .loop .inv .0) p _ (l .before .before .count-of .ensures) (c .before .before .loop-test .taken), p .short)
 
 add-k : tie.Need-add-k Inv-loop μ-loop
 add-k c = search needs
@@ -35,10 +46,10 @@ loop-less : tie.Need-loop-less Inv-loop μ-loop
 loop-less c = search needs
 
 loop-again : tie.Need-loop-again Inv-loop μ-loop
-loop-again c = (search needs, steps-again _ _ _ _ _ (c .before .before .before .loop .ok) _ _ (c .before .before .loop-test .taken) (c .before .step-in .ensures) (c .step-fits .ensures) (c .before .before .before .loop .inv .1))
+loop-again c = (search place-next, search steps-again)
 
 returns : tie.Need-returns Inv-loop μ-loop
-returns c = search all-end
+returns c = search steps-end
 
 pub steps-fit-spec : {M : Type 1} → statement M
 steps-fit-spec =
@@ -46,11 +57,13 @@ steps-fit-spec =
     (tie.spec
     Inv-loop
     μ-loop
+    count-of-requires
+    setup-place-requires
+    add-place
     loop-holds
-    mul-step-in
-    add-step-in
     step-in-requires
     step-fits-requires
+    add-place-2
     add-k
     loop-less
     loop-again
