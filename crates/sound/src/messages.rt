@@ -1,9 +1,9 @@
 ghost use mathlib.Core.Path.{_≡_};
 ghost use Rattle.protocol.specs.Sound.{queueSound};
 ghost use Rattle.words.specs.View.{tablesOf};
-use items::messages::message_sound;
 use protocol::setup::Setup;
 use queue::list;
+use sound_message::messages::message_sound;
 use words::Values;
 use words::Words;
 use words::network;

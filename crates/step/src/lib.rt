@@ -1,12 +1,12 @@
 // The public step over lent words and lent records: look up the records that a step can touch, decide, do to them what the decision says.
-ghost use mathlib.Core.Bool.{_&&_};
 ghost use mathlib.Core.Path.{_≡_};
 ghost use Rattle.protocol.specs.Answers.{answerNumber, answerValue};
 ghost use Rattle.protocol.specs.World.{answerOf, stepped};
 ghost use Rattle.step.specs.Lent.{world};
-ghost use Rattle.step.specs.Numbers.{numberOf, valueOf};
+ghost use Rattle.step_numbers.specs.Numbers.{numberOf, valueOf};
 ghost use Rattle.words.specs.View.{recordsOf};
 use decide::decide;
+use items::both;
 use lent_copies::copies;
 use lent_copies::sweep::sweep;
 use lent_requests::requests;
@@ -19,12 +19,6 @@ use protocol::step::Step;
 use targets::target;
 use words::Values;
 use words::Words;
-
-fn both(a: bool, b: bool) -> bool
-    ensures { λ r. ⌜ r ≡ (a && b) ⌝ }
-{
-    a & b
-}
 
 // One step (01, "Steps"), on any input whatever. `copies` are all clients' copies in one list, client by client in object order; `requests` one a
 // client. The records that the words have room for are as they were.

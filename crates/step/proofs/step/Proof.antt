@@ -63,7 +63,7 @@ use denote.Enum.Laws as EL
 use Rattle.words.specs.View.{tablesOf as viewOf, recordsOf}
 use Rattle.lent.specs.Rows.{lend-mut, back-mut, lend-shr-at, back-shr, Part}
 use Rattle.step.specs.Lent.{world}
-use Rattle.step.specs.Numbers.{numberOf, valueOf, number-is, value-is}
+use Rattle.step_numbers.specs.Numbers.{numberOf, valueOf, number-is, value-is}
 use Rattle.step.specs.Refused.{refused-same}
 use Rattle.protocol.specs.declared.records.Copy.{Copy}
 use Rattle.protocol.proofs.records.Copy as R-
@@ -104,10 +104,10 @@ use Rattle.lent_requests.proofs.requests.sound as requests-sound-c
 use Rattle.lent_requests.proofs.requests.sound.Symbol as requests-sound-def
 use Rattle.lent_requests.proofs.requests.sound.Symbol.{name as #lent-requests·requests·sound}
 use Rattle.lent_requests.proofs.requests.sound.Met as requests-sound-thm
-use Rattle.step.proofs.both as both-c
-use Rattle.step.proofs.both.Symbol as both-def
-use Rattle.step.proofs.both.Symbol.{name as #step·both}
-use Rattle.step.proofs.both.Met as both-thm
+use Rattle.items.proofs.both as both-c
+use Rattle.items.proofs.both.Symbol as both-def
+use Rattle.items.proofs.both.Symbol.{name as #items·both}
+use Rattle.items.proofs.both.Met as both-thm
 use Rattle.targets.proofs.target as target-c
 use Rattle.targets.proofs.target.Symbol as target-def
 use Rattle.targets.proofs.target.Symbol.{name as #targets·target}
@@ -547,7 +547,7 @@ module _ {M : Type 1} (𝓤 : URA M) (H : Heap 𝓤) (A : Atoms 𝓤) (W : Given
       move ! (1 ∷ 0 ∷ []) $ fjoin ! $
       owned ! S (Is S) (LL.makes S-.the-type S′.the-plain 𝓤 H A) st _ is-st $ fjoin ! $ frame ! $ owned ! N (Is N) (EL.makes N-.the-type N′.the-plain 𝓤 H A) (d .answer) _ (in-d d is .1 .0) $ done !
 
-  module _ (𝓣 : Tables 𝓤 H) (fm : FmC 𝓤 H (W .laws) (𝓣 .C)) (known-copies-sound : Triple 𝓤 (𝓣 .C #lent-copies·copies·sound) (On-copies-sound 𝓤 H A at-mem run)) (known-requests-sound : Triple 𝓤 (𝓣 .C #lent-requests·requests·sound) (On-requests-sound 𝓤 H A at-mem run)) (known-both : Triple 𝓤 (𝓣 .C #step·both) (On-both 𝓤 H A at-mem run)) (known-target : Triple 𝓤 (𝓣 .C #targets·target) (On-target 𝓤 H A at-mem run)) (known-copies-look : Triple 𝓤 (𝓣 .C #lent-copies·copies·look) (On-copies-look 𝓤 H A at-mem run)) (known-requests-look : Triple 𝓤 (𝓣 .C #lent-requests·requests·look) (On-requests-look 𝓤 H A at-mem run)) (known-decide : Triple 𝓤 (𝓣 .C #decide·decide) (On-decide 𝓤 H A at-mem run)) (known-change : Triple 𝓤 (𝓣 .C #lent-copies·copies·change) (On-change 𝓤 H A at-mem run)) (known-sweep : Triple 𝓤 (𝓣 .C #lent-copies·sweep·sweep) (On-sweep 𝓤 H A at-mem run)) (known-update : Triple 𝓤 (𝓣 .C #lent-requests·turn·update) (On-update 𝓤 H A at-mem run)) where
+  module _ (𝓣 : Tables 𝓤 H) (fm : FmC 𝓤 H (W .laws) (𝓣 .C)) (known-copies-sound : Triple 𝓤 (𝓣 .C #lent-copies·copies·sound) (On-copies-sound 𝓤 H A at-mem run)) (known-requests-sound : Triple 𝓤 (𝓣 .C #lent-requests·requests·sound) (On-requests-sound 𝓤 H A at-mem run)) (known-both : Triple 𝓤 (𝓣 .C #items·both) (On-both 𝓤 H A at-mem run)) (known-target : Triple 𝓤 (𝓣 .C #targets·target) (On-target 𝓤 H A at-mem run)) (known-copies-look : Triple 𝓤 (𝓣 .C #lent-copies·copies·look) (On-copies-look 𝓤 H A at-mem run)) (known-requests-look : Triple 𝓤 (𝓣 .C #lent-requests·requests·look) (On-requests-look 𝓤 H A at-mem run)) (known-decide : Triple 𝓤 (𝓣 .C #decide·decide) (On-decide 𝓤 H A at-mem run)) (known-change : Triple 𝓤 (𝓣 .C #lent-copies·copies·change) (On-change 𝓤 H A at-mem run)) (known-sweep : Triple 𝓤 (𝓣 .C #lent-copies·sweep·sweep) (On-sweep 𝓤 H A at-mem run)) (known-update : Triple 𝓤 (𝓣 .C #lent-requests·turn·update) (On-update 𝓤 H A at-mem run)) where
     -- what the body starts from: the four borrows open, the arguments in their locals
     abbrev Start : ℕ → ℕ → ℕ → ℕ → ℕ → ℕ → ℕ → ℕ → ℕ → ℕ → ℕ → ℕ → ℕ → ℕ → ℕ → ℕ → ℕ → ℕ → ℕ → ℕ → ℕ → ℕ → ℕ → ℕ → ℕ → ℕ → ℕ → ℕ → ℕ → ℕ → ℕ → ℕ → ℕ → List (Item 𝓤)
     Start l₀ l₁ l₂ l₃ l₄ l₅ l₆ l₇ l₈ l₉ l₁₀ l₁₁ l₁₂ l₁₃ l₁₄ l₁₅ l₁₆ l₁₇ l₁₈ l₁₉ l₂₀ l₂₁ l₂₂ l₂₃ l₂₄ l₂₅ l₂₆ l₂₇ l₂₈ l₂₉ l₃₀ l₃₁ l₃₂ = ‵ (partAt Ws fullShare ws bw ow) ∷ ‵ (fobor κw qw (Body (mem Ws) bw ow γw)) ∷ ‵ (fobs γw (Ws .coded .code ws)) ∷ ‵ (fauth γw (Ws .coded .code ws))
@@ -736,13 +736,13 @@ module _ {M : Type 1} (𝓤 : URA M) (H : Heap 𝓤) (A : Atoms 𝓤) (W : Given
         keep ! (12 ∷ 13 ∷ 14 ∷ 15 ∷ 8 ∷ 9 ∷ 10 ∷ 11 ∷ 4 ∷ 5 ∷ 6 ∷ 7 ∷ 0 ∷ 1 ∷ 2 ∷ 3 ∷ 87 ∷ 85 ∷ 83 ∷ 81 ∷ 79 ∷ 77 ∷ 75 ∷ 73 ∷ 71 ∷ 69 ∷ 67 ∷ 65 ∷ 63 ∷ 61 ∷ 59 ∷ 57 ∷ 55 ∷ 53 ∷ 51 ∷ 49 ∷ 47 ∷ 45 ∷ 43 ∷ 41 ∷ 39 ∷ 37 ∷ 35 ∷ 33 ∷ 31 ∷ 29 ∷ 27 ∷ 25 ∷ 23 ∷ 88 ∷ 86 ∷ 84 ∷ 82 ∷ 80 ∷ 78 ∷ 76 ∷ 74 ∷ 72 ∷ 70 ∷ 68 ∷ 66 ∷ 64 ∷ 62 ∷ 60 ∷ 58 ∷ 56 ∷ 54 ∷ 52 ∷ 50 ∷ 48 ∷ 46 ∷ 44 ∷ 42 ∷ 40 ∷ 38 ∷ 36 ∷ 34 ∷ 32 ∷ 30 ∷ 28 ∷ 26 ∷ 24 ∷ []) $ body gn gq l₀ l₁ l₂ l₃ l₄ l₅ l₆ l₇ l₈ l₉ l₁₀ l₁₁ l₁₂ l₁₃ l₁₄ l₁₅ l₁₆ l₁₇ l₁₈ l₁₉ l₂₀ l₂₁ l₂₂ l₂₃ l₂₄ l₂₅ l₂₆ l₂₇ l₂₈ l₂₉ l₃₀ l₃₁ l₃₂)))))))))))))))))))))))))))))))))
 
 module _ {M : Type 1} (𝓤 : URA M) (H : Heap 𝓤) (A : Atoms 𝓤) (W : Given 𝓤 H A) (mem : Memory → SProp 𝓤) (run : Routine → Fun 𝓤) where
-  this-walks : (𝓣 : Tables 𝓤 H) → Triple 𝓤 (𝓣 .C #lent-copies·copies·sound) (On-copies-sound 𝓤 H A mem run) → Triple 𝓤 (𝓣 .C #lent-requests·requests·sound) (On-requests-sound 𝓤 H A mem run) → Triple 𝓤 (𝓣 .C #step·both) (On-both 𝓤 H A mem run) → Triple 𝓤 (𝓣 .C #targets·target) (On-target 𝓤 H A mem run) → Triple 𝓤 (𝓣 .C #lent-copies·copies·look) (On-copies-look 𝓤 H A mem run) → Triple 𝓤 (𝓣 .C #lent-requests·requests·look) (On-requests-look 𝓤 H A mem run) → Triple 𝓤 (𝓣 .C #decide·decide) (On-decide 𝓤 H A mem run) → Triple 𝓤 (𝓣 .C #lent-copies·copies·change) (On-change 𝓤 H A mem run) → Triple 𝓤 (𝓣 .C #lent-copies·sweep·sweep) (On-sweep 𝓤 H A mem run) → Triple 𝓤 (𝓣 .C #lent-requests·turn·update) (On-update 𝓤 H A mem run) → Walks 𝓤 H A this.ended stayed (WpFn 𝓤 H (𝓣 .C) (𝓣 .Λ) code.function) (this.clauses 𝓤 H A mem run)
+  this-walks : (𝓣 : Tables 𝓤 H) → Triple 𝓤 (𝓣 .C #lent-copies·copies·sound) (On-copies-sound 𝓤 H A mem run) → Triple 𝓤 (𝓣 .C #lent-requests·requests·sound) (On-requests-sound 𝓤 H A mem run) → Triple 𝓤 (𝓣 .C #items·both) (On-both 𝓤 H A mem run) → Triple 𝓤 (𝓣 .C #targets·target) (On-target 𝓤 H A mem run) → Triple 𝓤 (𝓣 .C #lent-copies·copies·look) (On-copies-look 𝓤 H A mem run) → Triple 𝓤 (𝓣 .C #lent-requests·requests·look) (On-requests-look 𝓤 H A mem run) → Triple 𝓤 (𝓣 .C #decide·decide) (On-decide 𝓤 H A mem run) → Triple 𝓤 (𝓣 .C #lent-copies·copies·change) (On-change 𝓤 H A mem run) → Triple 𝓤 (𝓣 .C #lent-copies·sweep·sweep) (On-sweep 𝓤 H A mem run) → Triple 𝓤 (𝓣 .C #lent-requests·turn·update) (On-update 𝓤 H A mem run) → Walks 𝓤 H A this.ended stayed (WpFn 𝓤 H (𝓣 .C) (𝓣 .Λ) code.function) (this.clauses 𝓤 H A mem run)
   this-walks 𝓣 known-copies-sound known-requests-sound known-both known-target known-copies-look known-requests-look known-decide known-change known-sweep known-update = walked 𝓤 H A this.ended stayed (this.clauses 𝓤 H A mem run) (WpFn 𝓤 H (𝓣 .C) (𝓣 .Λ) code.function) (λ κs. ((LL.vals S-.the-type S′.the-laws), (ptr-vals, (ptr-vals, (slice-vals, (slice-vals, ((LL.vals U-.the-type U′.the-laws), tt))))))) (λ κs. ((LL.tells S-.the-type S′.the-laws), (mut-tells (named 0) (κs .0) Ws, (mut-tells (named 1) (κs .1 .0) Vs, (mut-slice-tells (named 2) (κs .1 .1 .0) R, (mut-slice-tells (named 3) (κs .1 .1 .1 .0) Q, ((LL.tells U-.the-type U′.the-laws), tt)))))))
       (λ κs qs bounds a g are. via 𝓤 _ (fst∗ 𝓤 _ (emp 𝓤)) (walk 𝓤 H A W mem run (κs .0) (κs .1 .0) (κs .1 .1 .0) (κs .1 .1 .1 .0) (qs .0) (qs .1 .0) (qs .1 .1 .0) (qs .1 .1 .1 .0) (a .0)
       (a .1 .0 .ptr .0) (a .1 .0 .ptr .1) (a .1 .0 .name) (a .1 .0 .now) (a .1 .1 .0 .ptr .0) (a .1 .1 .0 .ptr .1) (a .1 .1 .0 .name) (a .1 .1 .0 .now) (a .1 .1 .1 .0 .ptr .0) (a .1 .1 .1 .0 .ptr .1) (a .1 .1 .1 .0 .name) (a .1 .1 .1 .0 .now) (a .1 .1 .1 .1 .0 .ptr .0) (a .1 .1 .1 .1 .0 .ptr .1) (a .1 .1 .1 .1 .0 .name) (a .1 .1 .1 .1 .0 .now) (a .1 .1 .1 .1 .1 .0) (are .0) (are .1 .1 .1 .1 .1 .0) 𝓣 (fmOf 𝓤 H (W .laws) 𝓣) known-copies-sound known-requests-sound known-both known-target known-copies-look known-requests-look known-decide known-change known-sweep known-update (are .1 .1 .1 .0 .0 .1) (are .1 .1 .1 .1 .0 .0 .1)))
 
 this-meets : {M : Type 1} (𝓤 : URA M) (H : Heap 𝓤) (A : Atoms 𝓤) → Given 𝓤 H A → (mem : Memory → SProp 𝓤) (run : Routine → Fun 𝓤) (𝓣 : Tables 𝓤 H)
-    → Triple 𝓤 (𝓣 .C #lent-copies·copies·sound) (On-copies-sound 𝓤 H A mem run) → Triple 𝓤 (𝓣 .C #lent-requests·requests·sound) (On-requests-sound 𝓤 H A mem run) → Triple 𝓤 (𝓣 .C #step·both) (On-both 𝓤 H A mem run) → Triple 𝓤 (𝓣 .C #targets·target) (On-target 𝓤 H A mem run) → Triple 𝓤 (𝓣 .C #lent-copies·copies·look) (On-copies-look 𝓤 H A mem run) → Triple 𝓤 (𝓣 .C #lent-requests·requests·look) (On-requests-look 𝓤 H A mem run) → Triple 𝓤 (𝓣 .C #decide·decide) (On-decide 𝓤 H A mem run) → Triple 𝓤 (𝓣 .C #lent-copies·copies·change) (On-change 𝓤 H A mem run) → Triple 𝓤 (𝓣 .C #lent-copies·sweep·sweep) (On-sweep 𝓤 H A mem run) → Triple 𝓤 (𝓣 .C #lent-requests·turn·update) (On-update 𝓤 H A mem run) → Meets 𝓤 H A this.signature (WpFn 𝓤 H (𝓣 .C) (𝓣 .Λ) code.function) (this.spec 𝓤 H A mem run)
+    → Triple 𝓤 (𝓣 .C #lent-copies·copies·sound) (On-copies-sound 𝓤 H A mem run) → Triple 𝓤 (𝓣 .C #lent-requests·requests·sound) (On-requests-sound 𝓤 H A mem run) → Triple 𝓤 (𝓣 .C #items·both) (On-both 𝓤 H A mem run) → Triple 𝓤 (𝓣 .C #targets·target) (On-target 𝓤 H A mem run) → Triple 𝓤 (𝓣 .C #lent-copies·copies·look) (On-copies-look 𝓤 H A mem run) → Triple 𝓤 (𝓣 .C #lent-requests·requests·look) (On-requests-look 𝓤 H A mem run) → Triple 𝓤 (𝓣 .C #decide·decide) (On-decide 𝓤 H A mem run) → Triple 𝓤 (𝓣 .C #lent-copies·copies·change) (On-change 𝓤 H A mem run) → Triple 𝓤 (𝓣 .C #lent-copies·sweep·sweep) (On-sweep 𝓤 H A mem run) → Triple 𝓤 (𝓣 .C #lent-requests·turn·update) (On-update 𝓤 H A mem run) → Meets 𝓤 H A this.signature (WpFn 𝓤 H (𝓣 .C) (𝓣 .Λ) code.function) (this.spec 𝓤 H A mem run)
 this-meets 𝓤 H A W mem run 𝓣 known-copies-sound known-requests-sound known-both known-target known-copies-look known-requests-look known-decide known-change known-sweep known-update =
     walk-meets 𝓤 H A this.ended stayed W (goes-none 𝓤 H A W 4 (λ _. S) yes (λ κs x f. refl), (goes-ref 𝓤 H A W 4 0 tt (plain (λ _. Ws)), (goes-ref 𝓤 H A W 4 1 tt (plain (λ _. Vs)), (goes-slice 𝓤 H A W 4 2 tt (plain (λ _. R)), (goes-slice 𝓤 H A W 4 3 tt (plain (λ _. Q)), (goes-none 𝓤 H A W 4 (λ _. U) yes (λ κs x f. refl), tt)))))) (this.clauses 𝓤 H A mem run)
     (WpFn 𝓤 H (𝓣 .C) (𝓣 .Λ) code.function) (WpFn-mono 𝓤 H (W .laws) 𝓣 code.function) (this-walks 𝓤 H A W mem run 𝓣 known-copies-sound known-requests-sound known-both known-target known-copies-look known-requests-look known-decide known-change known-sweep known-update)
@@ -755,7 +755,7 @@ step-spec 𝓤 H 𝓜 𝓖 𝓡 =
     (this-meets 𝓤 H (𝓖 .A) (givenOf 𝓤 H 𝓜 𝓖) (𝓜 .mem) (𝓡 .run) (tablesOf 𝓤 H 𝓜 (tables 𝓤 H 𝓜 𝓡 code.env))
     (cited 𝓤 H (On-copies-sound 𝓤 H (𝓖 .A) (𝓜 .mem) (𝓡 .run)) 𝓜 𝓡 code.env #lent-copies·copies·sound copies-sound-def.routine code.calls-lent-copies·copies·sound (copies-sound-thm.met 𝓤 H 𝓜 𝓖 𝓡))
     (cited 𝓤 H (On-requests-sound 𝓤 H (𝓖 .A) (𝓜 .mem) (𝓡 .run)) 𝓜 𝓡 code.env #lent-requests·requests·sound requests-sound-def.routine code.calls-lent-requests·requests·sound (requests-sound-thm.met 𝓤 H 𝓜 𝓖 𝓡))
-    (cited 𝓤 H (On-both 𝓤 H (𝓖 .A) (𝓜 .mem) (𝓡 .run)) 𝓜 𝓡 code.env #step·both both-def.routine code.calls-step·both (both-thm.met 𝓤 H 𝓜 𝓖 𝓡))
+    (cited 𝓤 H (On-both 𝓤 H (𝓖 .A) (𝓜 .mem) (𝓡 .run)) 𝓜 𝓡 code.env #items·both both-def.routine code.calls-items·both (both-thm.met 𝓤 H 𝓜 𝓖 𝓡))
     (cited 𝓤 H (On-target 𝓤 H (𝓖 .A) (𝓜 .mem) (𝓡 .run)) 𝓜 𝓡 code.env #targets·target target-def.routine code.calls-targets·target (target-thm.met 𝓤 H 𝓜 𝓖 𝓡))
     (cited 𝓤 H (On-copies-look 𝓤 H (𝓖 .A) (𝓜 .mem) (𝓡 .run)) 𝓜 𝓡 code.env #lent-copies·copies·look copies-look-def.routine code.calls-lent-copies·copies·look (copies-look-thm.met 𝓤 H 𝓜 𝓖 𝓡))
     (cited 𝓤 H (On-requests-look 𝓤 H (𝓖 .A) (𝓜 .mem) (𝓡 .run)) 𝓜 𝓡 code.env #lent-requests·requests·look requests-look-def.routine code.calls-lent-requests·requests·look (requests-look-thm.met 𝓤 H 𝓜 𝓖 𝓡))

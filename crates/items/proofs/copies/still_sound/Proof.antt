@@ -6,7 +6,7 @@ copy-sound-requires : tie.Need-copy-sound-requires
 copy-sound-requires c κs = search needs
 
 returns : tie.Need-returns
-returns c = cc
+returns c = rw (c .copy-sound .ensures)
 
 pub still-sound-spec : {M : Type 1} → statement M
 still-sound-spec = tie.close (tie.spec copy-sound-requires returns)

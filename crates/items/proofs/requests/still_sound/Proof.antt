@@ -6,7 +6,7 @@ request-sound-requires : tie.Need-request-sound-requires
 request-sound-requires c κs = search needs
 
 returns : tie.Need-returns
-returns c = cc
+returns c = rw (c .request-sound .ensures)
 
 pub still-sound-spec : {M : Type 1} → statement M
 still-sound-spec = tie.close (tie.spec request-sound-requires returns)

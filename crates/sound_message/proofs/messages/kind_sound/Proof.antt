@@ -1,7 +1,7 @@
 use borrow.Author.Needs.{needs}
-use Rattle.items.proofs.ByKind.{kinds}
-use Rattle.items.proofs.messages.kind_sound.Statement.{statement}
-use Rattle.items.proofs.messages.kind_sound.Tie as tie
+use Rattle.sound_message.proofs.ByKind.{kinds}
+use Rattle.sound_message.proofs.messages.kind_sound.Statement.{statement}
+use Rattle.sound_message.proofs.messages.kind_sound.Tie as tie
 
 enum-known-kind : tie.Need-enum-known-kind
 enum-known-kind c = search needs

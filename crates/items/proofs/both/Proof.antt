@@ -1,7 +1,7 @@
 -- Rattle proves this by itself; the file is here so that a must-fail edit is refused at the fact that fails.
 use borrow.Author.Needs.{needs}
-use Rattle.step.proofs.both.Statement.{statement}
-use Rattle.step.proofs.both.Tie as tie
+use Rattle.items.proofs.both.Statement.{statement}
+use Rattle.items.proofs.both.Tie as tie
 
 returns : tie.Need-returns
 returns c = search needs

@@ -1,0 +1,2 @@
+// Question 1 of one message, by value (01, "Questions at the gate").
+pub mod messages;
