@@ -6,7 +6,7 @@ kind-in-requires : tie.Need-kind-in-requires
 kind-in-requires c κs = search needs
 
 returns : tie.Need-returns
-returns c = cc
+returns c = rw (c .kind-in .ensures)
 
 pub message-in-spec : {M : Type 1} → statement M
 message-in-spec = tie.close (tie.spec kind-in-requires returns)

@@ -9,7 +9,7 @@ sweep-requires : tie.Need-sweep-requires
 sweep-requires c κs = search needs
 
 returns : tie.Need-returns
-returns c = cc
+returns c = rw (← c .before .less .ensures) (c .sweep .ensures)
 
 pub swept-at-spec : {M : Type 1} → statement M
 swept-at-spec = tie.close (tie.spec less-requires sweep-requires returns)
