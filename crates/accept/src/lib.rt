@@ -12,7 +12,7 @@ use leases::time;
 use protocol::message::Kind;
 use protocol::message::Message;
 use protocol::setup::Setup;
-use queue::list;
+use sending::push;
 use waiting::clients;
 use words::Values;
 use words::Words;
@@ -66,7 +66,7 @@ fn invalidate(
             epoch,
             version,
         };
-        list::push(
+        push(
             &mut *words,
             &mut *values,
             Message {

@@ -20,7 +20,7 @@ use protocol::step::Change;
 use protocol::step::CopyChange;
 use protocol::step::Sweep;
 use protocol::step::Turn;
-use queue::list;
+use sending::push;
 use words::Values;
 use words::Words;
 
@@ -88,7 +88,7 @@ pub fn invalidate(
         epoch,
         version,
     };
-    list::push(&mut *words, &mut *values, Message { client, kind });
+    push(&mut *words, &mut *values, Message { client, kind });
     Change {
         copy: CopyChange::Erase,
         request: request::forget(r, object),
@@ -118,7 +118,7 @@ pub fn offer(
             number,
             epoch,
         };
-        list::push(&mut *words, &mut *values, Message { client, kind });
+        push(&mut *words, &mut *values, Message { client, kind });
         return Change {
             copy: CopyChange::Keep,
             request: Turn::End,

@@ -13,7 +13,7 @@ use protocol::records::Copy;
 use protocol::records::Request;
 use protocol::setup::Setup;
 use protocol::step::Answer;
-use queue::list;
+use sending::push;
 use words::Values;
 use words::Words;
 use words::client;
@@ -60,7 +60,7 @@ pub fn ask(
         epoch,
         version: c.version,
     };
-    list::push(&mut *words, &mut *values, Message { client, kind });
+    push(&mut *words, &mut *values, Message { client, kind });
 }
 
 // Step 9: "only its next request number remains": what the client knows of each volume goes. The values are lent for the contract alone.

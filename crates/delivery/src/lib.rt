@@ -22,6 +22,7 @@ use protocol::setup::Setup;
 use protocol::step::Answer;
 use protocol::step::Change;
 use queue::list;
+use removal::remove;
 use renewals::receive::receive_renew;
 use verdict::Verdict;
 use words::Values;
@@ -127,7 +128,7 @@ pub fn deliver(
     ensures { λ _. ⌜ recordsOf (now (words .exit)) (now (values .exit)) ≡ recordsOf (now (words .entry)) (now (values .entry)) ⌝ }
 {
     let m = list::message_at(&*words, &*values, place);
-    list::remove(&mut *words, &mut *values, place);
+    remove(&mut *words, &mut *values, place);
     let k = m.kind;
     let count = by_server(s, &mut *words, &mut *values, m.client as usize, k);
     let change = by_client(s, &mut *words, &mut *values, c, r, m.client, k);

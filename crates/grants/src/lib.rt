@@ -7,7 +7,7 @@ ghost use Rattle.protocol.specs.Server.{sent, offered, offering, granted};
 ghost use Rattle.words.specs.View.{tablesOf, recordsOf};
 use leases::place;
 use protocol::setup::Setup;
-use queue::list;
+use sending::push;
 use words::Values;
 use words::Words;
 use words::network;
@@ -23,7 +23,7 @@ pub fn offer(words: &mut Words, values: &mut Values, client: usize, volume: usiz
     let message = replies::offering(&*words, client, volume, number);
     words[server::UNREACHABLE + (client * 8 + volume)] = 1;
     words[server::OFFER + (client * 8 + volume)] = number;
-    list::push(&mut *words, &mut *values, message);
+    push(&mut *words, &mut *values, message);
 }
 
 // "volume expiry and VE := clock + tv, object expiry and OE := clock + t, send GRANT"
@@ -51,5 +51,5 @@ pub fn grant(
     words[server::SESSION_EXPIRY + (client * 8 + volume)] = volume_expiry;
     words[server::OBJECT_EXPIRY + object] = object_expiry;
     words[server::LEASE + (client * 32 + object)] = object_expiry;
-    list::push(&mut *words, &mut *values, message);
+    push(&mut *words, &mut *values, message);
 }

@@ -8,9 +8,10 @@ ghost use Rattle.protocol.specs.Sound.{tablesSound};
 ghost use Rattle.protocol.specs.Gate.{usesClient, refusalOfStep};
 ghost use Rattle.protocol.specs.Decide.{counting, performed};
 ghost use Rattle.words.specs.View.{tablesOf, recordsOf};
+use doubling::double;
 use protocol::setup::Setup;
 use protocol::step::Step;
-use queue::list;
+use removal::remove;
 use words::Values;
 use words::Words;
 use writes::settle;
@@ -30,11 +31,11 @@ pub fn of_no_client(s: Setup, words: &mut Words, values: &mut Values, step: Step
         1 => settle::pass_time(s, words, values, step.clock),
         4 => accept::accept_write(s, words, values, step.object as usize, step.value),
         6 => {
-            list::remove(words, values, step.place as usize);
+            remove(words, values, step.place as usize);
             0
         }
         7 => {
-            list::double(words, values, step.place as usize);
+            double(words, values, step.place as usize);
             0
         }
         _ => {

@@ -1,2 +1,2 @@
-// The message list in the words and values (01, "Tables"): send, remove, double and look, in place.
+// The message list in the words and values (01, "Tables"): the message at a place.
 pub mod list;

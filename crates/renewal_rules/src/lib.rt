@@ -10,8 +10,8 @@ use grants::grant;
 use grants::offer;
 use leases::place;
 use protocol::setup::Setup;
-use queue::list;
 use replies::lowest;
+use sending::push;
 use words::Values;
 use words::Words;
 use words::server;
@@ -53,7 +53,7 @@ pub fn renew_by(
     let low = lowest::lowest_waited(s, &*words, client, volume);
     if low < s.objects as usize {
         let message = replies::resending(s, &*words, client, low);
-        list::push(&mut *words, &mut *values, message);
+        push(&mut *words, &mut *values, message);
         return;
     }
     if words[server::STANDING + object] != 0 {

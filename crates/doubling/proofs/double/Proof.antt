@@ -1,6 +1,6 @@
 use borrow.Author.Needs.{needs}
-use Rattle.queue.proofs.list.double.Statement.{statement}
-use Rattle.queue.proofs.list.double.Tie as tie
+use Rattle.doubling.proofs.double.Statement.{statement}
+use Rattle.doubling.proofs.double.Tie as tie
 
 message-at-requires : tie.Need-message-at-requires
 message-at-requires c κs = search needs

@@ -1,9 +1,9 @@
 use native.Mathlib.Omega.{arith}
 use Rattle.words.specs.Reads.{length-word}
-use Rattle.queue.proofs.Laws.{removes}
+use Rattle.removal.proofs.Laws.{removes}
 use borrow.Author.Needs.{needs}
-use Rattle.queue.proofs.list.remove.Statement.{statement}
-use Rattle.queue.proofs.list.remove.Tie as tie
+use Rattle.removal.proofs.remove.Statement.{statement}
+use Rattle.removal.proofs.remove.Tie as tie
 
 sized-requires : tie.Need-sized-requires
 sized-requires c κs = search needs

@@ -1,7 +1,7 @@
-use Rattle.queue.proofs.Laws.{lost, pushes}
+use Rattle.sending.proofs.Laws.{lost, pushes}
 use borrow.Author.Needs.{needs}
-use Rattle.queue.proofs.list.push.Statement.{statement}
-use Rattle.queue.proofs.list.push.Tie as tie
+use Rattle.sending.proofs.push.Statement.{statement}
+use Rattle.sending.proofs.push.Tie as tie
 
 sized-requires : tie.Need-sized-requires
 sized-requires c κs = search needs
