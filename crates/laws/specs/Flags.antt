@@ -1,5 +1,5 @@
 -- Flags kept as numbers: one that is not 0 reads as true.
-use Prim.Native.Nat.{ℕ, zero, suc, _+_, _<_}
+use Prim.Native.Nat.{ℕ, zero, suc, _+_, _<_, _≤_}
 use mathlib.Core.Bool.{Bool, true, false, cond, not}
 use mathlib.Core.List.{List, [], _∷_, map}
 use mathlib.Core.Logic.{_⊎_, inl, inr}
@@ -10,7 +10,7 @@ use borrow.Author.Tests.{eq-eqb, ne-eqb}
 use Rattle.laws.specs.Choice.{true-or-false}
 use Rattle.laws.specs.Loop.{foldFrom}
 use Rattle.laws.specs.Store.{storeAt, storeEach}
-use Rattle.laws.specs.Parts.{start, size, parts, part-at}
+use Rattle.laws.specs.Parts.{start, size, parts, part-at, part-past}
 
 abbrev pub flag : ℕ → Bool
 flag n = not (eqb n 0)
@@ -70,3 +70,7 @@ module _ (z w : List ℕ) (k i : ℕ) (h : i < size z k) where
 
   pub flag-no : getD w (start z k + i) 0 ≡ 0 → getD (flags (parts z w k)) i false ≡ false
   flag-no e = sym flag-at ∙ ap not (eq-eqb (getD w (start z k + i) 0) 0 e)
+
+-- .. and past the field's end
+pub flag-past : (z w : List ℕ) (k i : ℕ) → size z k ≤ i → getD (flags (parts z w k)) i false ≡ false
+flag-past z w k i h = flags-at (parts z w k) i ∙ ap flag (part-past z w k i h)

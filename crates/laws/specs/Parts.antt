@@ -7,7 +7,7 @@ use mathlib.Core.List.{List, [], _∷_}
 use mathlib.Core.Path.{_≡_, refl, sym, ap, _∙_, fun-ext}
 use mathlib.Core.Logic.{_⊎_, inl, inr}
 use lib.Dec.{eqb, ltb}
-use lib.ListN.{length, getD, set, take, drop, replicate, length-take, length-drop, length-replicate, getD-replicate}
+use lib.ListN.{length, getD, set, take, drop, replicate, length-take, length-drop, length-replicate, getD-replicate, List·getD-eq-default}
 use lib.Seq.{take-set-le, take-set-lt, drop-set-lt, drop-set-add, getD-take, getD-drop, ext-getD}
 use borrow.Author.Tests.{eq-eqb, ne-eqb, ltb-true, ltb-false}
 use Rattle.laws.specs.Choice.{cond-keeps, true-or-false}
@@ -43,6 +43,11 @@ module _ (z w : List ℕ) (k : ℕ) where
   pub part-at : (i : ℕ) → i < size z k → getD w (start z k + i) 0 ≡ getD (parts z w k) i 0
   unfolding parts
   part-at i h = sym (getD-take (size z k) (drop (start z k) w) i 0 h ∙ getD-drop (start z k) w i 0)
+
+  -- past a field's end there is nothing
+  pub part-past : (i : ℕ) → size z k ≤ i → getD (parts z w k) i 0 ≡ 0
+  unfolding parts
+  part-past i h = List·getD-eq-default (take (size z k) (drop (start z k) w)) 0 {n = i} (rw (length-take (size z k) (drop (start z k) w)) (omega arith))
 
   pub part-length : start z k + size z k ≤ length w → length (parts z w k) ≡ size z k
   unfolding parts

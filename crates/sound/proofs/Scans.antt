@@ -7,6 +7,7 @@ use mathlib.Core.Path.{_≡_, refl, ap, _∙_}
 use lib.Dec.{eqb, leb}
 use lib.ListN.{getD}
 use borrow.Author.Tests.{le-leb, lt-leb}
+use Rattle.laws.specs.Choice.{not-not}
 use Rattle.laws.specs.Flags.{flag-at}
 use Rattle.laws.specs.Loop.{allFrom, all-by}
 use Rattle.laws.specs.Parts.{part-at}
@@ -18,10 +19,6 @@ use Rattle.protocol.specs.Sound.{timeFits, canGrow, clockLimit, volumeSound, ob
 use Rattle.words.specs.Fields.{wordLengths, at, CLOCK, VOLUME-EPOCH, VOLUME-EXPIRY, GUARD, SESSION-EXPIRY, VERSION, OBJECT-EXPIRY, STANDING, END, LEASE, VIEW-EXPIRY}
 use Rattle.words.specs.Reads.{length-word}
 use Rattle.words.specs.View.{tablesOf, numbersOf}
-
-pub not-not : (b : Bool) → not (not b) ≡ b
-not-not true = refl
-not-not false = refl
 
 module _ (w : List ℕ) where
   pub volume-fits : (v n : ℕ) → v < n → n ≤ 8

@@ -1,7 +1,7 @@
-use Rattle.gate.proofs.Questions.{grows-words, grows-past}
+use Rattle.growth.proofs.Laws.{grows-words, grows-past}
 use borrow.Author.Needs.{needs}
-use Rattle.gate.proofs.steps.version_grows.Statement.{statement}
-use Rattle.gate.proofs.steps.version_grows.Tie as tie
+use Rattle.growth.proofs.version_grows.Statement.{statement}
+use Rattle.growth.proofs.version_grows.Tie as tie
 
 cast-object : tie.Need-cast-object
 cast-object c = search needs

@@ -1,7 +1,7 @@
-use Rattle.gate.proofs.Questions.{timely-words}
+use Rattle.questions.proofs.Laws.{timely-words}
 use borrow.Author.Needs.{needs}
-use Rattle.gate.proofs.steps.timely.Statement.{statement}
-use Rattle.gate.proofs.steps.timely.Tie as tie
+use Rattle.questions.proofs.timely.Statement.{statement}
+use Rattle.questions.proofs.timely.Tie as tie
 
 uses-clock-requires : tie.Need-uses-clock-requires
 uses-clock-requires c κs = search needs

@@ -5,9 +5,9 @@ use Rattle.laws.specs.Loop.{Scanning, all-by, all-end}
 use Rattle.protocol.specs.Sound.{canGrow}
 use Rattle.protocol.specs.Tables.{epochAt}
 use Rattle.words.specs.View.{numbersOf}
-use Rattle.gate.proofs.Questions.{epoch-grows}
-use Rattle.gate.proofs.steps.epochs_grow.Statement.{statement}
-use Rattle.gate.proofs.steps.epochs_grow.Tie as tie
+use Rattle.growth.proofs.Laws.{epoch-grows}
+use Rattle.growth.proofs.epochs_grow.Statement.{statement}
+use Rattle.growth.proofs.epochs_grow.Tie as tie
 
 abbrev Inv-loop : tie.InvT-loop
 Inv-loop words n ok₀ v₀ ok v = Scanning (λ (k : ℕ). canGrow (epochAt (numbersOf words) k)) n ok v

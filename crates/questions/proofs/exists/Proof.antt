@@ -1,7 +1,7 @@
-use Rattle.gate.proofs.Questions.{exists-words}
+use Rattle.questions.proofs.Laws.{exists-words}
 use borrow.Author.Needs.{needs}
-use Rattle.gate.proofs.steps.exists.Statement.{statement}
-use Rattle.gate.proofs.steps.exists.Tie as tie
+use Rattle.questions.proofs.exists.Statement.{statement}
+use Rattle.questions.proofs.exists.Tie as tie
 
 uses-client-requires : tie.Need-uses-client-requires
 uses-client-requires c κs = search needs

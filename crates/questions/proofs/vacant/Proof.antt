@@ -1,7 +1,7 @@
-use Rattle.gate.proofs.Questions.{vacant-words, vacant-past}
+use Rattle.questions.proofs.Laws.{vacant-words, vacant-past}
 use borrow.Author.Needs.{needs}
-use Rattle.gate.proofs.steps.vacant.Statement.{statement}
-use Rattle.gate.proofs.steps.vacant.Tie as tie
+use Rattle.questions.proofs.vacant.Statement.{statement}
+use Rattle.questions.proofs.vacant.Tie as tie
 
 cast-object : tie.Need-cast-object
 cast-object c = search needs

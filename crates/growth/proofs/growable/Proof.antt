@@ -1,8 +1,8 @@
 use Rattle.protocol.specs.Ranges.{ranges}
-use Rattle.gate.proofs.Questions.{growable-words}
+use Rattle.growth.proofs.Laws.{growable-words}
 use borrow.Author.Needs.{needs}
-use Rattle.gate.proofs.steps.growable.Statement.{statement}
-use Rattle.gate.proofs.steps.growable.Tie as tie
+use Rattle.growth.proofs.growable.Statement.{statement}
+use Rattle.growth.proofs.growable.Tie as tie
 
 version-grows-requires : tie.Need-version-grows-requires
 version-grows-requires c κs = search needs
