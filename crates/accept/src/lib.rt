@@ -3,16 +3,13 @@ ghost use mathlib.Core.Path.{_≡_};
 ghost use mathlib.Core.Bool.{true};
 ghost use Prim.Native.Nat.{_≤_, _<_};
 ghost use Rattle.protocol.specs.Setup.{inRange};
-ghost use Rattle.protocol.specs.Tables.{versionAt, withQueue};
-ghost use Rattle.protocol.specs.Writes.{begun, notified, writeStaged, settled};
+ghost use Rattle.protocol.specs.Tables.{versionAt};
+ghost use Rattle.protocol.specs.Writes.{begun, writeStaged, settled};
 ghost use Rattle.words.specs.View.{tablesOf, recordsOf};
-ghost use Rattle.accept.specs.Invalidates.{invalidated};
+use invalidates::notify;
 use leases::place;
 use leases::time;
-use protocol::message::Kind;
-use protocol::message::Message;
 use protocol::setup::Setup;
-use sending::push;
 use waiting::clients;
 use words::Values;
 use words::Words;
@@ -39,64 +36,6 @@ fn begin(s: Setup, words: &mut Words, values: &mut Values, object: usize, value:
     words[server::STANDING + object] = 1;
     words[server::END + object] = end;
     values[server::PENDING + object] = value;
-}
-
-// "Send each INVALIDATE in dash order", with this epoch and new version, to those of the first n clients that are waited for.
-fn invalidate(
-    words: &mut Words,
-    values: &mut Values,
-    object: usize,
-    epoch: u32,
-    version: u32,
-    n: usize,
-)
-    requires { ⌜ object < 32 ⌝ }
-    requires { ⌜ n ≤ 16 ⌝ }
-    ensures { λ _. ⌜ tablesOf (now (words .exit)) (now (values .exit)) ≡ invalidated (tablesOf (now (words .entry)) (now (values .entry))) object epoch version n ⌝ }
-    ensures { λ _. ⌜ recordsOf (now (words .exit)) (now (values .exit)) ≡ recordsOf (now (words .entry)) (now (values .entry)) ⌝ }
-{
-    let mut from = 0;
-    loop {
-        let client = clients::next_waiting(&*words, object, from, n);
-        if n <= client {
-            break;
-        }
-        let kind = Kind::Invalidate {
-            object: object as u8,
-            epoch,
-            version,
-        };
-        push(
-            &mut *words,
-            &mut *values,
-            Message {
-                client: client as u8,
-                kind,
-            },
-        );
-        from = client + 1;
-    }
-}
-
-// To each client that the write of the object waits for.
-fn notify(s: Setup, words: &mut Words, values: &mut Values, object: usize)
-    requires { ⌜ inRange s ≡ true ⌝ }
-    requires { ⌜ object < s .objects ⌝ }
-    requires { ⌜ versionAt (tablesOf (now words) (now values)) object < 4294967295 ⌝ }
-    ensures { λ _. ⌜ tablesOf (now (words .exit)) (now (values .exit)) ≡ withQueue (tablesOf (now (words .entry)) (now (values .entry))) (notified s (tablesOf (now (words .entry)) (now (values .entry))) object) ⌝ }
-    ensures { λ _. ⌜ recordsOf (now (words .exit)) (now (values .exit)) ≡ recordsOf (now (words .entry)) (now (values .entry)) ⌝ }
-{
-    let volume = place::volume_of(s, object);
-    let epoch = words[server::VOLUME_EPOCH + volume];
-    let version = words[server::VERSION + object] + 1;
-    invalidate(
-        &mut *words,
-        &mut *values,
-        object,
-        epoch,
-        version,
-        s.clients as usize,
-    );
 }
 
 // Step 4: the write stands, each INVALIDATE is sent, and it completes "if none waits and the clock is at or past guard". How many writes completed.

@@ -1,9 +1,9 @@
 use native.Mathlib.Omega.{arith}
 use Rattle.words.specs.Reads.{version-word}
-use Rattle.accept.proofs.Accepting.{notifies}
+use Rattle.invalidates.proofs.Laws.{notifies}
 use borrow.Author.Needs.{needs}
-use Rattle.accept.proofs.notify.Statement.{statement}
-use Rattle.accept.proofs.notify.Tie as tie
+use Rattle.invalidates.proofs.notify.Statement.{statement}
+use Rattle.invalidates.proofs.notify.Tie as tie
 
 volume-of-requires : tie.Need-volume-of-requires
 volume-of-requires c κs = search needs

@@ -4,11 +4,11 @@ use native.Mathlib.Nat.{sub-zero}
 use Rattle.laws.specs.Loop.{foldFrom}
 use Rattle.words.specs.View.{tablesOf}
 use Rattle.waiting.specs.Waiting.{waitingIn}
-use Rattle.accept.specs.Invalidates.{notifyOne}
-use Rattle.accept.proofs.Accepting.{Sending, sending-start, sending-again, notify-again, notify-end}
+use Rattle.invalidates.specs.Invalidates.{notifyOne}
+use Rattle.invalidates.proofs.Laws.{Sending, sending-start, sending-again, notify-again, notify-end}
 use borrow.Author.Needs.{needs}
-use Rattle.accept.proofs.invalidate.Statement.{statement}
-use Rattle.accept.proofs.invalidate.Tie as tie
+use Rattle.invalidates.proofs.invalidate.Statement.{statement}
+use Rattle.invalidates.proofs.invalidate.Tie as tie
 
 abbrev Inv-loop : tie.InvT-loop
 Inv-loop words₀ values₀ object epoch version n from₀ words values from = (from ≤ n) × (Sending words₀ values₀ words values × (foldFrom (notifyOne (waitingIn words₀) object epoch version) (tablesOf words values .queue) from (n - from) ≡ foldFrom (notifyOne (waitingIn words₀) object epoch version) (tablesOf words₀ values₀ .queue) 0 n))
