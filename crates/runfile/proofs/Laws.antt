@@ -1,5 +1,5 @@
 -- What each way through a function found, put together.
-use Prim.Native.Nat.{ℕ, _+_, _-_, _≤_, _<_}
+use Prim.Native.Nat.{ℕ, _+_, _≤_, _<_}
 use native.Mathlib.Omega.{arith}
 use mathlib.Core.Bool.{Bool, true, false}
 use mathlib.Core.List.{List}
@@ -45,18 +45,10 @@ module _ (l : List ℕ) where
     note-no h = rw (← e, h)
 
 module _ (l : List ℕ) (p : ℕ) (x : Step) where
-  not-there : length l < p + 16 → x ≡ noStep → x ≡ stepAt l p
+  pub no-record : length l < p + 16 → x ≡ noStep → x ≡ stepAt l p
   unfolding stepAt
-  not-there h e = rw (lt-leb _ _ h) e
+  no-record h e = rw (lt-leb _ _ h) e
 
-  pub no-record : length l < 16 → x ≡ noStep → x ≡ stepAt l p
-  no-record h e = not-there (omega arith) e
-
-  pub past-last : 16 ≤ length l → length l - 16 < p → x ≡ noStep → x ≡ stepAt l p
-  past-last g h e = not-there (omega arith) e
-
-  pub in-file : 16 ≤ length l → p ≤ length l - 16 → x ≡ stepIn l p → x ≡ stepAt l p
+  pub in-file : p + 16 ≤ length l → x ≡ stepIn l p → x ≡ stepAt l p
   unfolding stepAt
-  in-file g h e =
-      let i : p + 16 ≤ length l = omega arith in
-      rw (le-leb _ _ i) e
+  in-file h e = rw (le-leb _ _ h) e
