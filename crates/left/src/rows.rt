@@ -1,8 +1,8 @@
 // The clients' records, those that are not lent too, and the messages: a line for each that is another one than before.
-use crate::lines::end;
-use crate::lines::fields;
-use crate::lines::number;
-use crate::lines::text;
+use left_tables::lines::end;
+use left_tables::lines::fields;
+use left_tables::lines::number;
+use left_tables::lines::text;
 use protocol::message::Message;
 use protocol::records::Copy;
 use protocol::records::Request;

@@ -1,5 +1,6 @@
 // A step on the clients' records as the words hold them: the first so many are lent to the public step, and what it left of them is kept in the words.
 ghost use Prim.Native.Nat.{_≤_};
+use cases::Case;
 use protocol::records::Copy;
 use protocol::records::Request;
 use protocol::setup::Setup;
@@ -7,22 +8,6 @@ use protocol::step::Answer;
 use protocol::step::Step;
 use words::Values;
 use words::Words;
-
-// What a step is handed besides the words and values. The records stand in the words too; the first so many copies and requests are lent.
-pub struct Case {
-    pub setup: Setup,
-    pub copies: usize,
-    pub requests: usize,
-}
-
-fn at_most(most: usize, number: usize) -> usize
-    ensures { λ r. ⌜ r ≤ most ⌝ }
-{
-    if number < most {
-        return number;
-    }
-    most
-}
 
 fn copies_in<'a>(words: &'a Words, values: &'a Values) -> [Copy; 512] {
     let mut copies = [setup::fresh::fresh_copy(); 512];
@@ -94,8 +79,8 @@ pub fn take(case: Case, words: &mut Words, values: &mut Values, step: Step) -> A
     let setup = case.setup;
     let copies = copies_in(&*words, &*values);
     let requests = requests_in(&*words);
-    let lent_copies = at_most(512, case.copies);
-    let lent_requests = at_most(16, case.requests);
+    let lent_copies = cases::copies_lent(case);
+    let lent_requests = cases::requests_lent(case);
     step_on(
         setup,
         words,

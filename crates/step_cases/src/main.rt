@@ -1,10 +1,7 @@
 // Steps on tables that no run reaches: unsound ones, and ones at or past a limit. The cases stand in the file `stdin`, as numbers among words; the model
 // reads the same file, and what it prints of its answers and its tables is the file `stdout`.
-mod change;
-mod text;
-
-use crate::text::Found;
-use lending::Case;
+use cases::Case;
+use cases::text::Found;
 use words::Values;
 use words::Words;
 
@@ -21,10 +18,10 @@ fn changed(
     let mut at = from;
     let mut i = 0;
     while i < count {
-        let field = text::number(bytes, at);
-        let place = text::number(bytes, field.next);
-        let number = text::number(bytes, place.next);
-        case = change::change(
+        let field = cases::text::number(bytes, at);
+        let place = cases::text::number(bytes, field.next);
+        let number = cases::text::number(bytes, place.next);
+        case = cases::change::change(
             case,
             &mut *words,
             &mut *values,
@@ -53,19 +50,24 @@ fn taken(
     while i < count {
         let words_before = *words;
         let values_before = *values;
-        let answer = lending::take(case, &mut *words, &mut *values, text::step(bytes, at));
-        left::answer::show(id, answer);
+        let answer = lending::take(
+            case,
+            &mut *words,
+            &mut *values,
+            cases::text::step(bytes, at),
+        );
+        left_tables::answer::show(id, answer);
         left::show(&words_before, &values_before, &*words, &*values);
-        at = text::after(bytes, at, 6);
+        at = cases::text::after(bytes, at, 6);
         i += 1;
     }
 }
 
 // One case, whose number was read: how many changes and which, how many steps and which. Gives the place after it.
 fn case(bytes: &[u8], id: Found, base: Case, words: &Words, values: &Values) -> usize {
-    let changes = text::number(bytes, id.next);
-    let steps_at = text::after(bytes, changes.next, text::threefold(changes.value));
-    let steps = text::number(bytes, steps_at);
+    let changes = cases::text::number(bytes, id.next);
+    let steps_at = cases::text::after(bytes, changes.next, cases::text::threefold(changes.value));
+    let steps = cases::text::number(bytes, steps_at);
     let mut words = *words;
     let mut values = *values;
     let case = changed(
@@ -85,15 +87,15 @@ fn case(bytes: &[u8], id: Found, base: Case, words: &Words, values: &Values) -> 
         &mut words,
         &mut values,
     );
-    let half = text::threefold(steps.value);
-    text::after(bytes, text::after(bytes, steps.next, half), half)
+    let half = cases::text::threefold(steps.value);
+    cases::text::after(bytes, cases::text::after(bytes, steps.next, half), half)
 }
 
 fn cases(bytes: &[u8], from: usize, base: Case, words: &Words, values: &Values) {
     let mut at = from;
     let mut i = 0u64;
     while i < 1000 {
-        let id = text::number(bytes, at);
+        let id = cases::text::number(bytes, at);
         if id.value == 0 {
             return;
         }
@@ -104,7 +106,7 @@ fn cases(bytes: &[u8], from: usize, base: Case, words: &Words, values: &Values) 
 
 // The base's changes stand first.
 fn run(bytes: &[u8]) {
-    let changes = text::number(bytes, 0);
+    let changes = cases::text::number(bytes, 0);
     let mut words = [0u32; 3498];
     let mut values = [0u64; 640];
     words::fresh::fresh(&mut words, &mut values);
@@ -112,11 +114,11 @@ fn run(bytes: &[u8]) {
         bytes,
         changes.next,
         changes.value,
-        change::none(),
+        cases::change::none(),
         &mut words,
         &mut values,
     );
-    let from = text::after(bytes, changes.next, text::threefold(changes.value));
+    let from = cases::text::after(bytes, changes.next, cases::text::threefold(changes.value));
     cases(bytes, from, base, &words, &values);
 }
 

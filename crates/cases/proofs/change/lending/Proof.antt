@@ -1,7 +1,7 @@
 use Rattle.items.specs.Counts.{mul-fits}
 use borrow.Author.Needs.{needs}
-use Rattle.step_cases.proofs.change.lending.Statement.{statement}
-use Rattle.step_cases.proofs.change.lending.Tie as tie
+use Rattle.cases.proofs.change.lending.Statement.{statement}
+use Rattle.cases.proofs.change.lending.Tie as tie
 
 cast-clients : tie.Need-cast-clients
 cast-clients c = search needs

@@ -1,4 +1,4 @@
-// Numbers among words: whatever is not a digit stands between them.
+// The text of cases: numbers among words, whatever is not a digit stands between them.
 use protocol::step::Step;
 
 pub struct Found {

@@ -1,7 +1,7 @@
 use Prim.Native.Nat.{_≤_, _-_}
 use borrow.Author.Needs.{needs}
-use Rattle.step_cases.proofs.text.after.Statement.{statement}
-use Rattle.step_cases.proofs.text.after.Tie as tie
+use Rattle.cases.proofs.text.after.Statement.{statement}
+use Rattle.cases.proofs.text.after.Tie as tie
 
 abbrev Inv-loop : tie.InvT-loop
 Inv-loop bytes from count at₀ i₀ at i = i ≤ count

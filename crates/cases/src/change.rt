@@ -1,7 +1,7 @@
 // One change, by the number of its field: 1 to 7 the setup, 10 to 31 the tables, 40 to 50 the message list, 60 to 63 copies, 70 to 74 requests.
+use crate::Case;
 use crate::text::byte;
 use crate::text::word;
-use lending::Case;
 use protocol::setup::Setup;
 use words::VALUES;
 use words::Values;
