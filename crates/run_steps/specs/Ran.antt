@@ -1,5 +1,4 @@
 -- A run over the steps of a file, each on what the last one left, and the lines of its answers.
--- Letters: s setup, l the file's bytes, w the world that k steps left, x a step, a its answer.
 use Prim.Native.Nat.{ℕ, _+_, _*_, _<_, _≤_}
 use native.Mathlib.Omega.{arith}
 use mathlib.Core.Bool.{true}
@@ -23,7 +22,7 @@ use Rattle.listing.specs.Listing.{lineOf, linesFrom, line-short, answer-small}
 use Rattle.layout.specs.Number.{sets-then}
 use Rattle.decimal.specs.Written.{Written}
 
--- where a run stands: what is left of it writes the lines that are missing from `whole`
+-- where a run of file l stands that left world w after k steps: what is left of it writes the lines that are missing from `whole`
 pub record Going (s : Setup) (l : List ℕ) (start : ℕ) (whole : List ℕ) (end : ℕ) (w : World) (out : List ℕ) (at k : ℕ) : Type 0 where
   pub sound : SoundWorld s w
   pub room : at ≤ start + 28 * k

@@ -18,7 +18,7 @@ use Rattle.runfile.specs.declared.Contents.{Contents}
 use Rattle.runfile.specs.File.{stepAt, contents, contentsOf}
 use Rattle.runfile.specs.Steps.{stepsOf, step-is}
 
--- what a loop over a file's steps is told by what was read of it: how many they are, and where its running place starts
+-- what a loop over a file's steps is told by what was read of it: the file's measure, a setup in range, how many steps, where the running place starts
 pub record Accepted (l : List ℕ) (r : Contents) : Type 0 where
   pub parts : Parts l
   pub in-range : inRange (r .setup) ≡ true
@@ -52,4 +52,4 @@ module _ (l : List ℕ) (r : Contents) (e : r ≡ contentsOf l) (a : r .refusal 
 
   -- what is read at the running place before record k is the k-th step
   pub step-read : (place k : ℕ) (d : Step) → place ≡ placeBefore l k → k < r .count → stepAt l place ≡ getD (stepsOf l) k d
-  step-read place k d e h = step-is l place k e (accepted .parts) (rw (accepted .counted) at h) d
+  step-read place k d f h = step-is l place k f (accepted .parts) (rw (accepted .counted) at h) d

@@ -1,5 +1,5 @@
 // Run files made up by hand from 01's layout, one line for each: refusal, the note's length and its bytes, the setup with its first and last volume byte,
-// how many steps and where they begin; and first and last steps.
+// how many steps and where they begin; and first and last steps, and what is read after them.
 mod show;
 
 ghost use Prim.Native.Nat.{_<_};

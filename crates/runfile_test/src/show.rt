@@ -1,3 +1,5 @@
+ghost use mathlib.Core.Path.{_≡_};
+ghost use Rattle.shape.specs.Places.{trailerPlace};
 use protocol::setup::Setup;
 use protocol::step::Step;
 
@@ -72,6 +74,13 @@ pub fn file(f: &[u8]) {
     last(r.first as u64);
 }
 
+// What is read at the trailer's place, where no record fits.
+fn after_last(f: &[u8], place: usize)
+    requires { ⌜ place ≡ trailerPlace (now f) ⌝ }
+{
+    step(runfile::step_at(f, place));
+}
+
 // The first and the last step of a file, found by going through all records, and what is read after them, where the trailer begins.
 pub fn steps(f: &[u8]) {
     let r = runfile::read(f);
@@ -87,6 +96,6 @@ pub fn steps(f: &[u8]) {
                 step(x);
             }
         }
-        step(runfile::step_at(f, place));
+        after_last(f, place);
     }
 }

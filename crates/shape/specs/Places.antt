@@ -28,7 +28,7 @@ module _ (l : List ℕ) where
   pub place-last : Parts l → placeBefore l (countOf l) ≡ trailerPlace l
   place-last p = omega (arith, place-is (countOf l), whole l p)
 
-  -- ---- what a loop cites: where its place starts, where it is a record later, and that the record is in the file
+  -- ---- what a loop cites: where its place starts, where it is a record later, that the record is in the file, and where the place ends
   pub place-first : placeBefore l 0 ≡ firstPlace l
   unfolding placeBefore
   place-first = refl
@@ -43,3 +43,6 @@ module _ (l : List ℕ) where
 
     pub record-there : Parts l → (count : ℕ) → count ≡ countOf l → k < count → place + 16 ≤ length l
     record-there p count n h = omega (arith, place-is k, place-is (countOf l), place-last p)
+
+    pub place-ends : Parts l → (count : ℕ) → count ≡ countOf l → k ≤ count → count ≤ k → place ≡ trailerPlace l
+    place-ends p count n g h = omega (arith, place-is k, place-is (countOf l), place-last p)

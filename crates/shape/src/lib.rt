@@ -57,7 +57,7 @@ pub fn setup_place(file: &[u8]) -> usize
     n - layout::read_u32(file, n - 4) as usize
 }
 
-// The fields of every step's record. The place goes from record to record, 16 further after each.
+// Every record's unused fields are 0. The place goes from record to record, 16 further after each.
 fn steps_fit(file: &[u8]) -> bool
     requires { ⌜ Parts (now file) ⌝ }
     ensures { λ r. ⌜ r ≡ stepsFit (now (file .entry)) (firstPlace (now (file .entry))) (countOf (now (file .entry))) ⌝ }

@@ -1,5 +1,5 @@
 use native.Mathlib.Omega.{arith}
-use Prim.Native.Nat.{_-_}
+use Prim.Native.Nat.{_-_, _≤_}
 use mathlib.Core.Path.{_≡_, refl, _∙_}
 use lib.ListN.{length}
 use Rattle.words.specs.View.{worldOf}
@@ -13,7 +13,8 @@ use Rattle.run_steps.proofs.run_steps.Tie as tie
 
 -- the running place is the one before record k
 abbrev Inv-loop : tie.InvT-loop
-Inv-loop file out₀ at s count words₀ values₀ place₀ next₀ k₀ out words values place next k = (place ≡ placeBefore file k) × ((length out ≡ length out₀) × Running s file out₀ at (worldOf s words values) out next k)
+Inv-loop file out₀ at s count words₀ values₀ place₀ next₀ k₀ out words values place next k =
+    (k ≤ count) × ((place ≡ placeBefore file k) × ((length out ≡ length out₀) × Running s file out₀ at (worldOf s words values) out next k))
 
 abbrev μ-loop : tie.MeasureT-loop
 μ-loop file out₀ at s count words₀ values₀ place₀ next₀ k₀ out words values place next k = count - k
@@ -25,7 +26,7 @@ loop-holds : tie.Need-loop-holds Inv-loop μ-loop
 loop-holds c =
     let p = c .before .before .before .before .before .before .pre in
     let r = accepted _ _ (p .0) (p .1 .0) in
-    (r .starts, (refl, run-starts _ _ _ _ (r .in-range) _ (fresh-world _ _ _ (r .in-range) (c .fresh .ensures))))
+    (omega arith, (r .starts, (refl, run-starts _ _ _ _ (r .in-range) _ (fresh-world _ _ _ (r .in-range) (c .fresh .ensures)))))
 
 step-at-requires : tie.Need-step-at-requires Inv-loop μ-loop
 step-at-requires c κs = search needs
@@ -34,7 +35,7 @@ advance-requires : tie.Need-advance-requires Inv-loop μ-loop
 advance-requires c κs =
     let l = c .before .before .before .before in
     let p = l .before .before .before .before .before .before .before .pre in
-    (accepted _ _ (p .0) (p .1 .0) .in-range, l .loop .inv .1 .1 .sound)
+    (accepted _ _ (p .0) (p .1 .0) .in-range, l .loop .inv .1 .1 .1 .sound)
 
 add-write-line : tie.Need-add-write-line Inv-loop μ-loop
 add-write-line c =
@@ -51,14 +52,14 @@ write-line-requires c κs =
     let l = c .before .before .before .before .before .before in
     let p = l .before .before .before .before .before .before .before .pre in
     let r = accepted _ _ (p .0) (p .1 .0) in
-    line-fits _ _ _ _ (r .parts) _ (r .counted) _ _ _ _ (l .loop .inv .1 .1) (c .before .before .before .before .before .loop-test .taken) (p .1 .1) (l .loop .inv .1 .0)
+    line-fits _ _ _ _ (r .parts) _ (r .counted) _ _ _ _ (l .loop .inv .1 .1 .1) (c .before .before .before .before .before .loop-test .taken) (p .1 .1) (l .loop .inv .1 .1 .0)
 
 add-place : tie.Need-add-place Inv-loop μ-loop
 add-place c =
     let l = c .before .before .before .before .before .before .before .before .before in
     let p = l .before .before .before .before .before .before .before .pre in
     let r = accepted _ _ (p .0) (p .1 .0) in
-    omega (arith, record-there _ _ _ (l .loop .inv .0) (r .parts) _ (r .counted) (c .before .before .before .before .before .before .before .before .loop-test .taken), r .parts .short)
+    omega (arith, record-there _ _ _ (l .loop .inv .1 .0) (r .parts) _ (r .counted) (c .before .before .before .before .before .before .before .before .loop-test .taken), r .parts .short)
 
 add-k : tie.Need-add-k Inv-loop μ-loop
 add-k c =
@@ -77,10 +78,13 @@ loop-again c =
     let r = accepted _ _ (p .0) (p .1 .0) in
     let taken = c .before .before .before .before .before .before .before .before .loop-test .taken in
     let at = c .before .before .before .before .before .before .before .step-at .ensures in (
-      place-next _ _ _ (l .loop .inv .0),
+      omega (arith, taken),
       (
-        c .before .before .write-line .ensures .bytes .long ∙ l .loop .inv .1 .0,
-        run-again _ _ _ _ (r .parts) _ (r .counted) _ _ _ _ (l .loop .inv .1 .1) taken _ (l .loop .inv .0) _ at _ _ (c .before .before .before .before .advance .ensures) _ _ (c .before .before .write-line .ensures),
+        place-next _ _ _ (l .loop .inv .1 .0),
+        (
+          c .before .before .write-line .ensures .bytes .long ∙ l .loop .inv .1 .1 .0,
+          run-again _ _ _ _ (r .parts) _ (r .counted) _ _ _ _ (l .loop .inv .1 .1 .1) taken _ (l .loop .inv .1 .0) _ at _ _ (c .before .before .before .before .advance .ensures) _ _ (c .before .before .write-line .ensures),
+        ),
       ),
     )
 
@@ -92,7 +96,7 @@ returns c =
     let l = c .before in
     let p = l .before .before .before .before .before .before .before .pre in
     let r = accepted _ _ (p .0) (p .1 .0) in
-    run-ends _ _ _ _ (r .parts) _ (r .counted) _ _ _ _ (l .loop .inv .1 .1) (c .loop-test .left)
+    run-ends _ _ _ _ (r .parts) _ (r .counted) _ _ _ _ (l .loop .inv .1 .1 .1) (c .loop-test .left)
 
 pub run-steps-spec : {M : Type 1} → statement M
 run-steps-spec =
