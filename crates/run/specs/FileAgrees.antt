@@ -1,26 +1,15 @@
 -- Demand 3 of what a call writes that lists a run file: it is the listing of the answers that calls of the public step get.
 use Prim.Native.Nat.{ℕ}
-use mathlib.Core.Bool.{true, _&&_}
 use mathlib.Core.List.{List}
 use mathlib.Core.Path.{_≡_}
-use lib.Dec.{eqb}
-use Rattle.laws.specs.Choice.{and-true}
 use Rattle.protocol.specs.declared.step.Answer.{Answer}
-use Rattle.protocol.specs.Setup.{inRange}
 use Rattle.protocol.specs.World.{World, freshWorld}
 use Rattle.protocol.specs.History.{HistoryAgrees}
-use Rattle.shape.specs.Shape.{setupPlace, reserved, stepsFit, firstPlace, countOf, measured, contentsFit, wellFormed}
+use Rattle.shape.specs.Parts.{formed-in-range}
 use Rattle.runfile.specs.Steps.{stepsOf}
 use Rattle.listing.specs.Listing.{listingOf}
 use Rattle.promises.specs.Calls.{Calls, Kept, calls-answer, calls-there, calls-keep, calls-in-words}
 use Rattle.run.specs.Listed.{setupOf, answersOf, leftBy, fileListing, listRefusal, listedBytes, listed-formed}
-
-file-in-range : (l : List ℕ) → wellFormed l ≡ true → inRange (setupOf l) ≡ true
-unfolding wellFormed contentsFit
-file-in-range l e =
-    let a = and-true (measured l) (contentsFit l) e in
-    let b = and-true (eqb (reserved l (setupPlace l)) 0 && inRange (setupOf l)) (stepsFit l (firstPlace l) (countOf l)) (a .1) in
-    and-true (eqb (reserved l (setupPlace l)) 0) (inRange (setupOf l)) (b .0) .1
 
 -- The bytes are the listing of answers that, with the world left after them, are those of the file's steps, agree with the ledger after every step, and
 -- with the customer's words about the history
@@ -37,7 +26,7 @@ unfolding listedBytes fileListing answersOf
 file-as-calls l n rs u e c = record {
   listing = rw (e, calls-answer (setupOf l) c);
   kept = calls-keep (setupOf l) (stepsOf l) rs u c;
-  words = calls-in-words (setupOf l) (file-in-range l (listed-formed l n e)) (stepsOf l) rs u c;
+  words = calls-in-words (setupOf l) (formed-in-range l (listed-formed l n e)) (stepsOf l) rs u c;
 }
 
 -- and so it is of the run's own answers and what it leaves

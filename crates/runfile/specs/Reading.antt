@@ -1,18 +1,17 @@
 -- What an accepted file gives to whoever runs it.
 use Prim.Native.Nat.{ℕ, _<_}
-use mathlib.Core.Bool.{true, _&&_}
+use mathlib.Core.Bool.{true}
 use mathlib.Core.List.{List}
 use mathlib.Core.Logic.{⊎-elim}
 use mathlib.Core.Path.{_≡_, sym, ap, _∙_}
 use native.Mathlib.Omega.{arith}
-use lib.Dec.{eqb}
 use lib.ListN.{getD}
-use Rattle.laws.specs.Choice.{true-or-false, and-true}
+use Rattle.laws.specs.Choice.{true-or-false}
 use Rattle.protocol.specs.declared.step.Step.{Step}
 use Rattle.protocol.specs.Setup.{inRange}
 use Rattle.file_records.specs.Records.{setupIn}
-use Rattle.shape.specs.Shape.{countOf, setupPlace, firstPlace, reserved, stepsFit, measured, contentsFit, wellFormed}
-use Rattle.shape.specs.Parts.{Parts, formed-parts}
+use Rattle.shape.specs.Shape.{countOf, setupPlace, firstPlace, wellFormed}
+use Rattle.shape.specs.Parts.{Parts, formed-parts, formed-in-range}
 use Rattle.shape.specs.Places.{placeBefore, place-first}
 use Rattle.runfile.specs.declared.Contents.{Contents}
 use Rattle.runfile.specs.File.{stepAt, contents, contentsOf}
@@ -38,17 +37,8 @@ module _ (l : List ℕ) (r : Contents) (e : r ≡ contentsOf l) (a : r .refusal 
   unfolding contentsOf
   contents-read = rw formed at e
 
-  -- the setup is in range
-  pub setup-read : inRange (r .setup) ≡ true
-  unfolding wellFormed contentsFit
-  setup-read =
-      let p : ℕ = setupPlace l in
-      let h = and-true (measured l) (contentsFit l) formed .1 in
-      let k = and-true (eqb (reserved l p) 0 && inRange (setupIn l p)) (stepsFit l (firstPlace l) (countOf l)) h .0 in
-      rw contents-read (and-true (eqb (reserved l p) 0) (inRange (setupIn l p)) k .1)
-
   pub accepted : Accepted l r
-  accepted = record { parts = formed-parts l formed; in-range = setup-read; counted = rw contents-read; starts = rw (contents-read, place-first l) }
+  accepted = record { parts = formed-parts l formed; in-range = rw contents-read (formed-in-range l formed); counted = rw contents-read; starts = rw (contents-read, place-first l) }
 
   -- what is read at the running place before record k is the k-th step
   pub step-read : (place k : ℕ) (d : Step) → place ≡ placeBefore l k → k < r .count → stepAt l place ≡ getD (stepsOf l) k d

@@ -8,8 +8,9 @@ use lib.Dec.{leb, eqb}
 use lib.ListN.{length}
 use borrow.Author.Tests.{leb-true, eqb-true}
 use Rattle.laws.specs.Choice.{and-true}
-use Rattle.protocol.specs.Setup.{between}
-use Rattle.shape.specs.Shape.{countOf, distanceOf, firstPlace, trailerFits, measured, contentsFit, wellFormed}
+use Rattle.protocol.specs.Setup.{between, inRange}
+use Rattle.file_records.specs.Records.{setupIn}
+use Rattle.shape.specs.Shape.{countOf, distanceOf, setupPlace, firstPlace, reserved, stepsFit, trailerFits, measured, contentsFit, wellFormed}
 
 -- what the test of a file's measure says
 pub record Parts (l : List ℕ) : Type 0 where
@@ -38,3 +39,12 @@ whole l p = omega arith
 pub formed-parts : (l : List ℕ) → wellFormed l ≡ true → Parts l
 unfolding wellFormed
 formed-parts l e = parts l (and-true (measured l) (contentsFit l) e .0)
+
+-- its setup is in range
+pub formed-in-range : (l : List ℕ) → wellFormed l ≡ true → inRange (setupIn l (setupPlace l)) ≡ true
+unfolding wellFormed contentsFit
+formed-in-range l e =
+    let p : ℕ = setupPlace l in
+    let a = and-true (measured l) (contentsFit l) e .1 in
+    let b = and-true (eqb (reserved l p) 0 && inRange (setupIn l p)) (stepsFit l (firstPlace l) (countOf l)) a .0 in
+    and-true (eqb (reserved l p) 0) (inRange (setupIn l p)) b .1
