@@ -53,12 +53,19 @@ fn each_case_in_turn() {
     shown(&mut bench, 0, 0, 3, 6);
 }
 
+/// After these clients were granted these objects one is written, and its
+/// INVALIDATE lost, so that the list is empty while the write stands.
+fn written(granted: &[(u8, u8)], object: u8) -> Bench {
+    let mut bench = Bench::fresh();
+    granted.iter().for_each(|&(client, object)| bench.hold(client, object));
+    bench.all(&[Step::write(object, 5), Step::lose(0)]);
+    bench
+}
+
 /// The RENEW brings back the INVALIDATE of the other object, and no GRANT.
 #[test]
 fn a_write_on_another_object_of_the_volume() {
-    let mut bench = Bench::fresh();
-    bench.hold(0, 1);
-    bench.all(&[Step::write(1, 5), Step::lose(0)]);
+    let mut bench = written(&[(0, 1)], 1);
     assert_eq!(without(&mut bench, 0, 0), (3, 4, Answer::AskFirst));
     shown(&mut bench, 0, 0, 3, 0);
 }
@@ -66,19 +73,13 @@ fn a_write_on_another_object_of_the_volume() {
 /// The RENEW is not answered while the write waits for another client.
 #[test]
 fn a_write_on_the_object() {
-    let mut bench = Bench::fresh();
-    bench.hold(0, 1);
-    bench.hold(1, 0);
-    bench.all(&[Step::write(0, 5), Step::lose(0)]);
+    let mut bench = written(&[(0, 1), (1, 0)], 0);
     assert_eq!(without(&mut bench, 0, 0), (3, 2, Answer::AskFirst));
 }
 
 #[test]
 fn a_write_in_another_volume_does_not_matter() {
-    let mut bench = Bench::fresh();
-    bench.hold(0, 0);
-    bench.hold(0, 2);
-    bench.all(&[Step::write(2, 5), Step::lose(0)]);
+    let mut bench = written(&[(0, 0), (0, 2)], 2);
     shown(&mut bench, 0, 0, 3, 0);
     shown(&mut bench, 1, 0, 7, 0);
 }
