@@ -92,7 +92,7 @@ mistakes! {
     waits_forever,
     /// Leaves the guard out of the latest end.
     latest_end_without_guard,
-    /// Takes the greater of VE and OE for the latest end.
+    /// Takes the greater of a waiting client's two expiries for the latest end.
     latest_end_by_greater,
     /// Leaves clock + m out of the latest end.
     latest_end_without_timeout,

@@ -29,8 +29,8 @@ impl<R: Rules> World<'_, R> {
 
     /// 01, Steps 4.
     pub fn write(&mut self, object: usize, value: u64) -> u32 {
-        let latest_end = self.latest_end(object);
         let waiting = self.to_wait_for(object);
+        let latest_end = self.latest_end(object, waiting);
         let server = &mut self.tables.server;
         let past_count = server.write[object].waiting & !self.setup.all_clients();
         server.standing |= 1 << object;
@@ -45,18 +45,27 @@ impl<R: Rules> World<'_, R> {
         u32::from(at_once || self.complete_if_free(object))
     }
 
-    fn latest_end(&self, object: usize) -> u32 {
+    /// The greatest of clock + m, guard and the ends of those waited for (02,
+    /// A3). A client that is not waited for has a dead lease: it delays nothing.
+    fn latest_end(&self, object: usize, waiting: u16) -> u32 {
         let mistakes = self.rules.mistakes();
-        let volume = self.setup.volume(object);
         let server = &self.tables.server;
-        let (by_volume, by_object) = (server.volume_latest[volume], server.object_latest[object]);
-        let mut leases = by_volume.min(by_object);
-        if mistakes.latest_end_by_greater {
-            leases = by_volume.max(by_object);
-        }
         let timeout = if mistakes.latest_end_without_timeout { 0 } else { self.setup.timeout };
-        let guard = if mistakes.latest_end_without_guard { 0 } else { server.guard[volume] };
-        (self.tables.clock + timeout).max(leases).max(guard)
+        let guard = server.guard[self.setup.volume(object)];
+        let guard = if mistakes.latest_end_without_guard { 0 } else { guard };
+        let leases = members(waiting.into()).map(|client| self.leases_end(client, object)).max();
+        (self.tables.clock + timeout).max(guard).max(leases.unwrap_or(0))
+    }
+
+    /// A client can show the object until the first of its two leases ends.
+    fn leases_end(&self, client: usize, object: usize) -> u32 {
+        let server = &self.tables.server;
+        let by_volume = server.volume_expiry[self.setup.volume(object)][client];
+        let by_object = server.object_expiry[object][client];
+        if self.rules.mistakes().latest_end_by_greater {
+            return by_volume.max(by_object);
+        }
+        by_volume.min(by_object)
     }
 
     /// The clients whose object lease is alive and which either are not
