@@ -12,6 +12,7 @@ pub mod examples;
 pub mod frame;
 pub mod gate;
 pub mod gen;
+pub mod latest_end;
 pub mod limits;
 pub mod listing;
 pub mod message;

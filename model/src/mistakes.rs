@@ -92,10 +92,21 @@ mistakes! {
     waits_forever,
     /// Leaves the guard out of the latest end.
     latest_end_without_guard,
-    /// Takes the greater of a waiting client's two expiries for the latest end.
-    latest_end_by_greater,
     /// Leaves clock + m out of the latest end.
     latest_end_without_timeout,
+    /// Leaves the waiting clients out of the latest end.
+    latest_end_without_clients,
+    /// Takes a waiting client's volume expiry alone for the latest end.
+    latest_end_by_volume,
+    /// Takes the greater of a waiting client's two expiries for it.
+    latest_end_by_greater,
+    /// Takes the waiting client whose leases end first for it.
+    latest_end_of_first,
+    /// Takes the greatest volume and the greatest object expiry of the waiting
+    /// clients, and the lesser of these two.
+    latest_end_across_clients,
+    /// Takes the lesser of VE and OE for it, as before A3.
+    latest_end_by_old_rule,
     /// Completes a write on acceptance before the guard.
     write_before_guard,
     /// Completes a write on an ACK before the guard.

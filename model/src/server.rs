@@ -45,33 +45,11 @@ impl<R: Rules> World<'_, R> {
         u32::from(at_once || self.complete_if_free(object))
     }
 
-    /// The greatest of clock + m, guard and the ends of those waited for (02,
-    /// A3). A client that is not waited for has a dead lease: it delays nothing.
-    fn latest_end(&self, object: usize, waiting: u16) -> u32 {
-        let mistakes = self.rules.mistakes();
-        let server = &self.tables.server;
-        let timeout = if mistakes.latest_end_without_timeout { 0 } else { self.setup.timeout };
-        let guard = server.guard[self.setup.volume(object)];
-        let guard = if mistakes.latest_end_without_guard { 0 } else { guard };
-        let leases = members(waiting.into()).map(|client| self.leases_end(client, object)).max();
-        (self.tables.clock + timeout).max(guard).max(leases.unwrap_or(0))
-    }
-
-    /// A client can show the object until the first of its two leases ends.
-    fn leases_end(&self, client: usize, object: usize) -> u32 {
-        let server = &self.tables.server;
-        let by_volume = server.volume_expiry[self.setup.volume(object)][client];
-        let by_object = server.object_expiry[object][client];
-        if self.rules.mistakes().latest_end_by_greater {
-            return by_volume.max(by_object);
-        }
-        by_volume.min(by_object)
-    }
-
     /// The clients whose object lease is alive and which either are not
     /// marked unreachable or have a live volume lease. A live volume lease
-    /// counts although marked, because OE may have passed before VE.
-    fn to_wait_for(&self, object: usize) -> u16 {
+    /// counts although marked: the write that marked the client may have ended
+    /// with the lease on another object.
+    pub fn to_wait_for(&self, object: usize) -> u16 {
         let mistakes = self.rules.mistakes();
         let (volume, clock) = (self.setup.volume(object), self.tables.clock);
         let server = &self.tables.server;

@@ -1,7 +1,8 @@
 //! What scenes have in common: reaching a state, and looking at it.
 
 use crate::gen::builder::Builder;
-use crate::gen::{random_steps, scenes_answers, scenes_leases, scenes_queue, scenes_restart, scenes_writes};
+use crate::gen::{random_steps, scenes_answers, scenes_latest_end, scenes_leases};
+use crate::gen::{scenes_queue, scenes_restart, scenes_writes};
 use crate::limits::CLOCK_MAX;
 use crate::step_record::Step;
 
@@ -13,6 +14,7 @@ pub fn all() -> Vec<Scene> {
     [
         scenes_leases::SCENES,
         scenes_writes::SCENES,
+        scenes_latest_end::SCENES,
         scenes_answers::SCENES,
         scenes_restart::SCENES,
         scenes_queue::SCENES,

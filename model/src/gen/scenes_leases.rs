@@ -56,6 +56,19 @@ fn object_expiry(b: &mut Builder) {
     probe(b);
 }
 
+/// Renews the volume by this object again and again, up to this time or as
+/// far as 20 renewals go.
+pub fn keep_volume(b: &mut Builder, client: u8, object: u8, last: u32) {
+    for _ in 0..20 {
+        let next = b.tables().clock.saturating_add(b.setup.volume_lease - 1).min(last);
+        if next <= b.tables().clock {
+            break;
+        }
+        b.clock(next);
+        exchange(b, client, object);
+    }
+}
+
 /// Renews the volume by another object until the object's lease ends, then
 /// changes the object: its old copy has one lease left.
 fn one_lease_alone(b: &mut Builder) {
@@ -65,15 +78,7 @@ fn one_lease_alone(b: &mut Builder) {
     };
     hold(b, client, object);
     let expiry = b.server().object_expiry[usize::from(object)][usize::from(client)];
-    for _ in 0..12 {
-        let last = expiry.saturating_sub(1);
-        let next = b.tables().clock.saturating_add(b.setup.volume_lease - 1).min(last);
-        if next <= b.tables().clock {
-            break;
-        }
-        b.clock(next);
-        exchange(b, client, other);
-    }
+    keep_volume(b, client, other, expiry.saturating_sub(1));
     b.read(client, object);
     b.advance(1);
     exchange(b, client, other);

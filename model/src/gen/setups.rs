@@ -35,14 +35,16 @@ pub fn sized(clients: u8, volumes: u8, objects: u8) -> Setup {
     }
 }
 
-/// Short and long leases, either one the shorter, and the ends of the ranges.
+/// Short and long leases, either one the shorter or close to each other, and
+/// the ends of the ranges.
 pub fn ticks(rng: &mut Rng) -> (u32, u32, u32) {
-    match rng.below(8) {
+    match rng.below(9) {
         0 => (1, 1, 1),
         1 => (3_600, 1_000_000, 60),
         2 => (rng.range(20, 60), rng.range(5, 15), rng.range(1, 5)),
         3 => (rng.range(2, 10), rng.range(2, 10), rng.range(10, 60)),
         4 => (20, 20, 3),
+        5 => (rng.range(6, 12), rng.range(13, 20), rng.range(1, 3)),
         _ => (rng.range(5, 15), rng.range(20, 120), rng.range(1, 5)),
     }
 }
