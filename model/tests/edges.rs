@@ -1,4 +1,4 @@
-//! Every line of 01's Edges.
+//! Every line of 01's Edges, and those of the latest end of 02, A3.
 
 mod common;
 
@@ -49,6 +49,63 @@ fn latest_end_10_stands_at_10_and_is_complete_at_11() {
     assert_eq!(bench.line(Step::clock(10)), (0, 0));
     assert_eq!(bench.line(Step::clock(11)), (3, 1));
     assert_eq!(bench.state.tables.server.value[0], 7);
+}
+
+/// A row has the clock, the guard, each client's volume and object expiry, the
+/// set of those marked, and the end. VE and OE are far off in all of them.
+#[test]
+fn latest_end_by_the_clients_waited_for() {
+    const NO: (u32, u32) = (0, 0);
+    for (clock, guard, leases, marked, end) in [
+        (0, 0, [(10, 100), NO, NO], 0, 10),
+        (0, 0, [(100, 10), NO, NO], 0, 10),
+        (0, 0, [(10, 100), (100, 12), (11, 11)], 0, 12),
+        (0, 0, [(50, 10), (12, 60), NO], 0, 12),
+        (0, 0, [(3, 100), NO, NO], 0, 3),
+        (0, 0, [(4, 100), NO, NO], 0, 4),
+        (9, 0, [(10, 100), (19, 0), NO], 0, 12),
+        (10, 0, [(10, 100), (20, 10), NO], 0, 13),
+        (10, 0, [(20, 100), (10, 100), NO], 0b11, 20),
+        (10, 0, [(100, 20), (10, 100), NO], 0b11, 20),
+        (0, 9, [(10, 100), NO, NO], 0, 10),
+        (0, 11, [(10, 100), NO, NO], 0, 11),
+        (0, 2, [NO, NO, NO], 0, 3),
+        (0, 5, [NO, (10, 0), (0, 10)], 0b100, 5),
+    ] {
+        let mut bench = Bench::fresh();
+        let server = &mut bench.state.tables.server;
+        (server.volume_latest[0], server.object_latest[0]) = (1_000, 1_000);
+        (server.guard[0], server.unreachable[0]) = (guard, marked);
+        for (client, (volume, object)) in leases.into_iter().enumerate() {
+            (server.volume_expiry[0][client], server.object_expiry[0][client]) = (volume, object);
+        }
+        bench.state.tables.clock = clock;
+        assert_eq!(bench.line(Step::write(0, 7)), (0, 0));
+        let found = bench.state.tables.server.write[0].latest_end;
+        assert_eq!(found, end, "clock {clock}, guard {guard}, {leases:?}");
+    }
+}
+
+#[test]
+fn latest_end_of_the_notice_desk_is_12_and_not_19() {
+    let mut bench = holding();
+    bench.all(&[Step::clock(9)]);
+    bench.hold(1, 1);
+    bench.all(&[Step::write(0, 7), Step::lose(0)]);
+    assert_eq!(bench.state.tables.server.write[0].latest_end, 12);
+    assert_eq!(bench.line(Step::clock(12)), (0, 0));
+    assert_eq!(bench.line(Step::clock(13)), (3, 1));
+}
+
+#[test]
+fn latest_end_stays_when_the_client_of_it_acknowledges() {
+    let mut bench = holding();
+    bench.all(&[Step::clock(5)]);
+    bench.hold(1, 0);
+    bench.all(&[Step::write(0, 7), Step::lose(0), Step::deliver(0), Step::deliver(0)]);
+    assert_eq!(bench.state.tables.server.write[0].waiting, 0b01);
+    assert_eq!(bench.line(Step::clock(15)), (0, 0));
+    assert_eq!(bench.line(Step::clock(16)), (3, 1));
 }
 
 #[test]
