@@ -1,5 +1,5 @@
-//! The runs stored in the repository's examples folder: 01's own, and one
-//! for each line of the customer's test sheet.
+//! The runs stored in the repository's examples folder: 01's own, one for
+//! each line of the customer's test sheet, and the notice desk's of 02, A3.
 
 use crate::gen::runs::Run;
 use crate::gen::setups::sized;
@@ -19,6 +19,7 @@ pub fn all() -> Vec<Example> {
         example("3-restart-inside-write", "line 3 of the sheet", (1, 1, 1), restart_inside_write()),
         example("4-client-switched-off", "line 4 of the sheet", (2, 1, 1), client_switched_off()),
         example("5-old-messages", "line 5 of the sheet", (4, 1, 4), old_messages()),
+        example("6-never-held", "request A3, the notice desk", (2, 1, 2), never_held()),
     ]
 }
 
@@ -111,4 +112,13 @@ fn old_messages() -> Vec<Step> {
         Step::read(3, 3),
     ];
     [&offer[..], &dropped, &granted, &grant, &erased, &hold(2, 2, 4), &ack, &late].concat()
+}
+
+/// Client 1 never held object 0, so the write does not wait until 19 for its
+/// lease on the volume: it ends with clock + m, since that of client 0 is shorter.
+fn never_held() -> Vec<Step> {
+    let late = [Step::read(0, 0), Step::clock(9)];
+    let write = [Step::write(0, 7), Step::lose(0), Step::clock(10), Step::read(0, 0), Step::clock(12)];
+    let end = [Step::clock(13), Step::read(0, 0), Step::read(1, 1)];
+    [&hold(0, 0, 0)[..], &late, &hold(1, 1, 0), &write, &end].concat()
 }

@@ -43,6 +43,8 @@ fn each_mistake_changes_exactly_its_line() {
         ("5-old-messages", "dropped_keeps_offer", "52 0 0", "52 3 1"),
         ("5-old-messages", "old_renew_offers", "52 0 0", "52 3 1"),
         ("5-old-messages", "offer_any_number", "55 1 0", "55 2 0"),
+        ("6-never-held", "latest_end_by_old_rule", "22 3 1", "22 0 0"),
+        ("6-never-held", "latest_end_by_greater", "22 3 1", "22 0 0"),
     ] {
         let (_, switch) = Mistakes::EACH.iter().find(|(name, _)| *name == mistake).expect("a mistake's name");
         let expected = vec![(honest.to_string(), wrong.to_string())];
