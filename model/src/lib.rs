@@ -1,4 +1,5 @@
-//! A plain Rust model of the lease protocol, written from document 01 alone.
+//! A plain Rust model of the lease protocol, written from documents 01 and 02
+//! alone.
 //!
 //! It shares no code with the product. Its listings are what the product's
 //! `roadrun` is compared with, byte for byte.

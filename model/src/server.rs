@@ -27,7 +27,7 @@ impl<R: Rules> World<'_, R> {
         completed
     }
 
-    /// 01, Steps 4.
+    /// 01, Steps 4, with the latest end of 02, A3.
     pub fn write(&mut self, object: usize, value: u64) -> u32 {
         let waiting = self.to_wait_for(object);
         let latest_end = self.latest_end(object, waiting);

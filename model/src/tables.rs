@@ -30,7 +30,7 @@ pub struct Server {
     /// Per object.
     pub value: [u64; OBJECTS],
     pub version: [u32; OBJECTS],
-    /// OE: the largest object expiry given out.
+    /// OE: the largest object expiry given out. No rule reads it since A3.
     pub object_latest: [u32; OBJECTS],
     /// The set of objects with a standing write.
     pub standing: u32,
