@@ -1,6 +1,7 @@
 pub mod Choice
 pub mod Loop
 pub mod Store
+pub mod Greatest
 pub mod Updated
 pub mod Lists
 pub mod Each
