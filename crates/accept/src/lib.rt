@@ -11,9 +11,11 @@ use leases::place;
 use leases::time;
 use protocol::setup::Setup;
 use waiting::clients;
+use waiting::end::latest_end;
 use words::Values;
 use words::Words;
 use words::network;
+use words::pass;
 use words::server;
 
 // The write of `value` stands, with its latest end and whom it waits for.
@@ -25,14 +27,11 @@ fn begin(s: Setup, words: &mut Words, values: &mut Values, object: usize, value:
     ensures { λ _. ⌜ recordsOf (now (words .exit)) (now (values .exit)) ≡ recordsOf (now (words .entry)) (now (values .entry)) ⌝ }
 {
     let volume = place::volume_of(s, object);
-    let end = time::latest_end(
-        words[network::CLOCK],
-        s.m,
-        words[server::VOLUME_EXPIRY + volume],
-        words[server::OBJECT_EXPIRY + object],
-        words[server::GUARD + volume],
-    );
-    clients::await_clients(&mut *words, volume, object, s.clients as usize);
+    let n = s.clients as usize;
+    pass::sized(&*words);
+    clients::await_clients(&mut *words, volume, object, n);
+    let least = time::larger(words[network::CLOCK] + s.m, words[server::GUARD + volume]);
+    let end = latest_end(words, volume, object, least, n);
     words[server::STANDING + object] = 1;
     words[server::END + object] = end;
     values[server::PENDING + object] = value;

@@ -1,6 +1,6 @@
 -- Where an object's tables are, and the tests of time, by the numbers that they read.
-use Prim.Native.Nat.{ℕ, _+_, min, max, _<_, _≤_}
-use mathlib.Core.Bool.{Bool, not, _&&_, _||_}
+use Prim.Native.Nat.{ℕ, min, max, _<_, _≤_}
+use mathlib.Core.Bool.{Bool, cond, not, _&&_, _||_}
 use mathlib.Core.Path.{_≡_}
 use Rattle.protocol.specs.declared.setup.Setup.{Setup}
 use Rattle.protocol.specs.Setup.{volumeOf}
@@ -19,6 +19,6 @@ pub record Placed (s : Setup) (o v : ℕ) : Type 0 where
 abbrev pub waitsBy : ℕ → ℕ → Bool → ℕ → Bool
 waitsBy clock lease unreachable expiry = serverAlive clock lease && (not unreachable || serverAlive clock expiry)
 
--- `latestEnd`, likewise
-abbrev pub latestBy : ℕ → ℕ → ℕ → ℕ → ℕ → ℕ
-latestBy clock m volume object guard = max (max (clock + m) (min volume object)) guard
+-- one client's turn in `latestEnd`, likewise
+abbrev pub outlastBy : ℕ → Bool → ℕ → ℕ → ℕ
+outlastBy end waiting volume object = cond waiting (max end (min volume object)) end

@@ -1,9 +1,9 @@
 // The tests of time.
 ghost use mathlib.Core.Path.{_≡_};
 ghost use mathlib.Core.Bool.{not};
-ghost use Prim.Native.Nat.{_+_, _<_, min, max};
+ghost use Prim.Native.Nat.{min, max};
 ghost use Rattle.protocol.specs.Leases.{serverAlive, endOver};
-ghost use Rattle.leases.specs.Parts.{waitsBy, latestBy};
+ghost use Rattle.leases.specs.Parts.{waitsBy, outlastBy};
 
 // "A lease is alive when its expiry is greater than the clock."
 pub fn server_alive(clock: u32, expiry: u32) -> bool
@@ -53,12 +53,12 @@ pub fn smaller(a: u32, b: u32) -> u32
     b
 }
 
-// "the greatest of clock + m, the lesser of VE and OE, and guard"
-pub fn latest_end(clock: u32, m: u32, volume_expiry: u32, object_expiry: u32, guard: u32) -> u32
-    requires { ⌜ clock + m < 4294967296 ⌝ }
-    ensures { λ r. ⌜ r ≡ latestBy clock m «volume_expiry» «object_expiry» guard ⌝ }
+// A turn of the latest end (02, A3): "over the waiting dashes, the lesser of that dash's volume and object expiry", where that is later than `end`.
+pub fn outlast(end: u32, waiting: bool, volume_lease: u32, object_lease: u32) -> u32
+    ensures { λ r. ⌜ r ≡ outlastBy end waiting «volume_lease» «object_lease» ⌝ }
 {
-    let lease = smaller(volume_expiry, object_expiry);
-    let reply = larger(clock + m, lease);
-    larger(reply, guard)
+    if waiting {
+        return larger(end, smaller(volume_lease, object_lease));
+    }
+    end
 }

@@ -7,6 +7,7 @@ use lib.ListN.{set, replicate}
 use Rattle.laws.specs.Loop.{foldFrom, anyFrom, allFrom, firstFrom}
 use Rattle.laws.specs.Lists.{removeAt}
 use Rattle.laws.specs.Store.{storeEach}
+use Rattle.laws.specs.Greatest.{greatest}
 use Rattle.protocol.specs.declared.message.Kind.the-variants.{Offer}
 use Rattle.protocol.specs.declared.message.Queue.{Queue}
 use Rattle.protocol.specs.declared.setup.Setup.{Setup}
@@ -102,5 +103,5 @@ Table =
     × (answer (standing-until 20 20 false) (clock 20) ≡ (3, 1)) × (stands-after (standing-until 20 20 false) (clock 20) ≡ false)
 
 pub edges : Table
-unfolding Table tiny step clock write lose double with-tables standing-until full-list full at-clock-5 answer after stands-after value-after foldFrom anyFrom allFrom firstFrom removeAt storeEach inRange pushed removed freshTables serverAlive clientAlive clientClock guardPassed endOver waits latestEnd opened awaited notified waited ready due deserted posted released completed settled written swept sweptAll queueSound tablesSound copiesSound requestsSound sound known exists timely vacant growable refusalOfStep refusal performed decided target decision stepped
+unfolding Table tiny step clock write lose double with-tables standing-until full-list full at-clock-5 answer after stands-after value-after foldFrom anyFrom allFrom firstFrom removeAt storeEach greatest inRange pushed removed freshTables serverAlive clientAlive clientClock guardPassed endOver waits latestEnd opened awaited notified waited ready due deserted posted released completed settled written swept sweptAll queueSound tablesSound copiesSound requestsSound sound known exists timely vacant growable refusalOfStep refusal performed decided target decision stepped
 edges = (refl, refl, refl, refl, refl, refl, refl, refl, refl, refl, refl, refl, refl, refl, refl, refl, refl, refl, refl, refl, refl, refl, refl)

@@ -5,6 +5,7 @@ pub mod Tables
 pub mod Updates
 pub mod Leases
 pub mod Writes
+pub mod LatestEnd
 pub mod Server
 pub mod Client
 pub mod Sound

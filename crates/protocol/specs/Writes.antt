@@ -7,6 +7,7 @@ use mathlib.Core.List.{List, [], _∷_}
 use lib.ListN.{set}
 use Rattle.laws.specs.Loop.{foldFrom, anyFrom}
 use Rattle.laws.specs.Store.{storeEach, always}
+use Rattle.laws.specs.Greatest.{greatest}
 use Rattle.protocol.specs.declared.message.Message.{Message}
 use Rattle.protocol.specs.declared.message.Queue.{Queue}
 use Rattle.protocol.specs.declared.message.Kind.the-variants.{Invalidate}
@@ -17,7 +18,7 @@ use Rattle.protocol.specs.declared.tables.Holders.{Holders}
 use Rattle.protocol.specs.declared.tables.Tables.{Tables}
 use Rattle.protocol.specs.Setup.{volumeOf}
 use Rattle.protocol.specs.Messages.{message, pushed}
-use Rattle.protocol.specs.Tables.{byVolume, byObject, epochAt, volumeExpiryAt, guardAt, sessionExpiryAt, unreachableAt, versionAt, objectExpiryAt, standingAt, pendingAt, endAt, leaseAt, waitingAt, withClock, withSessions, withObjects, withHolders, withQueue}
+use Rattle.protocol.specs.Tables.{byVolume, byObject, epochAt, guardAt, sessionExpiryAt, unreachableAt, versionAt, standingAt, pendingAt, endAt, leaseAt, waitingAt, withClock, withSessions, withObjects, withHolders, withQueue}
 use Rattle.protocol.specs.Updates.{withUnreachable, setValue, setVersion, setWrite, withLease, withWaiting}
 use Rattle.protocol.specs.Leases.{serverAlive, guardPassed, endOver}
 
@@ -27,9 +28,13 @@ waits s t o d =
     serverAlive (t .clock) (leaseAt t d o)
     && (not (unreachableAt t d (volumeOf s o)) || serverAlive (t .clock) (sessionExpiryAt t d (volumeOf s o)))
 
--- Step 4: "latest end is the greatest of clock + m, the lesser of VE and OE, and guard"
+-- 02, A3: "the lesser of that dash's volume and object expiry": until then a client may show its copy
+abbrev pub leasedUntil : Setup → Tables → ℕ → ℕ → ℕ
+leasedUntil s t o d = min (sessionExpiryAt t d (volumeOf s o)) (leaseAt t d o)
+
+-- 02, A3: "the greatest of clock + m, guard, and, over the waiting dashes," that. The write has not begun in these tables
 unfoldable pub latestEnd : Setup → Tables → ℕ → ℕ
-latestEnd s t o = max (max (t .clock + s .m) (min (volumeExpiryAt t (volumeOf s o)) (objectExpiryAt t o))) (guardAt t (volumeOf s o))
+latestEnd s t o = greatest (waits s t o) (leasedUntil s t o) (max (t .clock + s .m) (guardAt t (volumeOf s o))) (s .clients)
 
 -- the write of x stands, with its latest end and its waiting clients
 unfoldable pub opened : Setup → Tables → ℕ → ℕ → Objects

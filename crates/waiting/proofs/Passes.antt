@@ -7,13 +7,14 @@ use mathlib.Core.Path.{_≡_, ap, _∙_}
 use lib.ListN.{getD, set}
 use Rattle.laws.specs.Choice.{cond-keeps}
 use Rattle.laws.specs.Flags.{flag, flags, flag-at, wordOf}
+use Rattle.laws.specs.Greatest.{raiseTo}
 use Rattle.laws.specs.Loop.{foldFrom, fold-again}
 use Rattle.laws.specs.Parts.{parts, part-at, stored, Only}
 use Rattle.laws.specs.Store.{storeAt, always}
 use Rattle.protocol.specs.Tables.{byVolume, byObject}
-use Rattle.leases.specs.Parts.{waitsBy}
+use Rattle.leases.specs.Parts.{waitsBy, outlastBy}
 use Rattle.words.specs.Fields.{wordLengths, at, CLOCK, SESSION-EXPIRY, UNREACHABLE, LEASE, WAITING}
-use Rattle.waiting.specs.Waiting.{waitingFor, waitingIn, waitsIn}
+use Rattle.waiting.specs.Waiting.{waitingFor, waitingIn, waitsIn, leasedIn}
 
 -- a mark, or none, is no change of who is waited for
 pub mark-keeps : (w₀ w u : List ℕ) (b : Bool) (v n d y : ℕ) → v < 8 → n ≤ 16 → d < n → parts wordLengths w WAITING ≡ parts wordLengths w₀ WAITING
@@ -43,3 +44,12 @@ module _ (w₀ w : List ℕ) (v o n d : ℕ) (i : v < 8) (j : o < 32) (k : n ≤
       → foldFrom (storeAt always (λ (d : ℕ). at WAITING + byObject d o) (λ (d : ℕ). wordOf (waitsIn w₀ v o d))) (set w (at WAITING + byObject d o) y) (d + 1) (n - (d + 1)) ≡ A
   await-again r y A a b f =
       fold-again (storeAt always (λ (d : ℕ). at WAITING + byObject d o) (λ (d : ℕ). wordOf (waitsIn w₀ v o d))) n d w _ A h (rw (b, a, same-waits)) f
+
+module _ (w : List ℕ) (v o n d : ℕ) (i : v < 8) (j : o < 32) (k : n ≤ 16) (h : d < n) where
+  pub end-again : (e u A : ℕ)
+      → u ≡ outlastBy e (flag (getD w (at WAITING + byObject d o) 0)) (getD w (at SESSION-EXPIRY + byVolume d v) 0) (getD w (at LEASE + byObject d o) 0)
+      → foldFrom (raiseTo (waitingFor (waitingIn w) o) (leasedIn w v o)) e d (n - d) ≡ A
+      → foldFrom (raiseTo (waitingFor (waitingIn w) o) (leasedIn w v o)) u (d + 1) (n - (d + 1)) ≡ A
+  end-again e u A q f =
+      fold-again (raiseTo (waitingFor (waitingIn w) o) (leasedIn w v o)) n d e u A h
+      (rw (flag-at wordLengths w WAITING (byObject d o) (omega arith), part-at wordLengths w SESSION-EXPIRY (byVolume d v) (omega arith), part-at wordLengths w LEASE (byObject d o) (omega arith)) at q) f

@@ -1,5 +1,5 @@
 -- Whom a write waits for, by the words.
-use Prim.Native.Nat.{ℕ}
+use Prim.Native.Nat.{ℕ, min}
 use mathlib.Core.Bool.{Bool, false}
 use mathlib.Core.List.{List}
 use lib.ListN.{getD}
@@ -21,3 +21,7 @@ abbrev pub waitsIn : List ℕ → ℕ → ℕ → ℕ → Bool
 waitsIn words v o d =
     waitsBy (getD (parts wordLengths words CLOCK) 0 0) (getD (parts wordLengths words LEASE) (byObject d o) 0)
     (getD (flags (parts wordLengths words UNREACHABLE)) (byVolume d v) false) (getD (parts wordLengths words SESSION-EXPIRY) (byVolume d v) 0)
+
+-- `leasedUntil`: until when client d may show its copy of object o
+abbrev pub leasedIn : List ℕ → ℕ → ℕ → ℕ → ℕ
+leasedIn words v o d = min (getD (parts wordLengths words SESSION-EXPIRY) (byVolume d v) 0) (getD (parts wordLengths words LEASE) (byObject d o) 0)

@@ -1,8 +1,7 @@
 use native.Mathlib.Omega.{arith}
 use mathlib.Core.Path.{refl}
 use Rattle.protocol.specs.Ranges.{ranges}
-use Rattle.words.specs.Reads.{clock-word}
-use Rattle.accept.proofs.Accepting.{begins}
+use Rattle.accept.proofs.Accepting.{clock-awaited, begins}
 use borrow.Author.Needs.{needs}
 use Rattle.accept.proofs.begin.Statement.{statement}
 use Rattle.accept.proofs.begin.Tie as tie
@@ -10,44 +9,35 @@ use Rattle.accept.proofs.begin.Tie as tie
 volume-of-requires : tie.Need-volume-of-requires
 volume-of-requires c κs = search needs
 
-element-copy-out-latest-end : tie.Need-element-copy-out-latest-end
-element-copy-out-latest-end c = search needs
+cast-n : tie.Need-cast-n
+cast-n c = search needs
 
-add-latest-end : tie.Need-add-latest-end
-add-latest-end c = search needs
-
-mul-latest-end : tie.Need-mul-latest-end
-mul-latest-end c = search needs
-
-element-copy-out-latest-end-2 : tie.Need-element-copy-out-latest-end-2
-element-copy-out-latest-end-2 c = search needs
-
-add-latest-end-2 : tie.Need-add-latest-end-2
-add-latest-end-2 c = search needs
-
-mul-latest-end-2 : tie.Need-mul-latest-end-2
-mul-latest-end-2 c = search needs
-
-element-copy-out-latest-end-3 : tie.Need-element-copy-out-latest-end-3
-element-copy-out-latest-end-3 c = search needs
-
-add-latest-end-3 : tie.Need-add-latest-end-3
-add-latest-end-3 c = search needs
-
-mul-latest-end-3 : tie.Need-mul-latest-end-3
-mul-latest-end-3 c = search needs
-
-element-copy-out-latest-end-4 : tie.Need-element-copy-out-latest-end-4
-element-copy-out-latest-end-4 c = search needs
-
-latest-end-requires : tie.Need-latest-end-requires
-latest-end-requires c κs = let a = c .before .before .before .before .before in omega (arith, ranges _ (a .pre .0) .m .1, a .pre .1 .0, clock-word (a .args .words .now) (a .args .values .now))
-
-cast-await-clients : tie.Need-cast-await-clients
-cast-await-clients c = search needs
+sized-requires : tie.Need-sized-requires
+sized-requires c κs = search needs
 
 await-clients-requires : tie.Need-await-clients-requires
 await-clients-requires c κs = search needs
+
+element-copy-out-larger : tie.Need-element-copy-out-larger
+element-copy-out-larger c = search needs
+
+add-larger : tie.Need-add-larger
+add-larger c = let a = c .before .before .before .before .before .before .before .before .before in omega (arith, ranges _ (a .pre .0) .m .1, a .pre .1 .0, clock-awaited _ _ _ (a .args .values .now) _ _ _ (c .before .before .before .before .before .before .before .before .volume-of .ensures) refl (c .before .before .await-clients .ensures))
+
+add-larger-2 : tie.Need-add-larger-2
+add-larger-2 c = search needs
+
+mul-larger : tie.Need-mul-larger
+mul-larger c = search needs
+
+element-copy-out-larger-2 : tie.Need-element-copy-out-larger-2
+element-copy-out-larger-2 c = search needs
+
+larger-requires : tie.Need-larger-requires
+larger-requires c κs = search needs
+
+latest-end-requires : tie.Need-latest-end-requires
+latest-end-requires c κs = search needs
 
 add-words : tie.Need-add-words
 add-words c = search needs
@@ -77,26 +67,23 @@ element-write-values : tie.Need-element-write-values
 element-write-values c = search needs
 
 returns : tie.Need-returns
-returns c = begins _ _ _ _ _ _ _ _ _ (c .before .before .before .before .before .before .before .before .volume-of .ensures) refl (c .before .before .before .latest-end .ensures) (c .await-clients .ensures)
+returns c = begins _ _ _ _ _ _ _ (c .before .before .before .before .before .before .before .before .before .before .before .before .volume-of .ensures) refl (c .before .before .before .before .before .before .await-clients .ensures) (c .before .before .before .before .before .before .before .before .before .sized-arg2 .given .0) _ _ (c .before .before .larger .ensures) (c .latest-end .ensures) _
 
 pub begin-spec : {M : Type 1} → statement M
 begin-spec =
     tie.close
     (tie.spec
     volume-of-requires
-    element-copy-out-latest-end
-    add-latest-end
-    mul-latest-end
-    element-copy-out-latest-end-2
-    add-latest-end-2
-    mul-latest-end-2
-    element-copy-out-latest-end-3
-    add-latest-end-3
-    mul-latest-end-3
-    element-copy-out-latest-end-4
-    latest-end-requires
-    cast-await-clients
+    cast-n
+    sized-requires
     await-clients-requires
+    element-copy-out-larger
+    add-larger
+    add-larger-2
+    mul-larger
+    element-copy-out-larger-2
+    larger-requires
+    latest-end-requires
     add-words
     mul-words
     element-write-words

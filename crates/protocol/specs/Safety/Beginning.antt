@@ -12,9 +12,10 @@ use Rattle.protocol.specs.declared.message.Queue.{Queue}
 use Rattle.protocol.specs.declared.message.Kind.the-variants.{Renew, Grant, Invalidate, Ack, Offer, Dropped}
 use Rattle.protocol.specs.declared.setup.Setup.{Setup}
 use Rattle.protocol.specs.Setup.{volumeOf}
-use Rattle.protocol.specs.Tables.{guardAt, sessionExpiryAt, unreachableAt, standingAt, leaseAt, waitingAt, withQueue}
+use Rattle.protocol.specs.Tables.{sessionExpiryAt, unreachableAt, standingAt, leaseAt, waitingAt, withQueue}
 use Rattle.protocol.specs.Leases.{serverAlive}
 use Rattle.protocol.specs.Writes.{waits, latestEnd, opened, awaited, begun, invalidation, notify, notified, written}
+use Rattle.protocol.specs.LatestEnd.{ends-after-guard, ends-after-leases}
 use Rattle.protocol.specs.World.{World}
 use Rattle.protocol.specs.Soundness.Shape.{Shape, sent-shape}
 use Rattle.protocol.specs.Safety.Invariant.{InvalidateOk, Acknowledges, Unwaited, excusesOf, Inv}
@@ -38,18 +39,10 @@ unwaited s w o d e =
     marks true f = refl
     marks false f = not-both refl f
 
--- Q2: the latest end is no earlier than the guard, nor than the lesser of the two leases of whom is waited for
-ends-after-guard : (s : Setup) (w : World) (o : ℕ) → guardAt (w .tables) (volumeOf s o) ≤ latestEnd s (w .tables) o
-unfolding latestEnd
-ends-after-guard s w o = omega arith
-
-ends-after-leases : (s : Setup) (w : World) (o d : ℕ) → Ranges s → Inv s w → o < s .objects → d < s .clients → waits s (w .tables) o d ≡ true
+-- Q2: the latest end is no earlier than the lesser of the two leases of whom is waited for
+outlasts : (s : Setup) (w : World) (o d : ℕ) → d < s .clients → waits s (w .tables) o d ≡ true
     → min (leaseAt (w .tables) d o) (sessionExpiryAt (w .tables) d (volumeOf s o)) ≤ latestEnd s (w .tables) o
-unfolding latestEnd
-ends-after-leases s w o d range inv ho hd _ =
-    let a = inv .bounds .leases d o hd ho in
-    let b = inv .bounds .sessions d (volumeOf s o) hd (range .within o ho) in
-    omega arith
+outlasts s w o d hd e = omega (arith, ends-after-leases s (w .tables) o d hd e)
 
 -- ---- the write of o stands
 module _ (s : Setup) (o : ℕ) {epoch version : List ℕ} {standing standing′ : List Bool} (vacant : getD standing o false ≡ false) (standings : Replaced o true false standing standing′) where
@@ -102,10 +95,10 @@ module _ (s : Setup) (w : World) (o new : ℕ) (range : Ranges s) (shape : Shape
         offers = inv .offers;
         writes = record {
           guards = λ j hj st.
-              ⊎-elim (λ q. rw (here-at end j q) (rw q (ends-after-guard s w o)))
+              ⊎-elim (λ q. rw (here-at end j q) (rw q (ends-after-guard s t o)))
               (λ q. rw (end .other j q) (inv .writes .guards j hj (sym (standing .other j q) ∙ st))) (same? j o);
           waits = λ d j hd hj st wt.
-              ⊎-elim (λ q. rw (here-at end j q) (rw q (ends-after-leases s w o d range inv ho hd (sym (here-for waiting d j hd q) ∙ wt))))
+              ⊎-elim (λ q. rw (here-at end j q) (rw q (outlasts s w o d hd (sym (here-for waiting d j hd q) ∙ wt))))
               (λ q. rw (end .other j q) (inv .writes .waits d j hd hj (sym (standing .other j q) ∙ st) (sym (waiting .other d j hj q) ∙ wt))) (same? j o);
           others = λ d j hd hj st wt.
               ⊎-elim (λ q. rw q (unwaited s w o d (sym (here-for waiting d j hd q) ∙ wt)))

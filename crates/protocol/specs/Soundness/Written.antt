@@ -15,17 +15,18 @@ use Rattle.protocol.specs.declared.setup.Setup.{Setup}
 use Rattle.protocol.specs.declared.tables.Tables.{Tables}
 use Rattle.protocol.specs.Setup.{volumeOf}
 use Rattle.protocol.specs.Ranges.{Ranges}
-use Rattle.protocol.specs.Tables.{waitingAt, versionAt}
+use Rattle.protocol.specs.Tables.{byVolume, byObject, waitingAt, versionAt}
 use Rattle.protocol.specs.Writes.{Counted, Staged, latestEnd, opened, awaited, begun, invalidation, notify, notified, deserted, posted, released, completed, completeIf, settled, written}
+use Rattle.protocol.specs.LatestEnd.{ends-by}
 use Rattle.protocol.specs.SoundLaws.{not-cleared}
 use Rattle.protocol.specs.Soundness.Bounds.{Timed, Started, Named, ObjectsBounded, QueueBounded, Bounded, unreachable-bounded, value-bounded, version-bounded, write-bounded, lease-bounded, waiting-bounded, sessions-bounded, objects-bounded, holders-bounded, queue-bounded, pushed-bounded}
 
 module _ (s : Setup) where
   -- ---- a write accepted
   latest-end-timed : (t : Tables) (o : ℕ) → Ranges s → Bounded s t → Timed (latestEnd s t o)
-  unfolding latestEnd
   latest-end-timed t o rs h =
-      omega (arith, h .clock, rs .m .1, each-getD Timed _ (volumeOf s o) 0 (h .volumes .expiry) (omega arith), each-getD Timed _ (volumeOf s o) 0 (h .volumes .guard) (omega arith))
+      ends-by s t o 2148483647 (omega (arith, h .clock, rs .m .1)) (each-getD Timed _ (volumeOf s o) 0 (h .volumes .guard) (omega arith))
+      (λ d _ _. omega (arith, each-getD Timed _ (byVolume d (volumeOf s o)) 0 (h .sessions .expiry) (omega arith), each-getD Timed _ (byObject d o) 0 (h .holders .lease) (omega arith)))
 
   opened-standing : (t : Tables) (o : ℕ) → versionAt t o < 4294967295 → ObjectsBounded (t .objects)
       → (k : ℕ) → getD (set (t .objects .standing) o true) k false ≡ true → versionAt t k < 4294967295
