@@ -1,4 +1,3 @@
-pub mod WorkedRun
 pub mod Calls
-pub mod Reached
 pub mod UntilShown
+pub mod WorkedRuns

@@ -22,3 +22,5 @@ pub mod Bookkeeping
 pub mod History
 pub mod Safety
 pub mod Demand3
+pub mod Reached
+pub mod NeverLater

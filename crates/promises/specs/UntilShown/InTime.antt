@@ -25,7 +25,7 @@ use Rattle.protocol.specs.Soundness.Answered.{accepted-not-refused}
 use Rattle.protocol.specs.Soundness.Question.{SoundWorld, stepped-sound}
 use Rattle.protocol.specs.Safety.View.{requestAt}
 use Rattle.protocol.specs.Safety.Invariant.{from}
-use Rattle.promises.specs.Reached.{ran-on, run-sound, run-safe, shows-posted}
+use Rattle.protocol.specs.Reached.{ran-on, run-sound, run-safe, shows-posted}
 use Rattle.promises.specs.UntilShown.Policy.{ask, deliver, isDropped, policy, Quiet, connected, ShownAfter, ShownInTime}
 use Rattle.promises.specs.UntilShown.Steps.{asking, delivering, ask-accepted, ask-leaves, read-shows, deliver-accepted, deliver-leaves}
 use Rattle.promises.specs.UntilShown.Phases.{Only, Idle, Offered, Dropping, Granted, Showing}

@@ -14,7 +14,7 @@ use Rattle.protocol.specs.declared.step.Step.{Step}
 use Rattle.protocol.specs.Setup.{inRange}
 use Rattle.protocol.specs.Answers.{isRefused}
 use Rattle.protocol.specs.World.{World, freshWorld, answerOf, ran}
-use Rattle.promises.specs.Reached.{postedAfter, ran-on}
+use Rattle.protocol.specs.Reached.{postedAfter, ran-on}
 use Rattle.promises.specs.UntilShown.Policy.{read, policy, Quiet, stepsNeeded, ShownAfter}
 use Rattle.promises.specs.UntilShown.InTime.{shown-in-time}
 use Rattle.promises.specs.Calls.{Calls, calls-answer, calls-leave}

@@ -20,7 +20,7 @@ use Rattle.protocol.specs.Tables.{epochAt, unreachableAt, standingAt, viewEpoch
 use Rattle.protocol.specs.Answers.{isRefused}
 use Rattle.protocol.specs.World.{World, freshWorld, stepped, answerOf, ran, answers}
 use Rattle.protocol.specs.Safety.View.{requestAt}
-use Rattle.promises.specs.Reached.{postedAfter}
+use Rattle.protocol.specs.Reached.{postedAfter}
 
 -- ---- the steps
 abbrev pub read : ℕ → ℕ → Step

@@ -28,7 +28,7 @@ use Rattle.protocol.specs.Soundness.StepCases.{copyOf, requestOf, decision-acce
 use Rattle.protocol.specs.Soundness.Question.{SoundWorld, sounds, stepped-sound}
 use Rattle.protocol.specs.Safety.View.{copyAt, requestAt}
 use Rattle.protocol.specs.Safety.Sweeping.{swept-keep}
-use Rattle.promises.specs.Reached.{ran-on, run-sound}
+use Rattle.protocol.specs.Reached.{ran-on, run-sound}
 use Rattle.promises.specs.UntilShown.Policy.{read, ask, policy, Quiet, ShownInTime}
 use Rattle.promises.specs.UntilShown.Steps.{asking, ask-accepted, ask-leaves}
 use Rattle.promises.specs.UntilShown.Phases.{standing}

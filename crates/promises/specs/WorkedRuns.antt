@@ -1,0 +1,115 @@
+-- Two runs worked through by computation. Every message is delivered, and lost, from place 0.
+use Prim.Native.Nat.{ℕ}
+use mathlib.Core.List.{List, [], _∷_, _++_, map}
+use mathlib.Core.Path.{_≡_, refl}
+use lib.ListN.{replicate}
+use Rattle.laws.specs.Loop.{foldFrom, anyFrom, allFrom, firstFrom, countFrom}
+use Rattle.laws.specs.Lists.{removeAt}
+use Rattle.laws.specs.Store.{storeEach}
+use Rattle.laws.specs.Greatest.{greatest}
+use Rattle.protocol.specs.declared.setup.Setup.{Setup}
+use Rattle.protocol.specs.declared.step.Step.{Step}
+use Rattle.protocol.specs.Setup.{inRange}
+use Rattle.protocol.specs.Messages.{pushed, removed}
+use Rattle.protocol.specs.Tables.{freshTables}
+use Rattle.protocol.specs.Leases.{serverAlive, clientAlive, clientClock, guardPassed, endOver}
+use Rattle.protocol.specs.Writes.{waits, latestEnd, opened, awaited, notified, waited, ready, due, deserted, posted, released, completed, settled, settling, written}
+use Rattle.protocol.specs.Server.{noted, offered, lowestWaited, volumeRenewed, objectRenewed, granted, mustDrop, renewedBy, renewed, ackTaken, acked, ackStaged, dropTaken, disowned, dropped, dropStaged, serverRestarted}
+use Rattle.protocol.specs.Client.{showable, stands, grantTaken, forgotten, swept, sweptAll}
+use Rattle.protocol.specs.Sound.{queueSound, tablesSound, copiesSound, requestsSound, sound}
+use Rattle.protocol.specs.Answers.{answerNumber, answerValue}
+use Rattle.protocol.specs.Gate.{known, exists, timely, vacant, growable, refusalOfStep, refusal}
+use Rattle.protocol.specs.Decide.{grantReceived, invalidateReceived, offerReceived, received, readDecided, askDecided, deliverDecided, performed, decided}
+use Rattle.protocol.specs.World.{freshWorld, target, decision, stepped, ran, answers}
+use Rattle.protocol.specs.Edges.{tiny, step, clock, write, lose}
+use Rattle.protocol.specs.Ledger.{Event, acceptance, completion, serverRestart, showing, clockStep, happening, events}
+use Rattle.protocol.specs.NeverLater.{formerEnd}
+use Rattle.protocol.specs.History.{told, historyFrom, history, openIn, stillOpen, cutOffs, howOften, isAcceptance, isCompletion, shownIn}
+use Rattle.promises.specs.UntilShown.Policy.{read, ask, deliver}
+
+restart : Step
+restart = step 8 0 0 0
+
+-- a write completes at once, one by ACK, one by its latest end, one is cut off, and reads show what was completed last
+pub steps : List Step
+steps =
+    -- no lease: complete at once
+    write 7
+    -- the client knows no epoch: OFFER, DROPPED; then GRANT
+    ∷ ask 0 0 ∷ deliver ∷ deliver ∷ deliver ∷ ask 0 0 ∷ deliver ∷ deliver ∷ read 0 0
+    -- INVALIDATE, ACK
+    ∷ write 8 ∷ deliver ∷ deliver
+    ∷ ask 0 0 ∷ deliver ∷ deliver ∷ read 0 0
+    -- the INVALIDATE is lost: the latest end is 10
+    ∷ write 9 ∷ lose 0 ∷ clock 10 ∷ clock 11
+    -- marked unreachable: OFFER, DROPPED; then GRANT
+    ∷ ask 0 0 ∷ deliver ∷ deliver ∷ deliver ∷ ask 0 0 ∷ deliver ∷ deliver
+    -- the restart cuts the write off, and the copy held is still current
+    ∷ write 10 ∷ restart ∷ read 0 0 ∷ []
+
+-- the history, newest first
+pub eventsTold : List Event
+eventsTold =
+    showing 0 0 9 ∷ serverRestart ∷ acceptance 0 10 21
+    ∷ clockStep 11 ∷ completion 0 ∷ clockStep 10 ∷ acceptance 0 9 10
+    ∷ showing 0 0 8 ∷ completion 0 ∷ acceptance 0 8 10
+    ∷ showing 0 0 7 ∷ completion 0 ∷ acceptance 0 7 3 ∷ []
+
+-- 01's number and value of each answer, oldest first
+pub answerNumbers : List ℕ
+answerNumbers =
+    3
+    ∷ 0 ∷ 0 ∷ 0 ∷ 0 ∷ 0 ∷ 0 ∷ 0 ∷ 1
+    ∷ 0 ∷ 0 ∷ 3
+    ∷ 0 ∷ 0 ∷ 0 ∷ 1
+    ∷ 0 ∷ 0 ∷ 0 ∷ 3
+    ∷ 0 ∷ 0 ∷ 0 ∷ 0 ∷ 0 ∷ 0 ∷ 0
+    ∷ 0 ∷ 0 ∷ 1 ∷ []
+
+pub answerValues : List ℕ
+answerValues =
+    1
+    ∷ 0 ∷ 0 ∷ 0 ∷ 0 ∷ 0 ∷ 0 ∷ 0 ∷ 7
+    ∷ 0 ∷ 0 ∷ 1
+    ∷ 0 ∷ 0 ∷ 0 ∷ 8
+    ∷ 0 ∷ 0 ∷ 0 ∷ 1
+    ∷ 0 ∷ 0 ∷ 0 ∷ 0 ∷ 0 ∷ 0 ∷ 0
+    ∷ 0 ∷ 0 ∷ 9 ∷ []
+
+pub worked-through : (history tiny steps ≡ eventsTold)
+    × (map answerNumber (answers tiny (freshWorld tiny) steps) ≡ answerNumbers)
+    × (map answerValue (answers tiny (freshWorld tiny) steps) ≡ answerValues)
+unfolding eventsTold answerNumbers answerValues answers tiny step clock lose restart write steps told historyFrom events happening foldFrom anyFrom allFrom firstFrom removeAt storeEach greatest inRange pushed removed freshTables serverAlive clientAlive clientClock guardPassed endOver waits latestEnd opened awaited notified waited ready due deserted posted released completed settled settling written noted offered lowestWaited volumeRenewed objectRenewed granted mustDrop renewedBy renewed ackTaken acked ackStaged dropTaken disowned dropped dropStaged serverRestarted showable stands grantTaken forgotten swept sweptAll queueSound tablesSound copiesSound requestsSound sound known exists timely vacant growable refusalOfStep refusal grantReceived invalidateReceived offerReceived received readDecided askDecided deliverDecided performed decided target decision stepped
+worked-through = (refl, refl, refl)
+
+-- what was shown, and accepted = completed + cut off + open
+pub tallied : (shownIn eventsTold ≡ (0, 0, 7) ∷ (0, 0, 8) ∷ (0, 0, 9) ∷ [])
+    × (howOften isAcceptance eventsTold ≡ 4)
+    × (howOften isCompletion eventsTold ≡ 3)
+    × (cutOffs tiny eventsTold ≡ 1)
+    × (stillOpen tiny eventsTold ≡ 0)
+unfolding eventsTold shownIn howOften cutOffs openIn countFrom tiny
+tallied = (refl, refl, refl, refl, refl)
+
+-- ---- 02, A3: "a write wait on the lease of a dash that never held the notice"
+
+-- two clients, one volume with two objects; tv 10, t 100, m 3
+unfoldable pub twoClients : Setup
+twoClients = record { clients = 2; volumes = 1; objects = 2; tv = 10; t = 100; m = 3; volume = replicate 32 0 }
+
+-- each client takes one object: client 0 has a volume lease to 10 and client 1, which never held object 0, to 19
+pub takenApart : List Step
+takenApart =
+    ask 0 0 ∷ deliver ∷ deliver ∷ deliver ∷ ask 0 0 ∷ deliver ∷ deliver
+    ∷ clock 9
+    ∷ ask 1 1 ∷ deliver ∷ deliver ∷ deliver ∷ ask 1 1 ∷ deliver ∷ deliver ∷ []
+
+-- the write of object 0 waits for client 0, and is complete past 12
+pub writeUnheard : List Step
+writeUnheard = write 7 ∷ lose 0 ∷ clock 12 ∷ clock 13 ∷ []
+
+pub never-held : (history twoClients (takenApart ++ writeUnheard) ≡ clockStep 13 ∷ completion 0 ∷ clockStep 12 ∷ acceptance 0 7 12 ∷ clockStep 9 ∷ [])
+    × (latestEnd twoClients (ran twoClients (freshWorld twoClients) takenApart .tables) 0 ≡ 12)
+    × (formerEnd twoClients (ran twoClients (freshWorld twoClients) takenApart .tables) 0 ≡ 19)
+unfolding twoClients takenApart writeUnheard formerEnd ran step clock lose write told historyFrom events happening foldFrom anyFrom allFrom firstFrom removeAt storeEach greatest inRange pushed removed freshTables serverAlive clientAlive clientClock guardPassed endOver waits latestEnd opened awaited notified waited ready due deserted posted released completed settled settling written noted offered lowestWaited volumeRenewed objectRenewed granted mustDrop renewedBy renewed ackTaken acked ackStaged dropTaken disowned dropped dropStaged serverRestarted showable stands grantTaken forgotten swept sweptAll queueSound tablesSound copiesSound requestsSound sound known exists timely vacant growable refusalOfStep refusal grantReceived invalidateReceived offerReceived received readDecided askDecided deliverDecided performed decided target decision stepped
+never-held = (refl, refl, refl)

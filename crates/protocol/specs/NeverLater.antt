@@ -1,0 +1,62 @@
+-- 02, A3: "in runs from fresh tables, this end is never later than the old one". On tables that no run reaches it may be.
+use Prim.Native.Nat.{ℕ, _+_, _<_, _≤_, min, max}
+use native.Mathlib.Omega.{arith}
+use mathlib.Core.Bool.{Bool, true, false, not}
+use mathlib.Core.List.{List}
+use mathlib.Core.Logic.{⊎-elim}
+use mathlib.Core.Path.{_≡_, refl}
+use borrow.Author.Tests.{ltb-false}
+use Rattle.laws.specs.Choice.{true-or-false, and-false, or-false}
+use Rattle.laws.specs.Greatest.{greatest, greatest-after, greatest-each, greatest-least}
+use Rattle.laws.specs.Store.{always}
+use Rattle.protocol.specs.declared.setup.Setup.{Setup}
+use Rattle.protocol.specs.declared.step.Step.{Step}
+use Rattle.protocol.specs.declared.tables.Tables.{Tables}
+use Rattle.protocol.specs.Setup.{volumeOf, inRange}
+use Rattle.protocol.specs.Ranges.{Ranges, ranges}
+use Rattle.protocol.specs.Tables.{volumeExpiryAt, guardAt, objectExpiryAt, unreachableAt, sessionExpiryAt, leaseAt}
+use Rattle.protocol.specs.Leases.{serverAlive}
+use Rattle.protocol.specs.Writes.{waits, leasedUntil, latestEnd}
+use Rattle.protocol.specs.LatestEnd.{ends-after-reply, ends-after-guard, ends-after-leases, ends-by}
+use Rattle.protocol.specs.World.{World, freshWorld, ran}
+use Rattle.protocol.specs.Safety.Invariant.{Inv}
+use Rattle.protocol.specs.Reached.{run-safe}
+
+-- The old rule, 01, Step 4: "latest end is the greatest of clock + m, the lesser of VE and OE, and guard"
+unfoldable pub formerEnd : Setup → Tables → ℕ → ℕ
+formerEnd s t o = max (max (t .clock + s .m) (min (volumeExpiryAt t (volumeOf s o)) (objectExpiryAt t o))) (guardAt t (volumeOf s o))
+
+-- VE is no earlier than any client's volume lease, and OE than any object lease
+safe-never-later : (s : Setup) (w : World) (o : ℕ) → Ranges s → Inv s w → o < s .objects → latestEnd s (w .tables) o ≤ formerEnd s (w .tables) o
+unfolding formerEnd
+safe-never-later s w o range inv ho =
+    ends-by s (w .tables) o _ (omega arith) (omega arith)
+    (λ d hd _. omega (arith, inv .bounds .leases d o hd ho, inv .bounds .sessions d (volumeOf s o) hd (range .within o ho)))
+
+pub never-later : (s : Setup) → inRange s ≡ true → (xs : List Step) (o : ℕ) → o < s .objects
+    → latestEnd s (ran s (freshWorld s) xs .tables) o ≤ formerEnd s (ran s (freshWorld s) xs .tables) o
+never-later s i xs o ho = safe-never-later s (ran s (freshWorld s) xs) o (ranges s i) (run-safe s i xs) ho
+
+-- ---- the greatest over all clients is the same, since who is not waited for has a dead lease
+unwaited-lapsed : (s : Setup) (t : Tables) (o d : ℕ) → waits s t o d ≡ false → leasedUntil s t o d ≤ t .clock
+unfolding waits serverAlive
+unwaited-lapsed s t o d e =
+    ⊎-elim (λ p. omega (arith, ltb-false (t .clock) (leaseAt t d o) p))
+    (λ p. omega (arith, ltb-false (t .clock) (sessionExpiryAt t d (volumeOf s o)) (or-false (not (unreachableAt t d (volumeOf s o))) _ p .1)))
+    (and-false (serverAlive (t .clock) (leaseAt t d o)) _ e)
+
+pub end-over-all : (s : Setup) (t : Tables) (o : ℕ) → latestEnd s t o ≡ greatest always (leasedUntil s t o) (max (t .clock + s .m) (guardAt t (volumeOf s o))) (s .clients)
+end-over-all s t o =
+    let all = greatest always (leasedUntil s t o) first (s .clients) in
+    let below : latestEnd s t o ≤ all = ends-by s t o all (omega (arith, start)) (omega (arith, start)) (λ d hd _. greatest-each always (leasedUntil s t o) first (s .clients) d hd refl) in
+    let above : all ≤ latestEnd s t o = greatest-least always (leasedUntil s t o) first _ (s .clients) (omega (arith, ends-after-reply s t o, ends-after-guard s t o)) (λ d hd _. counted d hd) in
+    omega (arith, below, above)
+  where
+    first : ℕ
+    first = max (t .clock + s .m) (guardAt t (volumeOf s o))
+
+    start : first ≤ greatest always (leasedUntil s t o) first (s .clients)
+    start = greatest-after always (leasedUntil s t o) first first (s .clients) (omega arith)
+
+    counted : (d : ℕ) → d < s .clients → leasedUntil s t o d ≤ latestEnd s t o
+    counted d hd = ⊎-elim (ends-after-leases s t o d hd) (λ e. omega (arith, unwaited-lapsed s t o d e, ends-after-reply s t o)) (true-or-false (waits s t o d))
