@@ -13,6 +13,7 @@ pub mod compare;
 pub mod difference;
 pub mod explain;
 pub mod input;
+pub mod latest_end;
 pub mod listed;
 pub mod names;
 pub mod output;

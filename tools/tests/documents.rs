@@ -5,9 +5,11 @@ mod common;
 use std::fs;
 use std::path::Path;
 
-use common::run_program;
-use tools::text::{actions, script};
+use common::{example, run_program};
+use tools::explain::listing;
+use tools::text::{actions, from_file, script};
 
+const EXPLAIN: &str = env!("CARGO_BIN_EXE_explain");
 const RUNTEXT: &str = env!("CARGO_BIN_EXE_runtext");
 
 fn document(name: &str) -> String {
@@ -55,6 +57,22 @@ fn the_readmes_first_run_is_as_it_says() {
     assert_eq!(changed.status, 1);
     let verdict = String::from_utf8(changed.output).unwrap().replace("standard input", "second.runtext");
     assert!(document("README.md").contains(&verdict), "{verdict}");
+}
+
+/// The lines that begin with a step's number are of 01's own example.
+#[test]
+fn the_explained_lines_are_of_an_example() {
+    let explained = listing(&from_file(&example("0-document.run")).unwrap());
+    let help = String::from_utf8(run_program(EXPLAIN, &["--help"], b"").output).unwrap();
+    let readme = document("README.md");
+    let block = readme.split("```\n").skip(1).step_by(2).find(|block| block.starts_with("10 write"));
+    let of_help = help.lines().filter_map(|line| line.strip_prefix("  1"));
+    let shown: Vec<String> =
+        block.unwrap().lines().map(String::from).chain(of_help.map(|line| format!("1{line}"))).collect();
+    assert_eq!(shown.len(), 6 + 2);
+    for line in shown {
+        assert!(explained.lines().any(|other| other == line), "{line}\n{explained}");
+    }
 }
 
 /// The blocks of tools/README.md that begin as a text does are texts.

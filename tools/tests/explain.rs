@@ -53,6 +53,10 @@ fn generated_runs_get_the_models_answers() {
 #[test]
 fn each_example_tells_why() {
     for (name, line) in [
+        (
+            "0-document",
+            "10 write object 0 value 7: done: stands, latest end 10 by the volume lease of client 0; waits for client 0",
+        ),
         ("0-document", "12 clock 10: done: write of object 0 stands, latest end 10, waits for client 0"),
         ("0-document", "13 read client 0 object 0: ask first: volume lease ended at 10"),
         ("0-document", "15 clock 4: refused 4: the time must be from 11 to 2147483647"),

@@ -27,6 +27,10 @@ words, and what in the model's tables shows why:
   12 clock 10: done: write of object 0 stands, latest end 10, waits for client 0
   13 read client 0 object 0: ask first: volume lease ended at 10
 
+A write that is accepted and stands tells what fixes its latest end, as in
+"latest end 10 by the volume lease of client 0": the clients whose lease ends
+then, with the lesser of the two, else the guard, else the timeout.
+
 The answers: done (0), shown V (1), ask first (2), completed N writes (3),
 refused N (4). Standard error ends with a line that counts the refused steps.
 

@@ -3,6 +3,7 @@
 use model::limits::QUEUE;
 use model::tables::{alive, Write};
 
+use crate::latest_end;
 use crate::names::{clients, routed, whole};
 use crate::trace::Moment;
 
@@ -53,11 +54,12 @@ pub fn ask(moment: &Moment) -> Vec<String> {
 pub fn write(moment: &Moment) -> Vec<String> {
     let object = usize::from(moment.step.object);
     let server = moment.server();
-    if !server.stands(object) {
+    let Some(cause) = latest_end::cause(moment) else {
         return vec![format!("nobody to wait for, stored as version {}", server.version[object])];
-    }
+    };
     let write = &server.write[object];
-    let mut reasons = vec![format!("stands, latest end {}", write.latest_end), waits(moment, object, write)];
+    let stands = format!("stands, latest end {} by {}", write.latest_end, cause.words());
+    let mut reasons = vec![stands, waits(moment, object, write)];
     let lost = write.waiting.count_ones() as usize - moment.sent().len();
     if lost > 0 {
         reasons.push(format!("{lost} of its INVALIDATE lost, the queue has {QUEUE}"));
