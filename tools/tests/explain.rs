@@ -80,6 +80,10 @@ fn each_example_tells_why() {
             "5-old-messages",
             "51 deliver 1: done: DROPPED 1 from client 1 (volume 0, epoch 1); nothing: no offer stands",
         ),
+        (
+            "6-never-held",
+            "17 write object 0 value 7: done: stands, latest end 12 by the timeout; waits for client 0",
+        ),
     ] {
         let explained = holds(&from_file(&example(&format!("{name}.run"))).unwrap());
         assert!(explained.lines().any(|other| other == line), "{line}\n{explained}");
