@@ -9,6 +9,7 @@ use common::example;
 use model::answer::Answer;
 use model::gen::runs::{run, Run};
 use model::message::{Kind, Message};
+use tools::latest_end::{Cause, Leases};
 use tools::picture::layout::{Window, COLUMN};
 use tools::picture::{drawn, svg};
 use tools::text::from_file;
@@ -44,6 +45,7 @@ fn with_longest_numbers(mut timeline: Timeline) -> Timeline {
     }
     for view in &mut timeline.steps {
         view.message.as_mut().map(longest);
+        view.cause = view.cause.map(|_| Cause::Leases(Leases { volume: u16::MAX, object: 0 }));
         (view.step.value, view.step.clock) = (u64::MAX, u32::MAX);
         let moved = view.clock != view.clock_before;
         (view.clock_before, view.clock) = (u32::MAX - u32::from(moved), u32::MAX);
@@ -155,6 +157,33 @@ fn the_widest_picture_is_below_16_000_pixels() {
         let widest = (1..3_000).step_by(300).map(|from| Window { from, to: timeline.steps.len() }.narrowed());
         let sizes = widest.map(|window| parts(&drawn(b"", &timeline, window))[0].size);
         assert!(sizes.into_iter().all(|(width, height)| width < 16_000.0 && height < 16_000.0));
+    }
+}
+
+/// The words on each write's bar.
+fn writes(lanes: &Part) -> impl Iterator<Item = &str> {
+    let written =
+        |group: &&Vec<String>| group.iter().any(|element| element.starts_with("<rect class=\"write"));
+    let texts = lanes.groups.iter().filter(written).flatten().filter(|element| element.starts_with("<text "));
+    texts.map(|element| element.split_once('>').unwrap().1.strip_suffix("</text>").unwrap())
+}
+
+/// In the examples there is room for it. A short bar has it rather than the
+/// value, which stands on top.
+#[test]
+fn writes_name_whose_lease_fixes_their_end() {
+    let all: Vec<Part> = examples().map(|run| lanes(&svg(&run, whole(&Timeline::new(&run))))).collect();
+    let told: Vec<Vec<&str>> = all.iter().map(|lanes| writes(lanes).collect()).collect();
+    assert!(told.iter().all(|writes| !writes.is_empty()));
+    assert!(told.iter().flatten().all(|words| words.contains(" by ")), "{told:?}");
+    for (example, words) in [
+        (0, "to 10 by client 0"),
+        (2, "write 7, to 10 by the volume lease of client 0"),
+        (4, "write 7, to 10 by clients 0, 1"),
+        (5, "object 2: write 9, latest end 10 by the volume lease of client 2"),
+        (6, "write 7, to 12 by the timeout"),
+    ] {
+        assert!(told[example].contains(&words), "{:?}", told[example]);
     }
 }
 

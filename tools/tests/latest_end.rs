@@ -69,7 +69,7 @@ fn the_cause_has_the_models_time() {
         });
     }
     let counts = [volume, object, guard, timeout, several];
-    assert!(counts.into_iter().all(|count| count > 50), "{counts:?}");
+    assert!(counts.into_iter().all(|count| count > 15), "{counts:?}");
 }
 
 const LONG_OBJECT_LEASES: &str = "volume lease 10 object lease 100 timeout 3";

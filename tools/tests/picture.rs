@@ -7,6 +7,7 @@ use model::gen::runs::{run, Run};
 use tools::picture::layout::Window;
 use tools::picture::{page, svg};
 use tools::text::from_file;
+use tools::timeline::tracks::Track;
 use tools::timeline::Timeline;
 
 const PICTURE: &str = env!("CARGO_BIN_EXE_picture");
@@ -86,6 +87,26 @@ fn every_message_and_read_is_there() {
         let copies = timeline.flights.iter().filter(|flight| flight.copy_of.is_some()).count();
         assert_eq!(count(&picture, "doubled "), copies + 1);
     }
+}
+
+/// A write that is pointed at tells of its latest end what its line does.
+#[test]
+fn every_write_tells_what_fixes_its_end() {
+    let mut count = 0;
+    for number in (2..50).chain(52..100) {
+        let run = run(23, number);
+        let (picture, timeline) = (svg(&run, whole(&run)), Timeline::new(&run));
+        let mut titles = picture.split("<title>write of object ").skip(1);
+        for write in timeline.spans.iter().filter(|span| matches!(span.track, Track::Write(_))) {
+            let title = titles.next().unwrap().lines().next().unwrap();
+            let line = &timeline.step(write.from).line;
+            let end = line.split_once(": done: stands, ").unwrap().1.split(';').next().unwrap();
+            assert!(end.contains(" by the ") && title.ends_with(&format!(", {end}")), "{title}\n{line}");
+            count += 1;
+        }
+        assert!(titles.next().is_none());
+    }
+    assert!(count > 100, "{count}");
 }
 
 #[test]

@@ -18,7 +18,7 @@ FILE is a run file or its text; without one, standard input is read. -o OUT
 writes a file instead of standard output. Each step is a column; the clock moves
 in the columns of clock steps alone. The server has a lane and each client one:
 leases are bars, messages arrows from sending to delivery, writes bars from
-acceptance to completion with their latest end, reads circles.
+acceptance to completion with their latest end and what fixes it, reads circles.
 
 --from and --to show the steps from N to N of the listing; what began before or
 ends after them is cut at the edge. A picture alone has at most 300 steps, since

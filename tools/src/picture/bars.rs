@@ -37,7 +37,7 @@ pub fn draw(timeline: &Timeline, layout: &Layout, taken: &mut Taken, svg: &mut S
                 _ => bar.to,
             };
             if named(span.track) {
-                label(taken, svg, span, Bar { to: room, ..bar });
+                label(taken, svg, &wordings(timeline, span), Bar { to: room, ..bar });
             }
         });
     }
@@ -85,11 +85,10 @@ fn end(timeline: &Timeline, layout: &Layout, span: &Span) -> f64 {
     }
 }
 
-fn label(taken: &mut Taken, svg: &mut Svg, span: &Span, bar: Bar) {
-    let wordings = wordings(span);
+fn label(taken: &mut Taken, svg: &mut Svg, wordings: &[String], bar: Bar) {
     let mut x = bar.from.max(0.0);
     while x < bar.to {
-        if let Some(words) = fitting(&wordings, bar.to - x - 5.0, LABEL) {
+        if let Some(words) = fitting(wordings, bar.to - x - 5.0, LABEL) {
             let from = at(x + 3.0, bar.top + 12.4);
             svg.text("bar-text", from, words);
             taken.take(Tile::of_words(from, at(1.0, 0.0), words, LABEL));

@@ -3,6 +3,7 @@
 use model::message::Message;
 
 use super::letters::{cut, LABEL};
+use crate::latest_end::Cause;
 use crate::names;
 use crate::timeline::flights::{End, Flight};
 use crate::timeline::spans::Span;
@@ -62,8 +63,14 @@ pub fn flight_title(timeline: &Timeline, flight: &Flight) -> String {
     format!("{what}\n{begin}\n{end}")
 }
 
+/// What fixes a write's latest end. Its span begins where it was opened.
+fn by(timeline: &Timeline, write: &Span, words: fn(&Cause) -> String) -> String {
+    let cause = &timeline.step(write.from).cause;
+    cause.as_ref().map_or(String::new(), |cause| format!(" by {}", words(cause)))
+}
+
 /// Of a bar, from the fullest wording to the shortest.
-pub fn wordings(span: &Span) -> Vec<String> {
+pub fn wordings(timeline: &Timeline, span: &Span) -> Vec<String> {
     let (until, version) = (span.detail.until, span.detail.version);
     let value = span.detail.value.to_string();
     match span.track {
@@ -79,12 +86,18 @@ pub fn wordings(span: &Span) -> Vec<String> {
             format!("value {value}, to {until}"),
             format!("to {until}"),
         ],
-        Track::Write(object) => vec![
-            format!("object {object}: write {value}, latest end {until}"),
-            format!("write {value}, to {until}"),
-            format!("write {value}"),
-            cut(&value, VALUES, LABEL),
-        ],
+        Track::Write(object) => {
+            let (whole, short) = (by(timeline, span, Cause::words), by(timeline, span, Cause::short));
+            vec![
+                format!("object {object}: write {value}, latest end {until}{whole}"),
+                format!("write {value}, to {until}{whole}"),
+                format!("write {value}, to {until}{short}"),
+                format!("to {until}{short}"),
+                format!("write {value}, to {until}"),
+                format!("write {value}"),
+                cut(&value, VALUES, LABEL),
+            ]
+        }
         _ => vec![format!("guard to {until}, epoch {version}"), format!("to {until}")],
     }
 }
@@ -96,8 +109,11 @@ pub fn span_title(timeline: &Timeline, span: &Span) -> String {
             format!("guard of volume {volume} to {}, epoch {}", detail.until, detail.version)
         }
         Track::Write(object) => format!(
-            "write of object {object}: value {}, version {}, latest end {}",
-            detail.value, detail.version, detail.until
+            "write of object {object}: value {}, version {}, latest end {}{}",
+            detail.value,
+            detail.version,
+            detail.until,
+            by(timeline, span, Cause::words)
         ),
         Track::ServerVolumeLease(client, volume) => {
             format!("server's note: volume {volume} lease of client {client} to {}", detail.until)

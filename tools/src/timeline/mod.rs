@@ -13,6 +13,7 @@ use model::setup::Setup;
 use model::step_record::{Step, DELIVER, DOUBLE, LOSE};
 
 use crate::explain;
+use crate::latest_end::{self, Cause};
 use crate::trace::{walk, Moment};
 use flights::{Flight, Flights};
 use spans::{Span, Spans};
@@ -24,6 +25,8 @@ pub struct StepView {
     pub clock: u32,
     /// The message that the step delivered, lost or doubled.
     pub message: Option<Message>,
+    /// What fixes the latest end of the write that the step opened.
+    pub cause: Option<Cause>,
     /// Its line of the explained listing.
     pub line: String,
 }
@@ -50,6 +53,7 @@ impl Timeline {
                 clock_before: moment.before.tables.clock,
                 clock: moment.clock(),
                 message: message(moment),
+                cause: latest_end::cause(moment),
                 line: explain::line(moment),
             });
         });
