@@ -23,9 +23,9 @@ pub struct Leases {
     pub object: u16,
 }
 
-/// Of the write that the step opened, if it still stands after it. Of causes
-/// for the same time the leases are told first, as who reads it looks for the
-/// clients, then the guard.
+/// Of the write that the step opened, if it still stands after it. Where
+/// several times are the latest, leases go before the guard, as a reader looks
+/// for clients, and the guard before the timeout.
 pub fn cause(moment: &Moment) -> Option<Cause> {
     let object = usize::from(moment.step.object);
     let opened = moment.step.kind == WRITE && !moment.refused() && moment.server().stands(object);
