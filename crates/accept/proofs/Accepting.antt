@@ -3,6 +3,7 @@ use Prim.Native.Nat.{ℕ, _+_, _<_, min, max}
 use native.Mathlib.Omega.{arith}
 use mathlib.Core.Bool.{false}
 use mathlib.Core.List.{List}
+use mathlib.Core.Logic.{inl}
 use mathlib.Core.Path.{_≡_, refl, ap, _∙_, fun-ext}
 use lib.ListN.{length, getD, set}
 use Rattle.laws.specs.Flags.{flag, flags, wordOf, flag-word, flags-set, flags-each, flags-length}
@@ -59,7 +60,7 @@ module _ (s : Setup) (w a x : List ℕ) (o v n : ℕ) (p : Placed s o v) (i : n 
     end-awaited : end ≡ latestEnd s (tablesOf w x) o
     unfolding latestEnd waits tablesOf
     end-awaited =
-        end-is ∙ greatest-same (waitingFor (waitingIn a) o) (waitsIn w v o) (leasedIn a v o) least n whom
+        end-is ∙ greatest-same (leasedIn a v o) least n (waitingFor (waitingIn a) o) (waitsIn w v o) (λ d h. inl (whom d h))
         ∙ rw (least-is, part-at wordLengths a CLOCK 0 (omega arith), part-at wordLengths a GUARD v (p .volume), fields-awaited, leases-awaited, i, p .is)
 
     module _ (y : ℕ) where

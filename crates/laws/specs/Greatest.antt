@@ -1,8 +1,9 @@
 -- The greatest of several numbers, found in one pass.
 -- a is the number to start with, b a bound; p says which numbers k count, and f k is what k brings.
-use Prim.Native.Nat.{ℕ, _+_, _<_, _≤_, max}
+use Prim.Native.Nat.{ℕ, _<_, _≤_, max}
 use native.Mathlib.Omega.{arith}
 use mathlib.Core.Bool.{Bool, true, cond}
+use mathlib.Core.Logic.{_⊎_, inl, inr, ⊎-elim}
 use mathlib.Core.Path.{_≡_, sym, _∙_}
 use Rattle.laws.specs.Choice.{cond-keeps}
 use Rattle.laws.specs.Loop.{foldFrom, fold-keeps-in, fold-reaches}
@@ -19,10 +20,10 @@ module _ (p : ℕ → Bool) (f : ℕ → ℕ) where
   raised : (a b k : ℕ) → b ≤ a → b ≤ raiseTo a k
   raised a b k h = cond-keeps (λ (e : ℕ). b ≤ e) (p k) (λ _. omega arith) (λ _. h)
 
-  -- no earlier than what it starts with, nor than what any number brings
-  pub greatest-after : (a b n : ℕ) → b ≤ a → b ≤ greatest a n
+  -- no less than what it starts with, nor than what a number that counts brings
+  pub greatest-start : (a b n : ℕ) → b ≤ a → b ≤ greatest a n
   unfolding greatest
-  greatest-after a b n h = fold-keeps-in (λ (e : ℕ). b ≤ e) raiseTo n (λ e k _ i. raised e b k i) a 0 n (omega arith) h
+  greatest-start a b n h = fold-keeps-in (λ (e : ℕ). b ≤ e) raiseTo n (λ e k _ i. raised e b k i) a 0 n (omega arith) h
 
   pub greatest-each : (a n k : ℕ) → k < n → p k ≡ true → f k ≤ greatest a n
   unfolding greatest
@@ -35,10 +36,12 @@ module _ (p : ℕ → Bool) (f : ℕ → ℕ) where
   greatest-least a b n h each =
       fold-keeps-in (λ (e : ℕ). e ≤ b) raiseTo n (λ e k l i. cond-keeps (λ (x : ℕ). x ≤ b) (p k) (λ t. omega (arith, each k l t)) (λ _. i)) a 0 n (omega arith) h
 
--- tests that agree on the numbers below n find the same
-module _ (p q : ℕ → Bool) (f : ℕ → ℕ) (a n : ℕ) where
-  no-less : ((k : ℕ) → k < n → p k ≡ true → q k ≡ true) → greatest p f a n ≤ greatest q f a n
-  no-less e = greatest-least p f a _ n (greatest-after q f a a n (omega arith)) (λ k h t. greatest-each q f a n k h (e k h t))
+-- tests find the same where they differ only on numbers that bring no more than a
+module _ (f : ℕ → ℕ) (a n : ℕ) where
+  no-less : (p q : ℕ → Bool) → ((k : ℕ) → k < n → (p k ≡ q k) ⊎ (f k ≤ a)) → greatest p f a n ≤ greatest q f a n
+  no-less p q e =
+      greatest-least p f a _ n (greatest-start q f a a n (omega arith))
+      (λ k h t. ⊎-elim (λ s. greatest-each q f a n k h (sym s ∙ t)) (greatest-start q f a (f k) n) (e k h))
 
-pub greatest-same : (p q : ℕ → Bool) (f : ℕ → ℕ) (a n : ℕ) → ((k : ℕ) → k < n → p k ≡ q k) → greatest p f a n ≡ greatest q f a n
-greatest-same p q f a n e = omega (arith, no-less p q f a n (λ k h t. sym (e k h) ∙ t), no-less q p f a n (λ k h t. e k h ∙ t))
+  pub greatest-same : (p q : ℕ → Bool) → ((k : ℕ) → k < n → (p k ≡ q k) ⊎ (f k ≤ a)) → greatest p f a n ≡ greatest q f a n
+  greatest-same p q e = omega (arith, no-less p q e, no-less q p (λ k h. ⊎-elim (λ s. inl (sym s)) inr (e k h)))

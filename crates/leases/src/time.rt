@@ -44,7 +44,7 @@ pub fn larger(a: u32, b: u32) -> u32
     a
 }
 
-pub fn smaller(a: u32, b: u32) -> u32
+fn smaller(a: u32, b: u32) -> u32
     ensures { λ r. ⌜ r ≡ min a b ⌝ }
 {
     if a < b {

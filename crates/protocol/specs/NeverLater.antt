@@ -1,13 +1,13 @@
 -- 02, A3: "in runs from fresh tables, this end is never later than the old one". On tables that no run reaches it may be.
 use Prim.Native.Nat.{ℕ, _+_, _<_, _≤_, min, max}
 use native.Mathlib.Omega.{arith}
-use mathlib.Core.Bool.{Bool, true, false, not}
+use mathlib.Core.Bool.{true, false, not}
 use mathlib.Core.List.{List}
-use mathlib.Core.Logic.{⊎-elim}
-use mathlib.Core.Path.{_≡_, refl}
+use mathlib.Core.Logic.{inl, inr, ⊎-elim}
+use mathlib.Core.Path.{_≡_}
 use borrow.Author.Tests.{ltb-false}
 use Rattle.laws.specs.Choice.{true-or-false, and-false, or-false}
-use Rattle.laws.specs.Greatest.{greatest, greatest-after, greatest-each, greatest-least}
+use Rattle.laws.specs.Greatest.{greatest, greatest-same}
 use Rattle.laws.specs.Store.{always}
 use Rattle.protocol.specs.declared.setup.Setup.{Setup}
 use Rattle.protocol.specs.declared.step.Step.{Step}
@@ -17,7 +17,7 @@ use Rattle.protocol.specs.Ranges.{Ranges, ranges}
 use Rattle.protocol.specs.Tables.{volumeExpiryAt, guardAt, objectExpiryAt, unreachableAt, sessionExpiryAt, leaseAt}
 use Rattle.protocol.specs.Leases.{serverAlive}
 use Rattle.protocol.specs.Writes.{waits, leasedUntil, latestEnd}
-use Rattle.protocol.specs.LatestEnd.{ends-after-reply, ends-after-guard, ends-after-leases, ends-by}
+use Rattle.protocol.specs.LatestEnd.{ends-by}
 use Rattle.protocol.specs.World.{World, freshWorld, ran}
 use Rattle.protocol.specs.Safety.Invariant.{Inv}
 use Rattle.protocol.specs.Reached.{run-safe}
@@ -46,17 +46,5 @@ unwaited-lapsed s t o d e =
     (and-false (serverAlive (t .clock) (leaseAt t d o)) _ e)
 
 pub end-over-all : (s : Setup) (t : Tables) (o : ℕ) → latestEnd s t o ≡ greatest always (leasedUntil s t o) (max (t .clock + s .m) (guardAt t (volumeOf s o))) (s .clients)
-end-over-all s t o =
-    let all = greatest always (leasedUntil s t o) first (s .clients) in
-    let below : latestEnd s t o ≤ all = ends-by s t o all (omega (arith, start)) (omega (arith, start)) (λ d hd _. greatest-each always (leasedUntil s t o) first (s .clients) d hd refl) in
-    let above : all ≤ latestEnd s t o = greatest-least always (leasedUntil s t o) first _ (s .clients) (omega (arith, ends-after-reply s t o, ends-after-guard s t o)) (λ d hd _. counted d hd) in
-    omega (arith, below, above)
-  where
-    first : ℕ
-    first = max (t .clock + s .m) (guardAt t (volumeOf s o))
-
-    start : first ≤ greatest always (leasedUntil s t o) first (s .clients)
-    start = greatest-after always (leasedUntil s t o) first first (s .clients) (omega arith)
-
-    counted : (d : ℕ) → d < s .clients → leasedUntil s t o d ≤ latestEnd s t o
-    counted d hd = ⊎-elim (ends-after-leases s t o d hd) (λ e. omega (arith, unwaited-lapsed s t o d e, ends-after-reply s t o)) (true-or-false (waits s t o d))
+unfolding latestEnd
+end-over-all s t o = greatest-same _ _ _ _ always (λ d _. ⊎-elim inl (λ e. inr (omega (arith, unwaited-lapsed s t o d e))) (true-or-false (waits s t o d)))

@@ -28,11 +28,11 @@ waits s t o d =
     serverAlive (t .clock) (leaseAt t d o)
     && (not (unreachableAt t d (volumeOf s o)) || serverAlive (t .clock) (sessionExpiryAt t d (volumeOf s o)))
 
--- 02, A3: "the lesser of that dash's volume and object expiry": until then a client may show its copy
+-- until when a client may show its copy, as far as the server knows
 abbrev pub leasedUntil : Setup → Tables → ℕ → ℕ → ℕ
 leasedUntil s t o d = min (sessionExpiryAt t d (volumeOf s o)) (leaseAt t d o)
 
--- 02, A3: "the greatest of clock + m, guard, and, over the waiting dashes," that. The write has not begun in these tables
+-- 02, A3: "The latest end is the greatest of clock + m, guard, and, over the waiting dashes, the lesser of that dash's volume and object expiry."
 unfoldable pub latestEnd : Setup → Tables → ℕ → ℕ
 latestEnd s t o = greatest (waits s t o) (leasedUntil s t o) (max (t .clock + s .m) (guardAt t (volumeOf s o))) (s .clients)
 
