@@ -22,7 +22,7 @@ use Rattle.waiting.specs.Waiting.{waitingFor, waitingIn, waitsIn, leasedIn}
 
 -- ---- the write stands
 
--- w becomes a where it is settled whom the write waits for
+-- a is w after the pass that settles whom the write waits for
 module _ (s : Setup) (w a x : List ℕ) (o v n : ℕ) (p : Placed s o v) (i : n ≡ s .clients)
     (f : a ≡ storeEach always (λ (d : ℕ). at WAITING + byObject d o) (λ (d : ℕ). wordOf (waitsIn w v o d)) w n) where
   fits : (d : ℕ) → d < n → byObject d o < 512

@@ -1,4 +1,4 @@
-// A write accepted at the server (01, "Steps" 4): it stands, each INVALIDATE is sent, and it may complete.
+// A write accepted at the server (01, "Steps" 4, with the latest end of 02, A3): it stands, each INVALIDATE is sent, and it may complete.
 ghost use mathlib.Core.Path.{_≡_};
 ghost use mathlib.Core.Bool.{true};
 ghost use Prim.Native.Nat.{_≤_, _<_};
@@ -18,7 +18,7 @@ use words::network;
 use words::pass;
 use words::server;
 
-// The write of `value` stands, with its latest end and whom it waits for.
+// The write of `value` stands, with whom it waits for and its latest end: "the greatest of clock + m, guard, and, over the waiting dashes, .." (02, A3).
 fn begin(s: Setup, words: &mut Words, values: &mut Values, object: usize, value: u64)
     requires { ⌜ inRange s ≡ true ⌝ }
     requires { ⌜ tablesOf (now words) (now values) .clock ≤ 2147483647 ⌝ }

@@ -1,4 +1,4 @@
--- Where an object's tables are, and the tests of time, by the numbers that they read.
+-- Where an object's tables are, the tests of time and a turn of the latest end, by the numbers that they read.
 use Prim.Native.Nat.{ℕ, min, max, _<_, _≤_}
 use mathlib.Core.Bool.{Bool, cond, not, _&&_, _||_}
 use mathlib.Core.Path.{_≡_}

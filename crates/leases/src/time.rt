@@ -1,4 +1,4 @@
-// The tests of time.
+// The tests of time, and a turn of the latest end.
 ghost use mathlib.Core.Path.{_≡_};
 ghost use mathlib.Core.Bool.{not};
 ghost use Prim.Native.Nat.{min, max};

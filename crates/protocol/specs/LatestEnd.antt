@@ -1,5 +1,5 @@
 -- 02, A3: the laws of the latest end. It is no earlier than the guard and than the lesser lease of each client that the write waits for, and no later than
--- any time that all that its rule names are no later than.
+-- any time that bounds all that its rule names.
 use Prim.Native.Nat.{ℕ, _+_, _<_, _≤_}
 use native.Mathlib.Omega.{arith}
 use mathlib.Core.Bool.{true}

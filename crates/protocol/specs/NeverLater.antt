@@ -1,12 +1,12 @@
--- 02, A3: "in runs from fresh tables, this end is never later than the old one". On tables that no run reaches it may be.
+-- 02, A3: "in runs from fresh tables, this end is never later than the old one"; on tables that no run reaches it can be later. And the greatest over all
+-- clients is the same end.
 use Prim.Native.Nat.{ℕ, _+_, _<_, _≤_, min, max}
 use native.Mathlib.Omega.{arith}
-use mathlib.Core.Bool.{true, false, not}
+use mathlib.Core.Bool.{true, false}
 use mathlib.Core.List.{List}
 use mathlib.Core.Logic.{inl, inr, ⊎-elim}
 use mathlib.Core.Path.{_≡_}
-use borrow.Author.Tests.{ltb-false}
-use Rattle.laws.specs.Choice.{true-or-false, and-false, or-false}
+use Rattle.laws.specs.Choice.{true-or-false}
 use Rattle.laws.specs.Greatest.{greatest, greatest-same}
 use Rattle.laws.specs.Store.{always}
 use Rattle.protocol.specs.declared.setup.Setup.{Setup}
@@ -14,12 +14,13 @@ use Rattle.protocol.specs.declared.step.Step.{Step}
 use Rattle.protocol.specs.declared.tables.Tables.{Tables}
 use Rattle.protocol.specs.Setup.{volumeOf, inRange}
 use Rattle.protocol.specs.Ranges.{Ranges, ranges}
-use Rattle.protocol.specs.Tables.{volumeExpiryAt, guardAt, objectExpiryAt, unreachableAt, sessionExpiryAt, leaseAt}
-use Rattle.protocol.specs.Leases.{serverAlive}
+use Rattle.protocol.specs.Tables.{volumeExpiryAt, guardAt, objectExpiryAt}
 use Rattle.protocol.specs.Writes.{waits, leasedUntil, latestEnd}
 use Rattle.protocol.specs.LatestEnd.{ends-by}
 use Rattle.protocol.specs.World.{World, freshWorld, ran}
 use Rattle.protocol.specs.Safety.Invariant.{Inv}
+use Rattle.protocol.specs.Safety.Tools.{dead-ended}
+use Rattle.protocol.specs.Safety.Beginning.{unwaited}
 use Rattle.protocol.specs.Reached.{run-safe}
 
 -- The old rule, 01, Step 4: "latest end is the greatest of clock + m, the lesser of VE and OE, and guard"
@@ -37,13 +38,9 @@ pub never-later : (s : Setup) → inRange s ≡ true → (xs : List Step) (o : �
     → latestEnd s (ran s (freshWorld s) xs .tables) o ≤ formerEnd s (ran s (freshWorld s) xs .tables) o
 never-later s i xs o ho = safe-never-later s (ran s (freshWorld s) xs) o (ranges s i) (run-safe s i xs) ho
 
--- ---- the greatest over all clients is the same, since who is not waited for has a dead lease
+-- who is not waited for has a dead lease
 unwaited-lapsed : (s : Setup) (t : Tables) (o d : ℕ) → waits s t o d ≡ false → leasedUntil s t o d ≤ t .clock
-unfolding waits serverAlive
-unwaited-lapsed s t o d e =
-    ⊎-elim (λ p. omega (arith, ltb-false (t .clock) (leaseAt t d o) p))
-    (λ p. omega (arith, ltb-false (t .clock) (sessionExpiryAt t d (volumeOf s o)) (or-false (not (unreachableAt t d (volumeOf s o))) _ p .1)))
-    (and-false (serverAlive (t .clock) (leaseAt t d o)) _ e)
+unwaited-lapsed s t o d e = ⊎-elim (λ p. omega (arith, dead-ended _ _ p)) (λ p. omega (arith, dead-ended _ _ (p .0))) (unwaited s t o d e)
 
 pub end-over-all : (s : Setup) (t : Tables) (o : ℕ) → latestEnd s t o ≡ greatest always (leasedUntil s t o) (max (t .clock + s .m) (guardAt t (volumeOf s o))) (s .clients)
 unfolding latestEnd

@@ -23,7 +23,7 @@ pub struct Sessions {
 pub struct Objects {
     pub value: [u64; 32],
     pub version: [u32; 32],
-    // OE: the largest expiry of an object lease that was granted
+    // OE: the largest expiry of an object lease that was granted; no rule reads it
     pub expiry: [u32; 32],
     pub standing: [bool; 32],
     pub pending: [u64; 32],

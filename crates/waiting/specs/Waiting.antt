@@ -1,4 +1,4 @@
--- Whom a write waits for, by the words.
+-- Whom a write waits for, and until when, by the words.
 use Prim.Native.Nat.{ℕ, min}
 use mathlib.Core.Bool.{Bool, false}
 use mathlib.Core.List.{List}

@@ -11,6 +11,7 @@ use Rattle.laws.specs.Loop.{fold-keeps-in}
 use Rattle.protocol.specs.declared.message.Queue.{Queue}
 use Rattle.protocol.specs.declared.message.Kind.the-variants.{Renew, Grant, Invalidate, Ack, Offer, Dropped}
 use Rattle.protocol.specs.declared.setup.Setup.{Setup}
+use Rattle.protocol.specs.declared.tables.Tables.{Tables}
 use Rattle.protocol.specs.Setup.{volumeOf}
 use Rattle.protocol.specs.Tables.{sessionExpiryAt, unreachableAt, standingAt, leaseAt, waitingAt, withQueue}
 use Rattle.protocol.specs.Leases.{serverAlive}
@@ -28,21 +29,20 @@ use Rattle.protocol.specs.Soundness.ShapeKept.{begun-shape}
 -- ---- whom a write waits for, and until when
 
 -- Q1: who is not waited for cannot show the copy, or is not counted on
-unwaited : (s : Setup) (w : World) (o d : ℕ) → waits s (w .tables) o d ≡ false
-    → Unwaited (w .tables .clock) (leaseAt (w .tables) d o) (sessionExpiryAt (w .tables) d (volumeOf s o)) (excusesOf (w .tables) d (volumeOf s o) o)
+pub unwaited : (s : Setup) (t : Tables) (o d : ℕ) → waits s t o d ≡ false
+    → Unwaited (t .clock) (leaseAt t d o) (sessionExpiryAt t d (volumeOf s o)) (excusesOf t d (volumeOf s o) o)
 unfolding waits
-unwaited s w o d e =
-    ⊎-elim inl (λ p. let q = or-false (not (unreachableAt (w .tables) d (volumeOf s o))) _ p in inr (q .1, marked-excused _ d (volumeOf s o) o (marks _ (q .0))))
-    (and-false (serverAlive (w .tables .clock) (leaseAt (w .tables) d o)) _ e)
+unwaited s t o d e =
+    ⊎-elim inl (λ p. let q = or-false (not (unreachableAt t d (volumeOf s o))) _ p in inr (q .1, marked-excused _ d (volumeOf s o) o (marks _ (q .0))))
+    (and-false (serverAlive (t .clock) (leaseAt t d o)) _ e)
   where
     marks : (b : Bool) → not b ≡ false → b ≡ true
     marks true f = refl
     marks false f = not-both refl f
 
 -- Q2: the latest end is no earlier than the lesser of the two leases of whom is waited for
-outlasts : (s : Setup) (w : World) (o d : ℕ) → d < s .clients → waits s (w .tables) o d ≡ true
-    → min (leaseAt (w .tables) d o) (sessionExpiryAt (w .tables) d (volumeOf s o)) ≤ latestEnd s (w .tables) o
-outlasts s w o d hd e = omega (arith, ends-after-leases s (w .tables) o d hd e)
+outlasts : (s : Setup) (t : Tables) (o d : ℕ) → d < s .clients → waits s t o d ≡ true → min (leaseAt t d o) (sessionExpiryAt t d (volumeOf s o)) ≤ latestEnd s t o
+outlasts s t o d hd e = omega (arith, ends-after-leases s t o d hd e)
 
 -- ---- the write of o stands
 module _ (s : Setup) (o : ℕ) {epoch version : List ℕ} {standing standing′ : List Bool} (vacant : getD standing o false ≡ false) (standings : Replaced o true false standing standing′) where
@@ -98,10 +98,10 @@ module _ (s : Setup) (w : World) (o new : ℕ) (range : Ranges s) (shape : Shape
               ⊎-elim (λ q. rw (here-at end j q) (rw q (ends-after-guard s t o)))
               (λ q. rw (end .other j q) (inv .writes .guards j hj (sym (standing .other j q) ∙ st))) (same? j o);
           waits = λ d j hd hj st wt.
-              ⊎-elim (λ q. rw (here-at end j q) (rw q (outlasts s w o d hd (sym (here-for waiting d j hd q) ∙ wt))))
+              ⊎-elim (λ q. rw (here-at end j q) (rw q (outlasts s t o d hd (sym (here-for waiting d j hd q) ∙ wt))))
               (λ q. rw (end .other j q) (inv .writes .waits d j hd hj (sym (standing .other j q) ∙ st) (sym (waiting .other d j hj q) ∙ wt))) (same? j o);
           others = λ d j hd hj st wt.
-              ⊎-elim (λ q. rw q (unwaited s w o d (sym (here-for waiting d j hd q) ∙ wt)))
+              ⊎-elim (λ q. rw q (unwaited s t o d (sym (here-for waiting d j hd q) ∙ wt)))
               (λ q. inv .writes .others d j hd hj (sym (standing .other j q) ∙ st) (sym (waiting .other d j hj q) ∙ wt)) (same? j o);
         };
         views = inv .views;

@@ -76,6 +76,11 @@ pub granted-alive : (clock d : ℕ) {length : ℕ} → 1 ≤ length → clientAl
 unfolding clientAlive clientClock
 granted-alive clock d {length} h = lt-ltb clock (clock + length) (omega arith)
 
+-- T7: what is dead has ended
+pub dead-ended : (clock e : ℕ) → serverAlive clock e ≡ false → e ≤ clock
+unfolding serverAlive
+dead-ended clock e p = ltb-false clock e p
+
 -- ---- E1: a mark excuses the client for every object of the volume, no mark for none, and other marks do not matter
 
 pub marked-excused : (un : List Bool) (d v o : ℕ) → getD un (byVolume d v) false ≡ true → excused un d v o ≡ true
