@@ -115,7 +115,8 @@ fn old_messages() -> Vec<Step> {
 }
 
 /// Client 1 never held object 0, so the write does not wait until 19 for its
-/// lease on the volume: it ends with clock + m, since that of client 0 is shorter.
+/// lease on the volume: it ends with clock + m, since the lease of client 0
+/// ends before.
 fn never_held() -> Vec<Step> {
     let late = [Step::read(0, 0), Step::clock(9)];
     let write = [Step::write(0, 7), Step::lose(0), Step::clock(10), Step::read(0, 0), Step::clock(12)];

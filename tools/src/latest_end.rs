@@ -15,8 +15,8 @@ pub enum Cause {
     Timeout,
 }
 
-/// The clients whose volume lease ends then, and those whose object lease
-/// does so before their volume lease.
+/// The clients whose volume lease ends at the latest end, and those whose
+/// object lease does and whose volume lease ends later.
 #[derive(Clone, Copy, Debug, Default, PartialEq, Eq)]
 pub struct Leases {
     pub volume: u16,

@@ -52,7 +52,8 @@ fn place(b: &mut Builder) -> u8 {
     }
 }
 
-/// An edge ahead of the clock, or a few ticks.
+/// An edge ahead of the clock, or a few ticks. At VE and OE the leases end
+/// that were given last.
 fn time(b: &mut Builder) -> u32 {
     let clock = b.tables().clock;
     let server = b.server();

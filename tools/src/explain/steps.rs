@@ -54,6 +54,7 @@ pub fn ask(moment: &Moment) -> Vec<String> {
 pub fn write(moment: &Moment) -> Vec<String> {
     let object = usize::from(moment.step.object);
     let server = moment.server();
+    // Without a cause it does not stand.
     let Some(cause) = latest_end::cause(moment) else {
         return vec![format!("nobody to wait for, stored as version {}", server.version[object])];
     };

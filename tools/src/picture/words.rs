@@ -63,10 +63,10 @@ pub fn flight_title(timeline: &Timeline, flight: &Flight) -> String {
     format!("{what}\n{begin}\n{end}")
 }
 
-/// What fixes a write's latest end. Its span begins where it was opened.
+/// What fixes a write's latest end.
 fn by(timeline: &Timeline, write: &Span, words: fn(&Cause) -> String) -> String {
-    let cause = &timeline.step(write.from).cause;
-    cause.as_ref().map_or(String::new(), |cause| format!(" by {}", words(cause)))
+    let cause = timeline.step(write.from).cause.as_ref();
+    format!("by {}", words(cause.expect("a write's span begins where it is opened")))
 }
 
 /// Of a bar, from the fullest wording to the shortest.
@@ -89,10 +89,10 @@ pub fn wordings(timeline: &Timeline, span: &Span) -> Vec<String> {
         Track::Write(object) => {
             let (whole, short) = (by(timeline, span, Cause::words), by(timeline, span, Cause::short));
             vec![
-                format!("object {object}: write {value}, latest end {until}{whole}"),
-                format!("write {value}, to {until}{whole}"),
-                format!("write {value}, to {until}{short}"),
-                format!("to {until}{short}"),
+                format!("object {object}: write {value}, latest end {until} {whole}"),
+                format!("write {value}, to {until} {whole}"),
+                format!("write {value}, to {until} {short}"),
+                format!("to {until} {short}"),
                 format!("write {value}, to {until}"),
                 format!("write {value}"),
                 cut(&value, VALUES, LABEL),
@@ -109,7 +109,7 @@ pub fn span_title(timeline: &Timeline, span: &Span) -> String {
             format!("guard of volume {volume} to {}, epoch {}", detail.until, detail.version)
         }
         Track::Write(object) => format!(
-            "write of object {object}: value {}, version {}, latest end {}{}",
+            "write of object {object}: value {}, version {}, latest end {} {}",
             detail.value,
             detail.version,
             detail.until,

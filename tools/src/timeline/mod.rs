@@ -25,7 +25,8 @@ pub struct StepView {
     pub clock: u32,
     /// The message that the step delivered, lost or doubled.
     pub message: Option<Message>,
-    /// What fixes the latest end of the write that the step opened.
+    /// What fixes the latest end of the write that the step opened, if it
+    /// stands after it.
     pub cause: Option<Cause>,
     /// Its line of the explained listing.
     pub line: String,
