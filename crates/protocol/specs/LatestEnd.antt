@@ -19,7 +19,7 @@ module _ (s : Setup) (t : Tables) (o : ℕ) where
   -- whom the write waits for cannot show its copy past it
   pub ends-after-leases : (d : ℕ) → d < s .clients → waits s t o d ≡ true → leasedUntil s t o d ≤ latestEnd s t o
   unfolding latestEnd
-  ends-after-leases d hd e = greatest-each _ (leasedUntil s t o) _ _ d hd e
+  ends-after-leases d hd e = greatest-each _ (leasedUntil s t o) _ _ d (omega arith) e
 
   pub ends-by : (b : ℕ) → t .clock + s .m ≤ b → guardAt t (volumeOf s o) ≤ b → ((d : ℕ) → d < s .clients → waits s t o d ≡ true → leasedUntil s t o d ≤ b)
       → latestEnd s t o ≤ b

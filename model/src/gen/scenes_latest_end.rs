@@ -109,9 +109,8 @@ fn either_lease_first(b: &mut Builder) {
         return;
     };
     hold(b, client, object);
-    let expiry = b.server().object_expiry[usize::from(object)][usize::from(client)];
     let early = b.rng.range(2, 5);
-    keep_volume(b, client, sibling, expiry.saturating_sub(early));
+    keep_volume(b, client, object, sibling, early);
     hold(b, other, object);
     b.advance(1);
     exchange(b, client, sibling);
@@ -126,8 +125,7 @@ fn marked_but_leased(b: &mut Builder) {
         return;
     };
     hold(b, client, object);
-    let expiry = b.server().object_expiry[usize::from(object)][usize::from(client)];
-    keep_volume(b, client, sibling, expiry.saturating_sub(1));
+    keep_volume(b, client, object, sibling, 1);
     b.write(object);
     b.lose(client, INVALIDATE);
     b.clock(b.latest_end(object).saturating_add(1));

@@ -56,16 +56,18 @@ fn object_expiry(b: &mut Builder) {
     probe(b);
 }
 
-/// Renews the volume by this object again and again, up to this time or as
-/// far as 20 renewals go.
-pub fn keep_volume(b: &mut Builder, client: u8, object: u8, last: u32) {
+/// Renews the volume by another object again and again, until so many ticks
+/// before the lease on this one ends, or as far as 20 renewals go.
+pub fn keep_volume(b: &mut Builder, client: u8, object: u8, other: u8, early: u32) {
+    let expiry = b.server().object_expiry[usize::from(object)][usize::from(client)];
+    let last = expiry.saturating_sub(early);
     for _ in 0..20 {
         let next = b.tables().clock.saturating_add(b.setup.volume_lease - 1).min(last);
         if next <= b.tables().clock {
             break;
         }
         b.clock(next);
-        exchange(b, client, object);
+        exchange(b, client, other);
     }
 }
 
@@ -77,8 +79,7 @@ fn one_lease_alone(b: &mut Builder) {
         return;
     };
     hold(b, client, object);
-    let expiry = b.server().object_expiry[usize::from(object)][usize::from(client)];
-    keep_volume(b, client, other, expiry.saturating_sub(1));
+    keep_volume(b, client, object, other, 1);
     b.read(client, object);
     b.advance(1);
     exchange(b, client, other);
