@@ -1,3 +1,4 @@
+pub mod AlwaysHeld
 pub mod Calls
 pub mod UntilShown
 pub mod WorkedRuns

@@ -44,7 +44,7 @@ module _ (s : Setup) (range : Ranges s) (w : World) (inv : Inv s w) (shape : Wor
   -- the value that is stored is the current one, if the version is
   stored : (q : Payload) → PayloadOk (w .tables .objects .value) (w .tables .objects .version) o ver q → NamesHeld (copy .version) ver q
       → ver ≡ versionAt (w .tables) o → payloadOr (copy .value) q ≡ valueAt (w .tables) o
-  stored Same a b c = inv .versions .values d o hd ho (sym b ∙ c)
+  stored Same a b c = inv .versions .values d o hd ho (sym (b .0) ∙ c)
   stored (Value z) a b c = a c
 
   -- the client knows what the GRANT said

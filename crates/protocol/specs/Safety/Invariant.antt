@@ -91,9 +91,9 @@ abbrev pub PayloadOk : List ℕ → List ℕ → ℕ → ℕ → Payload → Typ
 PayloadOk value version o ver Same = Unit {0}
 PayloadOk value version o ver (Value x) = ver ≡ getD version o 0 → x ≡ getD value o 0
 
--- without a value it names the version held
+-- without a value it names the version of the copy that is held
 abbrev pub NamesHeld : ℕ → ℕ → Payload → Type 0
-NamesHeld held ver Same = ver ≡ held
+NamesHeld held ver Same = (ver ≡ held) × (1 ≤ ver)
 NamesHeld held ver (Value x) = Unit {0}
 
 pub record GrantOk (s : Setup) (clocks : ℕ → ℕ) (epoch guard seen session : List ℕ) (excuse : ℕ → ℕ → ℕ → Bool) (offer value version lease : List ℕ) (copies : List Copy) (requests : List Request) (d o n x e ver y : ℕ) (p : Payload) : Type 0 where

@@ -148,7 +148,7 @@ module _ (s : Setup) (range : Ranges s) (w : World) (inv : Inv s w) (shape : Sha
 
     names : Stands (w .requests) d n → NamesHeld (copyAt s (w .copies) d o .version) (versionAt (w .tables) o) (payloadFor (w .tables) o ver)
     names a =
-        cond-keeps (NamesHeld (copyAt s (w .copies) d o .version) (versionAt (w .tables) o)) (eqb (versionAt (w .tables) o) ver) (λ q. eqb-true _ _ q ∙ renew .held a) (λ q. tt)
+        cond-keeps (NamesHeld (copyAt s (w .copies) d o .version) (versionAt (w .tables) o)) (eqb (versionAt (w .tables) o) ver) (λ q. (eqb-true _ _ q ∙ renew .held a, inv .versions .positive o ho)) (λ q. tt)
 
     none-offered : offerAt (w .tables) d v ≡ 0
     none-offered = go (ℕ-discrete (offerAt (w .tables) d v) 0)

@@ -26,7 +26,7 @@ use Rattle.protocol.specs.Safety.Requests.{requesting, has-record, reque
 use Rattle.protocol.specs.Ranges.{Ranges}
 
 pub names-same : (held held′ ver : ℕ) (p : Payload) → held′ ≡ held → NamesHeld held ver p → NamesHeld held′ ver p
-names-same held held′ ver Same e a = a ∙ sym e
+names-same held held′ ver Same e a = (a .0 ∙ sym e, a .1)
 names-same held held′ ver (Value x) e a = tt
 
 -- ---- in all volumes
