@@ -53,7 +53,9 @@ impl<R: Rules> World<'_, R> {
         self.copies[first..first + self.setup.objects as usize].fill(ObjectCopy::NONE);
     }
 
-    /// GRANT: an answer to the standing request, by its number.
+    /// GRANT: an answer to the standing request, by its number. Without a value
+    /// it keeps the one held, whatever version that is of (02, A4): in a run it
+    /// is the GRANT's own.
     pub fn receive_grant(&mut self, client: usize, grant: &Grant) -> u32 {
         let mistakes = self.rules.mistakes();
         let request = &mut self.requests[client];
@@ -65,11 +67,7 @@ impl<R: Rules> World<'_, R> {
         }
         let object = grant.object as usize;
         let copy = &mut self.copies[self.setup.copy_place(client, object)];
-        let value = match grant.value {
-            Some(value) => value,
-            None if copy.version == grant.version => copy.value,
-            None => return 0,
-        };
+        let value = grant.value.unwrap_or(copy.value);
         *copy = ObjectCopy { version: grant.version, expiry: grant.object_expiry, value };
         let volume = self.setup.volume(object);
         self.tables.clients.epoch[client][volume] = grant.epoch;

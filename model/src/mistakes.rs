@@ -7,7 +7,7 @@ pub trait Rules: Copy {
     fn mistakes(&self) -> Mistakes;
 }
 
-/// No mistakes: document 01, with A3 of document 02.
+/// No mistakes: document 01, with A3 and A4 of document 02.
 #[derive(Clone, Copy, Debug)]
 pub struct Honest;
 

@@ -6,8 +6,6 @@ use mathlib.Core.Path.{_≡_, sym, _∙_}
 use lib.Dec.{eqb}
 use lib.ListN.{length, getD, List·getD-eq-default}
 use borrow.Author.Tests.{eq-eqb, ne-eqb}
-use Rattle.protocol.specs.declared.message.Payload.{Payload}
-use Rattle.protocol.specs.declared.message.Payload.the-variants.{Same}
 use Rattle.protocol.specs.declared.records.Copy.{Copy}
 use Rattle.protocol.specs.declared.records.Request.{Request}
 use Rattle.protocol.specs.declared.setup.Setup.{Setup}
@@ -17,14 +15,11 @@ use Rattle.protocol.specs.declared.step.Turn.{Turn}
 use Rattle.protocol.specs.declared.step.Turn.the-variants as request
 use Rattle.protocol.specs.Setup.{volumeOf}
 use Rattle.protocol.specs.Tables.{noCopy}
-use Rattle.protocol.specs.Client.{storable, numbered, ended, turned, CanTurn, forgotten, swept}
+use Rattle.protocol.specs.Client.{numbered, ended, turned, CanTurn, forgotten, swept}
 
 -- an element past the end
 pub past-end : (l : List ℕ) (i n : ℕ) → length l ≡ n → n ≤ i → 0 ≡ getD l i 0
 past-end l i n e h = sym (List·getD-eq-default l 0 {n = i} (rw e h))
-
-pub storable-same : (c : Copy) (w : ℕ) (p : Payload) → p ≡ Same → eqb (c .version) w ≡ storable c w p
-storable-same c w p e = rw e
 
 module _ (r q : Request) (u : Turn) where
   pub turn-takes : (o : ℕ) → u ≡ request.Take o → q ≡ numbered r o → q ≡ turned r u

@@ -2,13 +2,11 @@ ghost use mathlib.Core.Path.{_≡_};
 ghost use Rattle.protocol.specs.Leases.{clientAlive};
 ghost use Rattle.protocol.specs.Setup.{volumeOf};
 ghost use Rattle.protocol.specs.Tables.{noCopy};
-ghost use Rattle.protocol.specs.Client.{storable, grantTaken, payloadOr, filled, changed, swept};
+ghost use Rattle.protocol.specs.Client.{payloadOr, grantStored, changed, swept};
 ghost use Rattle.protocol.specs.Decide.{kept};
 ghost use Rattle.cache.specs.Shown.{shownAt};
-use crate::request;
 use protocol::message::Payload;
 use protocol::records::Copy;
-use protocol::records::Request;
 use protocol::setup::Setup;
 use protocol::step::Change;
 use protocol::step::CopyChange;
@@ -31,25 +29,7 @@ pub fn showable(clock: u32, lease: u32, c: Copy) -> bool
     (c.version != 0) & (leased & held)
 }
 
-// Whether what a GRANT says of the value can be stored: "Without a value and with another version held: nothing."
-fn storable(c: Copy, version: u32, payload: Payload) -> bool
-    ensures { λ r. ⌜ r ≡ storable c version payload ⌝ }
-{
-    match payload {
-        Payload::Same => c.version == version,
-        Payload::Value(_) => true,
-    }
-}
-
-// Which GRANT is taken.
-pub fn grant_taken(c: Copy, r: Request, number: u32, version: u32, payload: Payload) -> bool
-    ensures { λ b. ⌜ b ≡ grantTaken c r number version payload ⌝ }
-{
-    let standing = request::stands(r, number);
-    let fits = storable(c, version, payload);
-    standing & fits
-}
-
+// 02, A4: "A GRANT without a value .. keeps the value held."
 fn payload_or(held: u64, payload: Payload) -> u64
     ensures { λ r. ⌜ r ≡ payloadOr held payload ⌝ }
 {
@@ -59,14 +39,20 @@ fn payload_or(held: u64, payload: Payload) -> u64
     }
 }
 
-// GRANT: "store its fields".
-pub fn fill(c: Copy, version: u32, expiry: u32, payload: Payload) -> Copy
-    ensures { λ r. ⌜ r ≡ filled c version expiry payload ⌝ }
+// GRANT: "store its fields .. and end the request".
+pub fn store_grant(c: Copy, version: u32, expiry: u32, payload: Payload) -> Change
+    ensures { λ g. ⌜ g ≡ grantStored c version expiry payload ⌝ }
 {
-    Copy {
+    let value = payload_or(c.value, payload);
+    let stored = Copy {
         version: version,
-        value: payload_or(c.value, payload),
+        value: value,
         expiry: expiry,
+    };
+    Change {
+        copy: CopyChange::Fill(stored),
+        request: Turn::End,
+        sweep: Sweep::Keep,
     }
 }
 

@@ -17,7 +17,7 @@ use Rattle.protocol.specs.declared.step.Turn.the-variants as request
 use Rattle.protocol.specs.Messages.{message}
 use Rattle.protocol.specs.Tables.{byVolume, withViews}
 use Rattle.protocol.specs.Server.{sent}
-use Rattle.protocol.specs.Client.{viewed, stands, forgotten, grantTaken, filled}
+use Rattle.protocol.specs.Client.{viewed, stands, forgotten, grantStored}
 use Rattle.protocol.specs.Decide.{kept, byClient, grantReceived, invalidateReceived, offerReceived}
 use Rattle.leases.specs.Parts.{Placed}
 use Rattle.words.specs.Fields.{wordLengths, VIEW-EPOCH, VIEW-EXPIRY}
@@ -41,13 +41,12 @@ module _ (w x a : List ℕ) (d v e y : ℕ) (h : d < 16) (l : v < 8) (i : a ≡ 
 
 -- ---- GRANT
 
-module _ (s : Setup) (w x : List ℕ) (c : Copy) (r : Request) (d o : ℕ) (g : Terms) (b : Bool) (k : b ≡ grantTaken c r (g .number) (g .version) (g .payload)) where
-  pub grant-yes : (a : List ℕ) (v : ℕ) (f : Copy) → d < s .clients → Placed s o v → b ≡ true → a ≡ viewStored w (byVolume d v) (g .epoch) (g .«volume_expiry»)
-      → f ≡ filled c (g .version) (g .«object_expiry») (g .payload)
-      → (byClient (record { copy = copy.Fill f; request = request.End; sweep = sweep.Keep }) (tablesOf a x) ≡ grantHeard s (tablesOf w x) c r d o g)
-      × (recordsOf a x ≡ recordsOf w x)
+module _ (s : Setup) (w x : List ℕ) (c : Copy) (r : Request) (d o : ℕ) (g : Terms) (b : Bool) (k : b ≡ stands r (g .number)) where
+  pub grant-yes : (a : List ℕ) (v : ℕ) (u : Change) → d < s .clients → Placed s o v → b ≡ true → a ≡ viewStored w (byVolume d v) (g .epoch) (g .«volume_expiry»)
+      → u ≡ grantStored c (g .version) (g .«object_expiry») (g .payload)
+      → (byClient u (tablesOf a x) ≡ grantHeard s (tablesOf w x) c r d o g) × (recordsOf a x ≡ recordsOf w x)
   unfolding grantReceived
-  grant-yes a v f h p m i j =
+  grant-yes a v u h p m i j =
       let l : d < 16 = omega (arith, p .clients) in
       (rw (sym k ∙ m, tables-viewed w x a d v (g .epoch) (g .«volume_expiry») l (p .volume) i, j, p .is), records-viewed w x a d v (g .epoch) (g .«volume_expiry») l (p .volume) i)
 

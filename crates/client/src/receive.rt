@@ -34,7 +34,7 @@ pub struct Terms {
     pub payload: Payload,
 }
 
-// GRANT: "store its fields, epoch too, and end the request".
+// GRANT: "needs the standing number, else nothing", and then "store its fields, epoch too, and end the request".
 pub fn grant(
     s: Setup,
     words: &mut Words,
@@ -51,8 +51,7 @@ pub fn grant(
     ensures { λ u. ⌜ byClient u (tablesOf (now (words .exit)) (now (values .entry))) ≡ grantHeard s (tablesOf (now (words .entry)) (now (values .entry))) c r client object g ⌝ }
     ensures { λ _. ⌜ recordsOf (now (words .exit)) (now (values .entry)) ≡ recordsOf (now (words .entry)) (now (values .entry)) ⌝ }
 {
-    let payload = g.payload;
-    if copy::grant_taken(c, r, g.number, g.version, payload) {
+    if request::stands(r, g.number) {
         let volume = place::volume_of(s, object as usize);
         view::put(
             &mut *words,
@@ -61,11 +60,8 @@ pub fn grant(
             g.epoch,
             g.volume_expiry,
         );
-        return Change {
-            copy: CopyChange::Fill(copy::fill(c, g.version, g.object_expiry, payload)),
-            request: Turn::End,
-            sweep: Sweep::Keep,
-        };
+        let payload = g.payload;
+        return copy::store_grant(c, g.version, g.object_expiry, payload);
     }
     copy::kept()
 }

@@ -15,6 +15,7 @@ use Rattle.protocol.specs.declared.message.Kind.the-variants.{Renew}
 use Rattle.protocol.specs.declared.records.Copy.{Copy}
 use Rattle.protocol.specs.declared.records.Request.{Request}
 use Rattle.protocol.specs.declared.setup.Setup.{Setup}
+use Rattle.protocol.specs.declared.step.Change.{Change}
 use Rattle.protocol.specs.declared.step.CopyChange.{CopyChange}
 use Rattle.protocol.specs.declared.step.CopyChange.the-variants as copy
 use Rattle.protocol.specs.declared.step.Sweep.{Sweep}
@@ -75,15 +76,7 @@ viewed u d v e x = setViewExpiry (setViewEpoch u d v e) d v x
 
 -- ---- GRANT
 
--- whether what it says of the value can be stored: "Without a value and with another version held: nothing."
-abbrev pub storable : Copy → ℕ → Payload → Bool
-storable c w Same = eqb (c .version) w
-storable c w (Value a) = true
-
--- which GRANT is taken: "needs the standing number"
-unfoldable pub grantTaken : Copy → Request → ℕ → ℕ → Payload → Bool
-grantTaken c r n w p = stands r n && storable c w p
-
+-- 02, A4: "A GRANT without a value now always stores its other fields and keeps the value held."
 abbrev pub payloadOr : ℕ → Payload → ℕ
 payloadOr held Same = held
 payloadOr held (Value a) = a
@@ -91,6 +84,10 @@ payloadOr held (Value a) = a
 -- "store its fields": version w and object expiry y
 abbrev pub filled : Copy → ℕ → ℕ → Payload → Copy
 filled c w y p = record { version = w; value = payloadOr (c .value) p; expiry = y }
+
+-- what becomes of the client's records: "store its fields .. and end the request"
+abbrev pub grantStored : Copy → ℕ → ℕ → Payload → Change
+grantStored c w y p = record { copy = copy.Fill (filled c w y p); request = request.End; sweep = Keep }
 
 -- ---- INVALIDATE: "forget a standing request for that object"
 abbrev pub asksFor : Request → ℕ → Bool

@@ -25,7 +25,7 @@ use Rattle.protocol.specs.Messages.{message, messageAt, removed, doubled
 use Rattle.protocol.specs.Tables.{withViews, withQueue}
 use Rattle.protocol.specs.Writes.{Counted, settled, writeStaged, clockStaged}
 use Rattle.protocol.specs.Server.{sent, renewed, ackStaged, dropStaged, serverRestarted}
-use Rattle.protocol.specs.Client.{showable, renewal, stands, viewed, grantTaken, filled, forgotten, clientRestarted}
+use Rattle.protocol.specs.Client.{showable, renewal, stands, viewed, grantStored, forgotten, clientRestarted}
 use Rattle.protocol.specs.Answers.{completedAnswer}
 use Rattle.protocol.specs.Gate.{isClock, isRead, isAsk, isWrite, isDeliver, isLose, isDouble, isRestartServer, refusal}
 
@@ -49,12 +49,10 @@ byServer n = record { change = kept; counted = n }
 abbrev pub byClient : Change → Tables → Received
 byClient g t = record { change = g; counted = uncounted t }
 
--- GRANT: "store its fields, epoch too, and end the request"
+-- GRANT: "needs the standing number, else nothing", and then "store its fields, epoch too, and end the request"
 unfoldable pub grantReceived : Setup → Tables → Copy → Request → ℕ → ℕ → ℕ → ℕ → ℕ → ℕ → ℕ → Payload → Received
 grantReceived s t c r d o n x e w y p =
-    cond (grantTaken c r n w p)
-    (byClient (record { copy = copy.Fill (filled c w y p); request = request.End; sweep = sweep.Keep }) (withViews t (viewed (t .views) d (volumeOf s o) e x)))
-    (byClient kept t)
+    cond (stands r n) (byClient (grantStored c w y p) (withViews t (viewed (t .views) d (volumeOf s o) e x))) (byClient kept t)
 
 -- INVALIDATE: "erase the copy, forget a standing request for that object, send ACK with the same epoch and new version"
 unfoldable pub invalidateReceived : Tables → Request → ℕ → ℕ → ℕ → ℕ → Received

@@ -56,9 +56,12 @@ unfoldable pub objectRenewed : Setup → Tables → ℕ → ℕ → Tables
 objectRenewed s t d o =
     withObjects (withHolders t (setLease (t .holders) d o (t .clock + s .t))) (setObjectExpiry (t .objects) o (t .clock + s .t))
 
--- "with value unless versions are equal"
+-- "with value unless versions are equal": w is the one that the client holds
+abbrev pub sameVersion : Tables → ℕ → ℕ → Bool
+sameVersion t o w = eqb (versionAt t o) w
+
 abbrev pub payloadFor : Tables → ℕ → ℕ → Payload
-payloadFor t o w = cond (eqb (versionAt t o) w) Same (Value (valueAt t o))
+payloadFor t o w = cond (sameVersion t o w) Same (Value (valueAt t o))
 
 -- "send GRANT"
 abbrev pub granting : Setup → Tables → ℕ → ℕ → ℕ → ℕ → Message

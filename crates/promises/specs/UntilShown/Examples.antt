@@ -20,7 +20,7 @@ use Rattle.protocol.specs.Tables.{standingAt, freshTables}
 use Rattle.protocol.specs.Leases.{serverAlive, clientAlive, clientClock, guardPassed, endOver}
 use Rattle.protocol.specs.Writes.{waits, latestEnd, opened, awaited, notified, waited, ready, due, deserted, posted, released, completed, settled, written}
 use Rattle.protocol.specs.Server.{noted, offered, lowestWaited, volumeRenewed, objectRenewed, granted, mustDrop, renewedBy, renewed, ackTaken, acked, ackStaged, dropTaken, disowned, dropped, dropStaged, serverRestarted}
-use Rattle.protocol.specs.Client.{showable, stands, grantTaken, forgotten, swept, sweptAll}
+use Rattle.protocol.specs.Client.{showable, stands, forgotten, swept, sweptAll}
 use Rattle.protocol.specs.Sound.{queueSound, tablesSound, copiesSound, requestsSound, sound}
 use Rattle.protocol.specs.Gate.{known, exists, timely, vacant, growable, refusalOfStep, refusal}
 use Rattle.protocol.specs.Decide.{grantReceived, invalidateReceived, offerReceived, received, readDecided, askDecided, deliverDecided, performed, decided}
@@ -128,5 +128,5 @@ Table =
     × Fails (resting (standing 4294967293 0)) 0 false 4294967294 (ask 0 0 ∷ deliver ∷ deliver ∷ deliver ∷ ask 0 0 ∷ [])
 
 pub table : Table
-unfolding Table two observed ran policy step clock foldFrom anyFrom allFrom firstFrom removeAt storeEach greatest inRange pushed removed freshTables serverAlive clientAlive clientClock guardPassed endOver waits latestEnd opened awaited notified waited ready due deserted posted released completed settled written noted offered lowestWaited volumeRenewed objectRenewed granted mustDrop renewedBy renewed ackTaken acked ackStaged dropTaken disowned dropped dropStaged serverRestarted showable stands grantTaken forgotten swept sweptAll queueSound tablesSound copiesSound requestsSound sound known exists timely vacant growable refusalOfStep refusal grantReceived invalidateReceived offerReceived received readDecided askDecided deliverDecided performed decided target decision stepped
+unfolding Table two observed ran policy step clock foldFrom anyFrom allFrom firstFrom removeAt storeEach greatest inRange pushed removed freshTables serverAlive clientAlive clientClock guardPassed endOver waits latestEnd opened awaited notified waited ready due deserted posted released completed settled written noted offered lowestWaited volumeRenewed objectRenewed granted mustDrop renewedBy renewed ackTaken acked ackStaged dropTaken disowned dropped dropStaged serverRestarted showable stands forgotten swept sweptAll queueSound tablesSound copiesSound requestsSound sound known exists timely vacant growable refusalOfStep refusal grantReceived invalidateReceived offerReceived received readDecided askDecided deliverDecided performed decided target decision stepped
 table = (refl, refl, refl, refl, refl, refl, refl)

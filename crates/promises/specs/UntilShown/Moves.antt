@@ -7,10 +7,9 @@ use mathlib.Core.Path.{_≡_, refl, sym, ap, _∙_}
 use lib.Dec.{eqb, ltb}
 use lib.Seq.{set-getD, getD-set-same}
 use borrow.Author.Tests.{ltb-true, eqb-true, eq-eqb, ne-eqb, lt-leb}
-use Rattle.laws.specs.Choice.{cond-keeps, true-or-false, not-both, and-true, both-true}
+use Rattle.laws.specs.Choice.{true-or-false, not-both, and-true, both-true}
 use Rattle.laws.specs.Lists.{all-at}
 use Rattle.laws.specs.Loop.{first-found, fold-keeps-in}
-use Rattle.protocol.specs.declared.message.Payload.{Payload}
 use Rattle.protocol.specs.declared.message.Kind.the-variants.{Renew, Grant, Offer, Dropped}
 use Rattle.protocol.specs.declared.records.Request.{Request}
 use Rattle.protocol.specs.declared.setup.Setup.{Setup}
@@ -19,7 +18,7 @@ use Rattle.protocol.specs.Setup.{volumeOf}
 use Rattle.protocol.specs.Tables.{byVolume, epochAt, seenAt, unreachableAt, versionAt, standingAt, viewEpochAt, noCopy, noRequest}
 use Rattle.protocol.specs.Writes.{Counted, ready, completeIf, settled}
 use Rattle.protocol.specs.Server.{noted, offered, waitedIn, lowestWaited, volumeRenewed, objectRenewed, payloadFor, granted, mustDrop, renewedBy, renewed, dropTaken, dropped, readyIn, dropStaged}
-use Rattle.protocol.specs.Client.{showable, storable, stands, grantTaken}
+use Rattle.protocol.specs.Client.{showable, stands}
 use Rattle.protocol.specs.Decide.{taken, uncounted, grantReceived, offerReceived, received}
 use Rattle.protocol.specs.World.{World}
 use Rattle.protocol.specs.Ranges.{Ranges}
@@ -139,8 +138,6 @@ module _ (s : Setup) (range : Ranges s) (w : World) (k : SoundWorld s w) (d o : 
           payload = payloadFor (w .tables) o held;
           grant = only-answer (w .tables .queue) _ (a .renew .one) (k .shape .tables .queue .items);
           positive = all-at Started (w .tables .objects .version) o 0 (omega (arith, object-fits range ho, k .shape .tables .objects .version)) (k .bounds .tables .objects .version);
-          fits = cond-keeps (λ (p : Payload). storable (copyAt s (w .copies) d o) (versionAt (w .tables) o) p ≡ true) (eqb (versionAt (w .tables) o) held)
-              (λ e. eq-eqb held _ (sym (eqb-true _ held e))) (λ e. refl);
           request = a .request;
         })
 
@@ -206,16 +203,12 @@ module _ (s : Setup) (range : Ranges s) (w : World) (k : SoundWorld s w) (d o : 
         })
 
     -- GRANT taken: both leases are alive
-    takes : (g : Granted s w d o n) → grantTaken (copyAt s (w .copies) d o) (requestAt (w .requests) d) n (g .version) (g .payload) ≡ true
-    unfolding grantTaken
-    takes g = both-true (stands-there (g .request)) (g .fits)
-
     pub shows : (g : Granted s w d o n)
         → Showing s (delivering s w d (Grant o n (w .tables .clock + s .tv) (g .epoch) (g .version) (w .tables .clock + s .t) (g .payload))) d o
     unfolding received grantReceived showable
     shows g =
         let c = row-below (s .objects) d (s .clients) o hd ho in
-        rw (takes g, swept-keep s)
+        rw (stands-there (g .request), swept-keep s)
         (record {
           empty = none-left (w .tables .queue) (g .grant .one);
           shows = rw (

@@ -17,7 +17,7 @@ use Rattle.protocol.specs.declared.setup.Setup.{Setup}
 use Rattle.protocol.specs.Setup.{volumeOf}
 use Rattle.protocol.specs.Messages.{blank, messageAt, pushed, removed}
 use Rattle.protocol.specs.Tables.{epochAt, seenAt, offerAt, viewEpochAt}
-use Rattle.protocol.specs.Client.{showable, storable}
+use Rattle.protocol.specs.Client.{showable}
 use Rattle.protocol.specs.World.{World}
 use Rattle.protocol.specs.Safety.View.{copyAt, requestAt}
 use Rattle.protocol.specs.Safety.Invariant.{from}
@@ -87,14 +87,13 @@ pub record Cleared (s : Setup) (w : World) (d o n : ℕ) : Type 0 where
   pub idle : Idle s w d o true
   pub next : requestAt (w .requests) d .next ≡ n + 1
 
--- the server's GRANT is under way, of a version at least 1, with what the client can store
+-- the server's GRANT is under way, of a version at least 1
 pub record Granted (s : Setup) (w : World) (d o n : ℕ) : Type 0 where
   pub epoch : ℕ
   pub version : ℕ
   pub payload : Payload
   pub grant : Only (w .tables .queue) (from d (Grant o n (w .tables .clock + s .tv) epoch version (w .tables .clock + s .t) payload))
   pub positive : 1 ≤ version
-  pub fits : storable (copyAt s (w .copies) d o) version payload ≡ true
   pub request : requestAt (w .requests) d ≡ standing n o
 
 -- all is delivered, and the copy may be shown

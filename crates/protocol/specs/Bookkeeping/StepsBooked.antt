@@ -26,7 +26,7 @@ use Rattle.protocol.specs.Messages.{messageAt}
 use Rattle.protocol.specs.Tables.{standingAt}
 use Rattle.protocol.specs.Writes.{unstaged, latestEnd, begun, ready, settled, settling, written, writeStaged, clockStaged}
 use Rattle.protocol.specs.Server.{noted, offered, volumeRenewed, objectRenewed, granted, lowestWaited, mustDrop, renewedBy, renewed, ackTaken, acked, ackStaged, dropTaken, dropped, ofVolume, dropStaged, serverRestarted, stale, beingWritten}
-use Rattle.protocol.specs.Client.{showable, stands, grantTaken}
+use Rattle.protocol.specs.Client.{showable, stands}
 use Rattle.protocol.specs.Sound.{kindSound}
 use Rattle.protocol.specs.SoundLaws.{named}
 use Rattle.protocol.specs.Answers.{reported, completedAnswer}
@@ -121,7 +121,7 @@ module _ (s : Setup) (rs : Ranges s) (t : Tables) (k : Shape t) (c : Copy) (r : 
   grant-settles : (o n x e w y : ℕ) (v : Payload) → Settlement s l 0 (grantReceived s t c r d o n x e w y v .counted) []
   unfolding grantReceived
   grant-settles o n x e w y v =
-      cond-keeps (λ (g : Received). Settlement s l 0 (g .counted) []) (grantTaken c r n w v)
+      cond-keeps (λ (g : Received). Settlement s l 0 (g .counted) []) (stands r n)
       (λ _. uncounted-settles s t _ l (objects-same t _ refl) h) (λ _. uncounted-settles s t _ l (objects-same t _ refl) h)
 
   invalidate-settles : (o e w : ℕ) → Settlement s l 0 (invalidateReceived t r d o e w .counted) []

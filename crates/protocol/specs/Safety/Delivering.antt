@@ -1,11 +1,10 @@
 -- Step 5, accepted: the message is removed, and received by its client or by the server.
 use Prim.Native.Nat.{ℕ, _+_, _*_, _<_, _≤_}
 use native.Mathlib.Omega.{arith}
-use mathlib.Core.Bool.{_&&_}
 use mathlib.Core.Path.{refl}
 use lib.ListN.{set}
 use lib.Seq.{set-getD}
-use Rattle.laws.specs.Choice.{cond-keeps, and-true}
+use Rattle.laws.specs.Choice.{cond-keeps}
 use Rattle.protocol.specs.declared.message.Message.{Message}
 use Rattle.protocol.specs.declared.message.Payload.{Payload}
 use Rattle.protocol.specs.declared.message.Kind.{Kind}
@@ -17,7 +16,7 @@ use Rattle.protocol.specs.Messages.{objectOf, removed}
 use Rattle.protocol.specs.Tables.{noCopy, noRequest}
 use Rattle.protocol.specs.Writes.{Staged}
 use Rattle.protocol.specs.Server.{ackTaken, ackStaged, dropTaken, dropStaged}
-use Rattle.protocol.specs.Client.{turned, changed, stands, storable, grantTaken, sweptAll}
+use Rattle.protocol.specs.Client.{turned, changed, stands, sweptAll}
 use Rattle.protocol.specs.Decide.{Received, taken, grantReceived, invalidateReceived, offerReceived, received}
 use Rattle.protocol.specs.World.{World}
 use Rattle.protocol.specs.Soundness.Shape.{WorldShape, taken-shape}
@@ -77,10 +76,10 @@ module _ (s : Setup) (range : Ranges s) (w : World) (inv : Inv s w) (shape : Wor
 
     by-grant : (o n x e ver y : ℕ) (p : Payload) → Sent (w .tables .queue) (from d (Grant o n x e ver y p))
         → Inv s (receiving s w d (Grant o n x e ver y p) (received s t (copyAt s (w .copies) d o) request d (Grant o n x e ver y p)))
-    unfolding received grantReceived grantTaken
+    unfolding received grantReceived
     by-grant o n x e ver y p z =
-        cond-keeps (λ (g : Received). Inv s (receiving s w d (Grant o n x e ver y p) g)) (stands request n && storable (copyAt s (w .copies) d o) ver p)
-        (λ a. let b = stands-true (w .requests) d n (and-true (stands request n) (storable (copyAt s (w .copies) d o) ver p) a .0) in
+        cond-keeps (λ (g : Received). Inv s (receiving s w d (Grant o n x e ver y p) g)) (stands request n)
+        (λ a. let b = stands-true (w .requests) d n a in
         rw (swept-keep s)
         (grant-taken s range rest remaining shape-rest d o n x e ver y p hd (inv .messages _ z .kind) b (λ f u h q. inv .pairs _ _ (was _ h) z .acked o refl (refl, q) (refl, b))))
         (λ a. rw (swept-keep s) (same-records o _ remaining))

@@ -5,7 +5,6 @@ use native.Mathlib.Decide.{ℕ-discrete}
 use mathlib.Core.Bool.{true, false}
 use mathlib.Core.Logic.{inl, inr, ⊎-elim}
 use mathlib.Core.Path.{_≡_, refl, sym, _∙_}
-use lib.Dec.{eqb}
 use borrow.Author.Tests.{eqb-true}
 use Rattle.laws.specs.Choice.{same?, not-both, cond-keeps}
 use Rattle.laws.specs.Updated.{updated-other, updated-same}
@@ -16,7 +15,7 @@ use Rattle.protocol.specs.declared.tables.Tables.{Tables}
 use Rattle.protocol.specs.Setup.{volumeOf}
 use Rattle.protocol.specs.Tables.{epochAt, volumeExpiryAt, seenAt, sessionExpiryAt, unreachableAt, offerAt, versionAt, objectExpiryAt, standingAt, leaseAt, waitingAt}
 use Rattle.protocol.specs.Leases.{serverAlive}
-use Rattle.protocol.specs.Server.{volumeRenewed, objectRenewed, payloadFor, granting, granted}
+use Rattle.protocol.specs.Server.{volumeRenewed, objectRenewed, sameVersion, payloadFor, granting, granted}
 use Rattle.protocol.specs.World.{World}
 use Rattle.protocol.specs.Ranges.{Ranges}
 use Rattle.protocol.specs.Soundness.Shape.{Shape}
@@ -144,11 +143,12 @@ module _ (s : Setup) (range : Ranges s) (w : World) (inv : Inv s w) (shape : Sha
   -- ---- the GRANT for a RENEW
   module _ (n e ver : ℕ) (renew : KindOk s w d (Renew o n e ver)) (same : e ≡ epochAt (w .tables) v) (seen : n ≤ seenAt (w .tables) d) where
     says : PayloadOk (w .tables .objects .value) (w .tables .objects .version) o (versionAt (w .tables) o) (payloadFor (w .tables) o ver)
-    says = cond-keeps (PayloadOk (w .tables .objects .value) (w .tables .objects .version) o (versionAt (w .tables) o)) (eqb (versionAt (w .tables) o) ver) (λ q. tt) (λ q a. refl)
+    says = cond-keeps (PayloadOk (w .tables .objects .value) (w .tables .objects .version) o (versionAt (w .tables) o)) (sameVersion (w .tables) o ver) (λ q. tt) (λ q a. refl)
 
     names : Stands (w .requests) d n → NamesHeld (copyAt s (w .copies) d o .version) (versionAt (w .tables) o) (payloadFor (w .tables) o ver)
     names a =
-        cond-keeps (NamesHeld (copyAt s (w .copies) d o .version) (versionAt (w .tables) o)) (eqb (versionAt (w .tables) o) ver) (λ q. (eqb-true _ _ q ∙ renew .held a, inv .versions .positive o ho)) (λ q. tt)
+        cond-keeps (NamesHeld (copyAt s (w .copies) d o .version) (versionAt (w .tables) o)) (sameVersion (w .tables) o ver)
+        (λ q. (eqb-true _ _ q ∙ renew .held a, inv .versions .positive o ho)) (λ q. tt)
 
     none-offered : offerAt (w .tables) d v ≡ 0
     none-offered = go (ℕ-discrete (offerAt (w .tables) d v) 0)

@@ -10,7 +10,7 @@ use Rattle.protocol.specs.declared.setup.Setup.{Setup}
 use Rattle.protocol.specs.declared.step.Decision.{Decision}
 use Rattle.protocol.specs.declared.step.Step.{Step}
 use Rattle.protocol.specs.declared.tables.Tables.{Tables}
-use Rattle.protocol.specs.Client.{CanTurn, showable, stands, grantTaken, forgotten, asksFor}
+use Rattle.protocol.specs.Client.{CanTurn, showable, stands, forgotten, asksFor}
 use Rattle.protocol.specs.Decide.{Received, grantReceived, invalidateReceived, offerReceived, received, readDecided, askDecided, deliverDecided, restartDecided, performed}
 use Rattle.protocol.specs.World.{World, decision}
 use Rattle.protocol.specs.Ledger.{accepts}
@@ -25,7 +25,7 @@ module _ (r : Request) where
     received-turns : (d : ℕ) (k : Kind) → CanTurn r (received s t c r d k .change .request)
     unfolding received grantReceived invalidateReceived offerReceived forgotten
     received-turns d (Renew o n e w) = tt
-    received-turns d (Grant o n x e w y p) = cond-keeps (λ (g : Received). CanTurn r (g .change .request)) (grantTaken c r n w p) (λ _. tt) (λ _. tt)
+    received-turns d (Grant o n x e w y p) = cond-keeps (λ (g : Received). CanTurn r (g .change .request)) (stands r n) (λ _. tt) (λ _. tt)
     received-turns d (Invalidate o e w) = cond-keeps (CanTurn r) (asksFor r o) (λ _. tt) (λ _. tt)
     received-turns d (Ack o e w) = tt
     received-turns d (Offer v n e) = cond-keeps (λ (g : Received). CanTurn r (g .change .request)) (stands r n) (λ _. tt) (λ _. tt)

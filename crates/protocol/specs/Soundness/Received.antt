@@ -24,7 +24,7 @@ use Rattle.protocol.specs.Ranges.{Ranges}
 use Rattle.protocol.specs.Tables.{byVolume, byObject}
 use Rattle.protocol.specs.Writes.{Staged}
 use Rattle.protocol.specs.Server.{noted, offered, volumeRenewed, objectRenewed, granting, granted, lowestWaited, mustDrop, renewedBy, renewed, ackTaken, acked, ackStaged, dropTaken, disowned, dropped, dropStaged, serverRestarted, stale, beingWritten}
-use Rattle.protocol.specs.Client.{viewed, ended, turned, changed, stands, grantTaken, forgotten, clientRestarted, asksFor}
+use Rattle.protocol.specs.Client.{viewed, ended, turned, changed, stands, forgotten, clientRestarted, asksFor}
 use Rattle.protocol.specs.Sound.{timeFits, kindSound}
 use Rattle.protocol.specs.Decide.{Received, kept, grantReceived, invalidateReceived, offerReceived, received}
 use Rattle.protocol.specs.Soundness.Bounds.{Timed, Started, Named, ViewsBounded, Bounded, CopyBounded, RequestBounded, epoch-bounded, volume-expiry-bounded, guard-bounded, seen-bounded, session-expiry-bounded, unreachable-bounded, offer-bounded, value-bounded, version-bounded, object-expiry-bounded, lease-bounded, waiting-bounded, view-epoch-bounded, view-expiry-bounded, volumes-bounded, sessions-bounded, objects-bounded, holders-bounded, views-bounded, sent-bounded, fresh-sessions, fresh-objects, fresh-holders}
@@ -143,7 +143,7 @@ module _ (s : Setup) (rs : Ranges s) (t : Tables) (c : Copy) (r : Request) (d : 
   grant-received : (o n x e w y : ℕ) (a : Payload) → Timed x → Timed y → Receipt s c r (grantReceived s t c r d o n x e w y a)
   unfolding grantReceived
   grant-received o n x e w y a j k =
-      cond-keeps (Receipt s c r) (grantTaken c r n w a)
+      cond-keeps (Receipt s c r) (stands r n)
       (λ _. record {
         tables = views-bounded (viewed-bounded (t .views) d (volumeOf s o) e x j (h .views)) h;
         copy = λ _. k;

@@ -26,7 +26,7 @@ use Rattle.protocol.specs.Setup.{volumeOf}
 use Rattle.protocol.specs.Tables.{waitingAt}
 use Rattle.protocol.specs.Writes.{Counted, Staged, opened, awaited, begun, notify, notified, deserted, marked, markIfWaiting, posted, released, completed, completeIf, settled, written}
 use Rattle.protocol.specs.Server.{noted, offered, volumeRenewed, objectRenewed, granted, lowestWaited, mustDrop, renewedBy, renewed, ackTaken, acked, ackStaged, dropTaken, disowned, dropped, dropStaged, serverRestarted, stale, beingWritten}
-use Rattle.protocol.specs.Client.{showable, stands, grantTaken, viewed, sweepAt, sweptAll, clientRestarted}
+use Rattle.protocol.specs.Client.{showable, stands, viewed, sweepAt, sweptAll, clientRestarted}
 use Rattle.protocol.specs.Gate.{usesPlace}
 use Rattle.protocol.specs.Decide.{Received, performed, readDecided, askDecided, deliverDecided, restartDecided, grantReceived, invalidateReceived, offerReceived, received}
 use Rattle.protocol.specs.World.{World, stepped}
@@ -137,7 +137,7 @@ received-shape : (s : Setup) (t : Tables) (c : Copy) (r : Request) (d : ℕ) (ki
 unfolding received grantReceived invalidateReceived offerReceived
 received-shape s t c r d (Renew o n e w) h = renewed-shape s t d o n e w h
 received-shape s t c r d (Grant o n x e w y p) h =
-    cond-keeps (λ (g : Received). Shape (g .counted .tables)) (grantTaken c r n w p)
+    cond-keeps (λ (g : Received). Shape (g .counted .tables)) (stands r n)
     (λ _. views-shape (viewed-shape (t .views) d (volumeOf s o) e x (h .views)) h) (λ _. h)
 received-shape s t c r d (Invalidate o e w) h = sent-shape t _ h
 received-shape s t c r d (Ack o e w) h = settled-shape s _ (ack-shape s t d o e w h)
