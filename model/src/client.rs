@@ -2,7 +2,7 @@
 
 use crate::answer::Answer;
 use crate::copies::ObjectCopy;
-use crate::message::{Grant, Kind};
+use crate::message::Kind;
 use crate::mistakes::Rules;
 use crate::requests::Request;
 use crate::tables::alive;
@@ -51,29 +51,6 @@ impl<R: Rules> World<'_, R> {
         self.tables.clients.expiry[client][..volumes].fill(0);
         let first = self.setup.copy_place(client, 0);
         self.copies[first..first + self.setup.objects as usize].fill(ObjectCopy::NONE);
-    }
-
-    /// GRANT: an answer to the standing request, by its number. Without a value
-    /// it keeps the one held, whatever version that is of (02, A4): in a run it
-    /// is the GRANT's own.
-    pub fn receive_grant(&mut self, client: usize, grant: &Grant) -> u32 {
-        let mistakes = self.rules.mistakes();
-        let request = &mut self.requests[client];
-        let matched = request.waits_for(grant.number)
-            || mistakes.grant_any_number
-            || mistakes.grant_same_object && request.is_about(grant.object);
-        if !matched {
-            return 0;
-        }
-        let object = grant.object as usize;
-        let copy = &mut self.copies[self.setup.copy_place(client, object)];
-        let value = grant.value.unwrap_or(copy.value);
-        *copy = ObjectCopy { version: grant.version, expiry: grant.object_expiry, value };
-        let volume = self.setup.volume(object);
-        self.tables.clients.epoch[client][volume] = grant.epoch;
-        self.tables.clients.expiry[client][volume] = grant.volume_expiry;
-        request.end();
-        0
     }
 
     /// INVALIDATE: always acknowledged, copy or not. A request for the

@@ -13,6 +13,7 @@ pub mod examples;
 pub mod frame;
 pub mod gate;
 pub mod gen;
+pub mod grant;
 pub mod latest_end;
 pub mod limits;
 pub mod listing;

@@ -1,6 +1,7 @@
 //! Plausible mistakes, each behind a switch, to show that the generated
-//! runs would find it. The rules are a type parameter: with `Honest` every
-//! switch is a constant and leaves no trace in the code.
+//! runs would find it, or, where no run can, the stored cases of single steps.
+//! The rules are a type parameter: with `Honest` every switch is a constant
+//! and leaves no trace in the code.
 
 /// Which mistakes a run makes.
 pub trait Rules: Copy {
@@ -24,19 +25,33 @@ impl Rules for Mistakes {
     }
 }
 
+/// The mistakes that runs show, then those that only other tables show.
 macro_rules! mistakes {
-    ($($(#[$why:meta])* $name:ident,)*) => {
+    ($($(#[$why:meta])* $name:ident,)* ; $($(#[$hidden_why:meta])* $hidden:ident,)*) => {
         #[derive(Clone, Copy, Debug, Default, PartialEq, Eq)]
         pub struct Mistakes {
             $($(#[$why])* pub $name: bool,)*
+            $($(#[$hidden_why])* pub $hidden: bool,)*
         }
 
         impl Mistakes {
-            pub const NONE: Mistakes = Mistakes { $($name: false,)* };
+            pub const NONE: Mistakes = Mistakes { $($name: false,)* $($hidden: false,)* };
 
-            /// Every switch by name, alone.
+            /// Every switch by name, alone. A step on tables made by hand finds
+            /// each of them.
             pub const EACH: &'static [(&'static str, Mistakes)] = &[
                 $((stringify!($name), Mistakes { $name: true, ..Mistakes::NONE }),)*
+                $((stringify!($hidden), Mistakes { $hidden: true, ..Mistakes::NONE }),)*
+            ];
+
+            /// Those that change the listings of runs.
+            pub const IN_RUNS: &'static [(&'static str, Mistakes)] = &[
+                $((stringify!($name), Mistakes { $name: true, ..Mistakes::NONE }),)*
+            ];
+
+            /// Those that change nothing in any state that a run reaches.
+            pub const NOT_IN_RUNS: &'static [(&'static str, Mistakes)] = &[
+                $((stringify!($hidden), Mistakes { $hidden: true, ..Mistakes::NONE }),)*
             ];
         }
     };
@@ -64,6 +79,16 @@ mistakes! {
     grant_any_number,
     /// Stores a GRANT for the object asked for, whatever its number.
     grant_same_object,
+    /// Stores 0 for the value that a GRANT does not bring.
+    no_value_stores_0,
+    /// Keeps the volume expiry at a GRANT without a value.
+    no_value_keeps_volume_expiry,
+    /// Keeps the object expiry at a GRANT without a value.
+    no_value_keeps_object_expiry,
+    /// Keeps the standing request at a GRANT without a value. Only an OFFER of
+    /// the same number shows it, which a doubled RENEW brings after a restart
+    /// of the server.
+    no_value_keeps_request,
     /// Obeys an OFFER that nobody asks for.
     offer_any_number,
     /// Keeps all its leases at an OFFER.
@@ -179,4 +204,16 @@ mistakes! {
     same_time_refused,
     /// Accepts a clock step back.
     time_goes_back,
+    ;
+    // A GRANT without a value on tables that no run reaches. In a run, while the
+    // request stands, the client holds the version that it named in its RENEW
+    // and knows the epoch, and such a GRANT repeats both (02, A4).
+    /// Ignores it where another version is held, as before A4.
+    no_value_needs_version,
+    /// Ignores it where no copy is held.
+    no_value_needs_copy,
+    /// Keeps the version held.
+    no_value_keeps_version,
+    /// Keeps the known epoch.
+    no_value_keeps_epoch,
 }

@@ -22,7 +22,7 @@ pub fn compare(
     count: usize,
     mut printed: impl FnMut(&[u8]) -> io::Result<Vec<u8>>,
 ) -> io::Result<Ended> {
-    let mut found = vec![false; Mistakes::EACH.len()];
+    let mut found = vec![false; Mistakes::IN_RUNS.len()];
     let damaged = damage::files(seed);
     for number in 0..count {
         let file = runs::run(seed, number).file();
@@ -36,7 +36,7 @@ pub fn compare(
             return Ok(Ended::Different(format!("seed {seed}, damaged file {number} differs; {difference}")));
         }
     }
-    if let Some(((name, _), _)) = Mistakes::EACH.iter().zip(&found).find(|(_, found)| !**found) {
+    if let Some(((name, _), _)) = Mistakes::IN_RUNS.iter().zip(&found).find(|(_, found)| !**found) {
         return Ok(Ended::Different(format!("seed {seed}: no run finds the mistake {name}")));
     }
     let (damaged, mistakes) = (damaged.len(), found.len());
@@ -48,7 +48,7 @@ pub fn compare(
 /// changed this file's listing.
 fn look_for_mistakes(file: &[u8], found: &mut [bool]) {
     let honest = listing_trusting(file);
-    for ((_, mistakes), found) in Mistakes::EACH.iter().zip(found) {
+    for ((_, mistakes), found) in Mistakes::IN_RUNS.iter().zip(found) {
         *found = *found || listing_with(*mistakes, file) != honest;
     }
 }

@@ -8,6 +8,7 @@ pub mod rng;
 pub mod runs;
 pub mod scenes;
 pub mod scenes_answers;
+pub mod scenes_grants;
 pub mod scenes_latest_end;
 pub mod scenes_leases;
 pub mod scenes_queue;

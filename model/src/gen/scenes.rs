@@ -1,7 +1,7 @@
 //! What scenes have in common: reaching a state, and looking at it.
 
 use crate::gen::builder::Builder;
-use crate::gen::{random_steps, scenes_answers, scenes_latest_end, scenes_leases};
+use crate::gen::{random_steps, scenes_answers, scenes_grants, scenes_latest_end, scenes_leases};
 use crate::gen::{scenes_queue, scenes_restart, scenes_writes};
 use crate::limits::CLOCK_MAX;
 use crate::step_record::Step;
@@ -16,6 +16,7 @@ pub fn all() -> Vec<Scene> {
         scenes_writes::SCENES,
         scenes_latest_end::SCENES,
         scenes_answers::SCENES,
+        scenes_grants::SCENES,
         scenes_restart::SCENES,
         scenes_queue::SCENES,
         random_steps::SCENES,

@@ -15,7 +15,8 @@ const HELP: &str = r#"compare: a program's listings beside the model's
 Feeds generated runs (1000, or as many as --runs says) and some hundred damaged
 files to a program on standard input, and compares what it prints with the
 model's listing, byte for byte. Checks as well that each of the model's mistakes
-would have been found by the same runs. The seed (1, or --seed) chooses the runs.
+that a run can show would have been found by the same runs. The seed (1, or
+--seed) chooses the runs.
 
 At a difference it prints the smallest failing run that it can reach, as text,
 and the first line that differs, in words; the exit status is then 1.
