@@ -1,0 +1,9 @@
+//! 02, A4: a GRANT without a value whose number stands. On the states of the
+//! generated runs, and on tables that no run reaches.
+
+#[path = "../common/mod.rs"]
+mod common;
+
+mod any_tables;
+mod in_runs;
+mod met;

@@ -1,0 +1,76 @@
+//! GRANTs without a value under way, in the states that runs reach.
+
+use std::ops::ControlFlow;
+
+use model::copies::ObjectCopy;
+use model::gen::runs::Run;
+use model::grant::names_held_version;
+use model::message::{Grant, Kind, Message};
+use model::mistakes::Rules;
+use model::requests::Request;
+use model::run::State;
+use model::setup::Setup;
+use model::step_record::Step;
+use model::world::World;
+
+pub struct Met<'a> {
+    pub setup: &'a Setup,
+    pub state: &'a State,
+    pub place: usize,
+    pub client: usize,
+    pub grant: Grant,
+}
+
+impl Met<'_> {
+    pub fn request(&self) -> &Request {
+        &self.state.requests(self.setup)[self.client]
+    }
+
+    /// Whether it answers the standing request.
+    pub fn stands(&self) -> bool {
+        self.request().waits_for(self.grant.number)
+    }
+
+    /// What the client holds of the object.
+    pub fn copy(&self) -> &ObjectCopy {
+        &self.state.copies(self.setup)[self.setup.copy_place(self.client, self.grant.object.into())]
+    }
+
+    /// What 02 says of it where its number stands.
+    pub fn meets_its_version(&self) -> bool {
+        self.copy().version != 0 && names_held_version(&self.grant, self.copy())
+    }
+
+    /// What its delivery leaves. The run itself stays where it is.
+    pub fn delivered(&self, rules: impl Rules) -> State {
+        let mut state = *self.state;
+        let (tables, copies, requests) = state.parts(self.setup);
+        World { rules, setup: self.setup, tables, copies, requests }.step(&Step::deliver(self.place as u8));
+        state
+    }
+}
+
+/// All of them, after every step of the run.
+pub fn along<R: Rules, B>(
+    rules: R,
+    run: &Run,
+    mut each: impl FnMut(&Met) -> ControlFlow<B>,
+) -> ControlFlow<B> {
+    let mut state = State::fresh();
+    for step in &run.steps {
+        let (tables, copies, requests) = state.parts(&run.setup);
+        World { rules, setup: &run.setup, tables, copies, requests }.step(step);
+        under_way(&run.setup, &state).try_for_each(|met| each(&met))?;
+    }
+    ControlFlow::Continue(())
+}
+
+fn under_way<'a>(setup: &'a Setup, state: &'a State) -> impl Iterator<Item = Met<'a>> {
+    let places = state.tables.queue.messages().iter().enumerate();
+    places.filter_map(move |(place, message)| match *message {
+        Message { client, kind: Kind::Grant(grant) } if grant.value.is_none() => {
+            Some(Met { setup, state, place, client: client.into(), grant })
+        }
+        _ => None,
+    })
+}
