@@ -2,7 +2,7 @@
 //! sides; where nothing was, the entries that the message does not fit are
 //! told.
 
-use model::message::{Grant, Kind, Message};
+use model::message::{Kind, Message};
 
 use super::steps::{completed, waits};
 use crate::names::whole;
@@ -13,7 +13,7 @@ pub fn reasons(moment: &Moment, message: &Message) -> Vec<String> {
     let mut reasons = vec![whole(message)];
     reasons.extend(match message.kind {
         Kind::Renew { object, number, epoch, .. } => renew(moment, client, object.into(), number, epoch),
-        Kind::Grant(grant) => grant_stored(moment, client, &grant),
+        Kind::Grant(_) => grant_stored(moment, client),
         Kind::Invalidate { object, .. } => invalidate(moment, client, object.into()),
         Kind::Ack { object, epoch, version } => ack(moment, client, object.into(), epoch, version),
         Kind::Offer { volume, epoch, .. } => offer(moment, client, volume, epoch),
@@ -46,15 +46,12 @@ fn renew(moment: &Moment, client: usize, object: usize, number: u32, epoch: u32)
     }
 }
 
-fn grant_stored(moment: &Moment, client: usize, grant: &Grant) -> Vec<String> {
+/// Where its number stands it is stored, with a value or without one.
+fn grant_stored(moment: &Moment, client: usize) -> Vec<String> {
     if request_changed(moment, client) {
         return vec!["stored".into()];
     }
-    if !moment.request_before(client).waits_for(grant.number) {
-        return nothing(standing(moment, client));
-    }
-    let held = moment.copy_before(client, grant.object.into()).version;
-    nothing(format!("it brings no value, and version {held} is held"))
+    nothing(standing(moment, client))
 }
 
 /// An answer that a client takes ends its request; any other leaves it.
