@@ -45,20 +45,19 @@ decision s w x =
     (getD (w .requests) (target s (w .tables) x .client) noRequest)
     x
 
--- what the lent records become
+-- what a decision makes of the lent records, and of all
 abbrev pub copiesAfter : Setup → List Copy → Target → Decision → List Copy
 copiesAfter s l a d = sweptAll s (d .change .sweep) (a .first) (set l (a .copy) (changed (getD l (a .copy) noCopy) (d .change .copy)))
 
 abbrev pub requestsAfter : List Request → Target → Decision → List Request
 requestsAfter l a d = set l (a .client) (turned (getD l (a .client) noRequest) (d .change .request))
 
+abbrev pub worldAfter : Setup → World → Target → Decision → World
+worldAfter s w a d = record { tables = d .outcome .tables; copies = copiesAfter s (w .copies) a d; requests = requestsAfter (w .requests) a d }
+
 -- one step
 unfoldable pub stepped : Setup → World → Step → World
-stepped s w x = record {
-  tables = decision s w x .outcome .tables;
-  copies = copiesAfter s (w .copies) (target s (w .tables) x) (decision s w x);
-  requests = requestsAfter (w .requests) (target s (w .tables) x) (decision s w x);
-}
+stepped s w x = worldAfter s w (target s (w .tables) x) (decision s w x)
 
 abbrev pub answerOf : Setup → World → Step → Answer
 answerOf s w x = decision s w x .outcome .answer

@@ -11,14 +11,13 @@ use Rattle.protocol.specs.declared.message.Message.{Message}
 use Rattle.protocol.specs.declared.setup.Setup.{Setup}
 use Rattle.protocol.specs.declared.step.Decision.{Decision}
 use Rattle.protocol.specs.declared.step.Step.{Step}
-use Rattle.protocol.specs.declared.step.Target.{Target}
 use Rattle.protocol.specs.Setup.{inRange, volumeOf}
 use Rattle.protocol.specs.Messages.{messageAt, objectOf}
 use Rattle.protocol.specs.Tables.{viewExpiryAt}
 use Rattle.protocol.specs.Leases.{clientAlive}
 use Rattle.protocol.specs.Client.{showable}
 use Rattle.protocol.specs.Decide.{readDecided, askDecided, deliverDecided, restartDecided}
-use Rattle.protocol.specs.World.{World, targetAt, target, copiesAfter, requestsAfter, stepped}
+use Rattle.protocol.specs.World.{World, targetAt, target, worldAfter, stepped}
 use Rattle.protocol.specs.Ledger.{accepts}
 use Rattle.protocol.specs.Ranges.{Ranges, ranges}
 use Rattle.protocol.specs.Soundness.StepCases.{Accepted, accepted, by-kind, copyOf, requestOf, recordsOf, performedOf, decision-accepted, refused-keeps, setup-in-range, client-exists, object-exists, place-exists, queue-fits, read-performed, ask-performed, deliver-performed, lose-performed, double-performed, server-performed, client-performed}
@@ -43,11 +42,7 @@ module _ (s : Setup) (w : World) (x : Step) (a : accepts s w x ≡ true) (sound 
   range : Ranges s
   range = ranges s (setup-in-range facts)
 
-  -- what an accepted step leaves
-  abbrev leaves : Target → Decision → World
-  leaves at g = record { tables = g .outcome .tables; copies = copiesAfter s (w .copies) at g; requests = requestsAfter (w .requests) at g }
-
-  stepped-leaves : (g : Decision) → performedOf s w x ≡ g → Inv s (leaves (target s (w .tables) x) g) → Inv s (stepped s w x)
+  stepped-leaves : (g : Decision) → performedOf s w x ≡ g → Inv s (worldAfter s w (target s (w .tables) x) g) → Inv s (stepped s w x)
   unfolding stepped
   stepped-leaves g e h = rw (decision-accepted s w x a, e) h
 
@@ -67,7 +62,7 @@ module _ (s : Setup) (w : World) (x : Step) (a : accepts s w x ≡ true) (sound 
   unfolding readDecided
   read-keeps e =
       stepped-leaves _ (read-performed s (w .tables) (copyOf s w x) (requestOf s w x) x e)
-      (cond-keeps (λ (g : Decision). Inv s (leaves (target s (w .tables) x) g)) (showable s (w .tables) (copyOf s w x) (x .client) (x .object))
+      (cond-keeps (λ (g : Decision). Inv s (worldAfter s w (target s (w .tables) x) g)) (showable s (w .tables) (copyOf s w x) (x .client) (x .object))
       (λ b. rw (set-getD (w .copies), set-getD (w .requests), swept-keep s) inv) (λ b. rw (set-getD (w .copies), set-getD (w .requests), swept-keep s) inv))
 
   ask-keeps : x .kind ≡ 3 → Inv s (stepped s w x)

@@ -55,7 +55,7 @@ use Rattle.protocol.specs.Client.{turned, CanTurn, changed, sweptAll}
 use Rattle.protocol.specs.Sound.{copiesSound, requestsSound}
 use Rattle.protocol.specs.Answers.{answerNumber, answerValue}
 use Rattle.protocol.specs.Decide.{answered, decided}
-use Rattle.protocol.specs.World.{World, target, copiesAfter, requestsAfter, decision, stepped, answerOf}
+use Rattle.protocol.specs.World.{World, target, worldAfter, decision, stepped, answerOf}
 use Rattle.protocol.specs.Soundness.Numbering.{decision-turns}
 use Rattle.protocol.specs.declared.tables.Tables.{Tables as TablesD}
 use Rattle.protocol.specs.declared.step.Decision.{Decision}
@@ -317,10 +317,6 @@ module _ {M : Type 1} (𝓤 : URA M) (H : Heap 𝓤) (A : Atoms 𝓤) (W : Given
   abbrev Leaves : List ℕ → List ℕ → Type 0
   Leaves ws′ xs′ = recordsOf ws′ xs′ ≡ recordsOf ws xs
 
-  -- what the rules make of a decision
-  abbrev after : Decision → World
-  after z = record { tables = z .outcome .tables; copies = copiesAfter st ys t₀ z; requests = requestsAfter ks t₀ z }
-
   abbrev ys₁ : Verdict → List Copy
   ys₁ d = set ys (t₀ .copy) (changed c₀ (d .change .copy))
 
@@ -350,7 +346,7 @@ module _ {M : Type 1} (𝓤 : URA M) (H : Heap 𝓤) (A : Atoms 𝓤) (W : Given
 
     steps : world ws′ xs′ (ys₂ d) (ks₁ d) ≡ stepped st w₀ uq
     unfolding stepped
-    steps = ap after is-decision
+    steps = ap (worldAfter st w₀ t₀) is-decision
 
     says-answer : d .answer ≡ answerOf st w₀ uq
     says-answer = ap (λ (z : Decision). z .outcome .answer) is-decision
