@@ -1,5 +1,6 @@
--- Two runs worked through by computation. Every message is delivered, and lost, from place 0.
+-- Three runs worked through by computation. Every message is delivered, and lost, from place 0.
 use Prim.Native.Nat.{ℕ}
+use mathlib.Core.Bool.{Bool, true, false}
 use mathlib.Core.List.{List, [], _∷_, _++_, map}
 use mathlib.Core.Path.{_≡_, refl}
 use lib.ListN.{replicate}
@@ -7,10 +8,13 @@ use Rattle.laws.specs.Loop.{foldFrom, anyFrom, allFrom, firstFrom, countFrom}
 use Rattle.laws.specs.Lists.{removeAt}
 use Rattle.laws.specs.Store.{storeEach}
 use Rattle.laws.specs.Greatest.{greatest}
+use Rattle.protocol.specs.declared.message.Message.{Message}
+use Rattle.protocol.specs.declared.message.Kind.the-variants.{Grant}
+use Rattle.protocol.specs.declared.message.Payload.the-variants.{Same}
 use Rattle.protocol.specs.declared.setup.Setup.{Setup}
 use Rattle.protocol.specs.declared.step.Step.{Step}
 use Rattle.protocol.specs.Setup.{inRange}
-use Rattle.protocol.specs.Messages.{pushed, removed}
+use Rattle.protocol.specs.Messages.{message, messageAt, pushed, removed}
 use Rattle.protocol.specs.Tables.{freshTables}
 use Rattle.protocol.specs.Leases.{serverAlive, clientAlive, clientClock, guardPassed, endOver}
 use Rattle.protocol.specs.Writes.{waits, latestEnd, opened, awaited, notified, waited, ready, due, deserted, posted, released, completed, settled, settling, written}
@@ -19,8 +23,9 @@ use Rattle.protocol.specs.Client.{showable, stands, forgotten, swept, sweptAll}
 use Rattle.protocol.specs.Sound.{queueSound, tablesSound, copiesSound, requestsSound, sound}
 use Rattle.protocol.specs.Answers.{answerNumber, answerValue}
 use Rattle.protocol.specs.Gate.{known, exists, timely, vacant, growable, refusalOfStep, refusal}
-use Rattle.protocol.specs.Decide.{grantReceived, invalidateReceived, offerReceived, received, readDecided, askDecided, deliverDecided, performed, decided}
-use Rattle.protocol.specs.World.{freshWorld, target, decision, stepped, ran, answers}
+use Rattle.protocol.specs.Decide.{grantReceived, invalidateReceived, offerReceived, received, readDecided, askDecided, deliverDecided, restartDecided, performed, decided}
+use Rattle.protocol.specs.World.{World, freshWorld, target, decision, stepped, ran, answers}
+use Rattle.protocol.specs.Safety.View.{copyAt, requestAt}
 use Rattle.protocol.specs.Edges.{tiny, step, clock, write, lose}
 use Rattle.protocol.specs.Ledger.{Event, acceptance, completion, serverRestart, showing, clockStep, happening, events}
 use Rattle.protocol.specs.NeverLater.{formerEnd}
@@ -113,3 +118,19 @@ pub never-held : (history twoClients (takenApart ++ writeUnheard) ≡ clockStep 
     × (formerEnd twoClients (ran twoClients (freshWorld twoClients) takenApart .tables) 0 ≡ 19)
 unfolding twoClients takenApart writeUnheard formerEnd ran step clock lose write told historyFrom events happening foldFrom anyFrom allFrom firstFrom removeAt storeEach greatest inRange pushed removed freshTables serverAlive clientAlive clientClock guardPassed endOver waits latestEnd opened awaited notified waited ready due deserted posted released completed settled settling written noted offered lowestWaited volumeRenewed objectRenewed granted mustDrop renewedBy renewed ackTaken acked ackStaged dropTaken disowned dropped dropStaged serverRestarted showable stands forgotten swept sweptAll queueSound tablesSound copiesSound requestsSound sound known exists timely vacant growable refusalOfStep refusal grantReceived invalidateReceived offerReceived received readDecided askDecided deliverDecided performed decided target decision stepped
 never-held = (refl, refl, refl)
+
+-- ---- 02, A4: "a matching GRANT without a value"
+
+-- client 0 holds object 0 and asks again: the GRANT is under way
+pub askedAgain : List Step
+askedAgain = ask 0 0 ∷ deliver ∷ deliver ∷ deliver ∷ ask 0 0 ∷ deliver ∷ deliver ∷ ask 0 0 ∷ deliver ∷ []
+
+-- the message at place 0; the version that the client holds; whether its request 3 stands
+abbrev pub met : World → Message × ℕ × Bool
+met w = (messageAt (w .tables .queue) 0, copyAt tiny (w .copies) 0 0 .version, stands (requestAt (w .requests) 0) 3)
+
+-- the GRANT meets the version that it names; once the client has restarted, its number stands no more and no copy is there
+pub asked-again : (met (ran tiny (freshWorld tiny) askedAgain) ≡ (message 0 (Grant 0 3 10 1 1 100 Same), 1, true))
+    × (met (ran tiny (freshWorld tiny) (askedAgain ++ (step 9 0 0 0 ∷ []))) ≡ (message 0 (Grant 0 3 10 1 1 100 Same), 0, false))
+unfolding askedAgain tiny ran step foldFrom allFrom firstFrom removeAt storeEach inRange pushed removed freshTables ready settled noted offered lowestWaited volumeRenewed objectRenewed granted mustDrop renewedBy renewed dropTaken disowned dropped dropStaged stands swept sweptAll queueSound tablesSound copiesSound requestsSound sound known exists timely vacant growable refusalOfStep refusal grantReceived offerReceived received askDecided deliverDecided restartDecided performed decided target decision stepped
+asked-again = (refl, refl)

@@ -76,7 +76,7 @@ viewed u d v e x = setViewExpiry (setViewEpoch u d v e) d v x
 
 -- ---- GRANT
 
--- 02, A4: "A GRANT without a value now always stores its other fields and keeps the value held."
+-- 02, A4: "A GRANT without a value .. keeps the value held."
 abbrev pub payloadOr : ℕ → Payload → ℕ
 payloadOr held Same = held
 payloadOr held (Value a) = a
@@ -85,7 +85,7 @@ payloadOr held (Value a) = a
 abbrev pub filled : Copy → ℕ → ℕ → Payload → Copy
 filled c w y p = record { version = w; value = payloadOr (c .value) p; expiry = y }
 
--- what becomes of the client's records: "store its fields .. and end the request"
+-- what becomes of the client's records: "store its fields .. and end the request". 02, A4: "A GRANT without a value now always stores its other fields"
 abbrev pub grantStored : Copy → ℕ → ℕ → Payload → Change
 grantStored c w y p = record { copy = copy.Fill (filled c w y p); request = request.End; sweep = Keep }
 
