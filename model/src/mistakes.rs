@@ -44,15 +44,17 @@ macro_rules! mistakes {
                 $((stringify!($hidden), Mistakes { $hidden: true, ..Mistakes::NONE }),)*
             ];
 
+            const SHOWN: usize = [$(stringify!($name),)*].len();
+
             /// Those that change the listings of runs.
-            pub const IN_RUNS: &'static [(&'static str, Mistakes)] = &[
-                $((stringify!($name), Mistakes { $name: true, ..Mistakes::NONE }),)*
-            ];
+            pub const IN_RUNS: &'static [(&'static str, Mistakes)] = Self::EACH.split_at(Self::SHOWN).0;
 
             /// Those that change nothing in any state that a run reaches.
-            pub const NOT_IN_RUNS: &'static [(&'static str, Mistakes)] = &[
-                $((stringify!($hidden), Mistakes { $hidden: true, ..Mistakes::NONE }),)*
-            ];
+            pub const NOT_IN_RUNS: &'static [(&'static str, Mistakes)] = Self::EACH.split_at(Self::SHOWN).1;
+
+            pub fn named(name: &str) -> Mistakes {
+                Self::EACH.iter().find(|(each, _)| *each == name).expect("a mistake's name").1
+            }
         }
     };
 }

@@ -46,8 +46,7 @@ fn each_mistake_changes_exactly_its_line() {
         ("6-never-held", "latest_end_by_old_rule", "22 3 1", "22 0 0"),
         ("6-never-held", "latest_end_by_greater", "22 3 1", "22 0 0"),
     ] {
-        let (_, switch) = Mistakes::EACH.iter().find(|(name, _)| *name == mistake).expect("a mistake's name");
         let expected = vec![(honest.to_string(), wrong.to_string())];
-        assert_eq!(differences(example, *switch), expected, "{example}, {mistake}");
+        assert_eq!(differences(example, Mistakes::named(mistake)), expected, "{example}, {mistake}");
     }
 }

@@ -1,6 +1,5 @@
 //! For every mistake that a run can show, the runs of the fixed seed hold one
-//! whose listing it changes. `grant_without_value.rs` has that no run shows the
-//! others.
+//! whose listing it changes; the others change none.
 
 use model::gen::runs::run;
 use model::listing::{listing_trusting, listing_with};
@@ -14,6 +13,9 @@ fn every_mistake_is_found() {
         let honest = listing_trusting(&file);
         for (place, (_, mistakes)) in Mistakes::IN_RUNS.iter().enumerate() {
             found[place] += usize::from(listing_with(*mistakes, &file) != honest);
+        }
+        for (name, mistakes) in Mistakes::NOT_IN_RUNS {
+            assert_eq!(listing_with(*mistakes, &file), honest, "{name}");
         }
     }
     let named: Vec<_> = Mistakes::IN_RUNS.iter().map(|(name, _)| *name).zip(found).collect();

@@ -1,6 +1,7 @@
-//! Scenes about GRANTs without a value: to a client that holds the version.
+//! Scenes about GRANTs without a value: the client held the version when it
+//! asked.
 
-use crate::gen::builder::{Builder, ACK, DROPPED, GRANT, INVALIDATE, OFFER, RENEW};
+use crate::gen::builder::{Builder, DROPPED, GRANT, INVALIDATE, OFFER, RENEW};
 use crate::gen::scenes::{calm, exchange, hold, probe, Scene};
 use crate::step_record::Step;
 
@@ -13,7 +14,7 @@ pub const SCENES: &[Scene] = &[
 ];
 
 /// Nothing is under way, and a client holds an object that was written, so that
-/// its value is hardly 0.
+/// its value is most likely not 0.
 fn hold_written(b: &mut Builder) -> (u8, u8) {
     let (client, object) = (b.any_client(), b.any_object());
     calm(b);
@@ -34,9 +35,9 @@ fn renew_held(b: &mut Builder) -> (u8, u8) {
 /// Both expiries have to be stored, and the value to be kept.
 fn renewed_when_a_lease_ended(b: &mut Builder) {
     let (client, object) = hold_written(b);
-    let volume = b.setup.volume(object.into());
-    let by_volume = b.tables().clients.expiry[usize::from(client)][volume];
-    let by_object = b.server().object_expiry[usize::from(object)][usize::from(client)];
+    let (of, server) = (usize::from(client), b.server());
+    let by_volume = server.volume_expiry[b.setup.volume(object.into())][of];
+    let by_object = server.object_expiry[usize::from(object)][of];
     let time = b.rng.pick(&[by_volume, by_object]);
     b.clock(time);
     b.read(client, object);
@@ -88,27 +89,21 @@ fn grant_comes_late(b: &mut Builder) {
     probe(b);
 }
 
-/// The request stands no more, and the copy is gone, or its leases are dropped.
-/// A value that was not brought must not be shown.
+/// The request stands no more, and the copy is gone by a restart, or its leases
+/// are dropped by an OFFER. A value that was not brought must not be shown.
 fn grant_comes_too_late(b: &mut Builder) {
     let (client, object) = renew_held(b);
     b.double(client, GRANT);
     if b.rng.percent(50) {
         b.deliver(client, GRANT);
     }
-    match b.rng.below(3) {
-        0 => {
-            b.write(object);
-            b.deliver(client, INVALIDATE);
-            b.deliver(client, ACK);
-        }
-        1 => {
-            b.push(Step::restart_server());
-            b.ask(client, object);
-            b.deliver(client, RENEW);
-            b.deliver(client, OFFER);
-        }
-        _ => drop(b.push(Step::restart_client(client))),
+    if b.rng.percent(50) {
+        b.push(Step::restart_server());
+        b.ask(client, object);
+        b.deliver(client, RENEW);
+        b.deliver(client, OFFER);
+    } else {
+        b.push(Step::restart_client(client));
     }
     // Later requests must not take it either: with three, numbers that began
     // anew would have come to its own.

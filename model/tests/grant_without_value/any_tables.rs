@@ -2,11 +2,8 @@
 
 use model::copies::ObjectCopy;
 use model::message::{Grant, Kind, Message};
-use model::mistakes::{Mistakes, Rules};
 use model::requests::{Request, Standing};
-use model::run::State;
 use model::step_record::Step;
-use model::world::World;
 
 use crate::common::{setup, Bench};
 
@@ -79,21 +76,5 @@ fn nothing_with_another_number() {
         expected.tables.queue.len = 0;
         assert_eq!(bench.line(Step::deliver(0)), (0, 0));
         assert!(bench.state == expected, "{held:?}");
-    }
-}
-
-fn delivered(rules: impl Rules, held: ObjectCopy) -> State {
-    let Bench { setup, mut state } = with(held, GRANT.number, OBJECT);
-    let (tables, copies, requests) = state.parts(&setup);
-    World { rules, setup: &setup, tables, copies, requests }.step(&Step::deliver(0));
-    state
-}
-
-/// One step shows what no run does.
-#[test]
-fn mistakes_that_no_run_shows_are_found() {
-    for (name, mistakes) in Mistakes::NOT_IN_RUNS {
-        let found = HELD.iter().any(|&held| delivered(*mistakes, held) != delivered(Mistakes::NONE, held));
-        assert!(found, "{name}");
     }
 }

@@ -15,7 +15,7 @@ const RUNS: usize = 1_000;
 /// Each case is met at least so often.
 const FLOOR: usize = 100;
 
-/// In which a GRANT without a value whose number stands is found.
+/// Circumstances in which a GRANT without a value whose number stands is met.
 const CASES: [(&str, fn(&Met) -> bool); 7] = [
     ("any", |_| true),
     ("both leases alive", |met| volume_alive(met) && alive(met.copy().expiry, met.state.tables.clock)),
@@ -52,7 +52,7 @@ fn each_met(mut each: impl FnMut(&Met)) {
     for run in runs() {
         let _ = along(Honest, &run, |met| {
             each(met);
-            ControlFlow::<()>::Continue(())
+            ControlFlow::Continue(())
         });
     }
 }
@@ -64,6 +64,7 @@ fn a_standing_number_meets_its_version() {
     each_met(|met| {
         if met.stands() {
             assert!(met.meets_its_version(), "{:?} {:?}", met.grant, met.copy());
+            assert!(met.request().is_about(met.grant.object));
             CASES.iter().zip(&mut met_in).for_each(|((_, fits), count)| *count += usize::from(fits(met)));
         } else {
             stale += 1;
@@ -74,15 +75,6 @@ fn a_standing_number_meets_its_version() {
     println!("{named:?}; of {stale} whose number does not stand {other} meet another version");
     assert!(named.iter().all(|(_, count)| *count >= FLOOR), "{named:?}");
     assert!(other >= FLOOR, "{other}: without the standing number it would not hold");
-}
-
-/// So the client also asked for that object, in the epoch that it knows.
-#[test]
-fn a_standing_number_names_object_and_epoch_asked_for() {
-    each_met(|met| {
-        let known = met.state.tables.clients.epoch[met.client][volume(met)];
-        assert!(!met.stands() || met.request().is_about(met.grant.object) && known == met.grant.epoch);
-    });
 }
 
 /// With 01's test and without it, and so with every mistake that is said to
@@ -112,10 +104,8 @@ fn mistakes_that_break_it_are_found() {
     for mistake in
         ["invalidate_keeps_request", "client_restart_keeps_request", "client_restart_resets_number"]
     {
-        let (_, mistakes) =
-            Mistakes::EACH.iter().find(|(name, _)| *name == mistake).expect("a mistake's name");
         let broken = |run| {
-            along(*mistakes, &run, |met| {
+            along(Mistakes::named(mistake), &run, |met| {
                 if met.stands() && !met.meets_its_version() {
                     return ControlFlow::Break(());
                 }

@@ -51,11 +51,7 @@ impl Met<'_> {
 }
 
 /// All of them, after every step of the run.
-pub fn along<R: Rules, B>(
-    rules: R,
-    run: &Run,
-    mut each: impl FnMut(&Met) -> ControlFlow<B>,
-) -> ControlFlow<B> {
+pub fn along(rules: impl Rules, run: &Run, mut each: impl FnMut(&Met) -> ControlFlow<()>) -> ControlFlow<()> {
     let mut state = State::fresh();
     for step in &run.steps {
         let (tables, copies, requests) = state.parts(&run.setup);

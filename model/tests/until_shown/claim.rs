@@ -33,9 +33,9 @@ fn shown_in_the_steps_claimed() {
 
 /// Whether a generated run leads this mistake to such a breach.
 fn breaks(mistake: &str, such: fn(Breach) -> bool) -> bool {
-    let (_, mistakes) = Mistakes::EACH.iter().find(|(name, _)| *name == mistake).expect("a mistake's name");
+    let mistakes = Mistakes::named(mistake);
     let broken = |number| {
-        along(*mistakes, number, |trial| match trial.breach() {
+        along(mistakes, number, |trial| match trial.breach() {
             Some(breach) if such(breach) => ControlFlow::Break(()),
             _ => ControlFlow::Continue(()),
         })
