@@ -14,6 +14,7 @@ use Rattle.protocol.specs.declared.message.Kind.the-variants.{Renew, Grant, Inv
 use Rattle.protocol.specs.declared.message.Payload.the-variants.{Same, Value}
 use Rattle.protocol.specs.declared.records.Copy.{Copy}
 use Rattle.protocol.specs.declared.setup.Setup.{Setup}
+use Rattle.protocol.specs.declared.step.Answer.{Answer}
 use Rattle.protocol.specs.declared.step.Decision.{Decision}
 use Rattle.protocol.specs.declared.step.Step.{Step}
 use Rattle.protocol.specs.declared.tables.Tables.{Tables}
@@ -22,7 +23,7 @@ use Rattle.protocol.specs.Messages.{messageAt, objectOf}
 use Rattle.protocol.specs.Client.{stands}
 use Rattle.protocol.specs.Gate.{isDeliver}
 use Rattle.protocol.specs.Decide.{kept, byClient, grantReceived, received, delivered, taken, deliverDecided}
-use Rattle.protocol.specs.World.{World, freshWorld, target, decision, worldAfter, stepped, ran}
+use Rattle.protocol.specs.World.{World, freshWorld, target, decision, worldAfter, stepped, answerOf, ran, answers}
 use Rattle.protocol.specs.Ledger.{accepts}
 use Rattle.protocol.specs.Soundness.StepCases.{copyOf, requestOf, accepted, decision-accepted, deliver-performed, place-exists}
 use Rattle.protocol.specs.Soundness.Question.{SoundWorld, stepped-sound}
@@ -50,16 +51,24 @@ formerlyIgnored c (Ack o e ver) = false
 formerlyIgnored c (Offer v n e) = false
 formerlyIgnored c (Dropped v n e) = false
 
--- the decision about a step: such a message is removed and nothing else, and all else is decided as it is now
+-- That test put back into today's step: such a message is removed, and nothing else. 01 asks for the standing number first; where it does not stand, nothing
+-- comes of the message either way.
 abbrev pub formerDecision : Setup → World → Step → Decision
 formerDecision s w x =
     cond (accepts s w x && (isDeliver x && formerlyIgnored (copyOf s w x) (messageAt (w .tables .queue) (x .place) .kind)))
     (delivered (messageAt (w .tables .queue) (x .place)) (byClient kept (taken (w .tables) (x .place))))
     (decision s w x)
 
+abbrev pub formerlyStepped : Setup → World → Step → World
+formerlyStepped s w x = worldAfter s w (target s (w .tables) x) (formerDecision s w x)
+
 unfoldable pub formerlyRan : Setup → World → List Step → World
 formerlyRan s w [] = w
-formerlyRan s w (x ∷ xs) = formerlyRan s (worldAfter s w (target s (w .tables) x) (formerDecision s w x)) xs
+formerlyRan s w (x ∷ xs) = formerlyRan s (formerlyStepped s w x) xs
+
+unfoldable pub formerAnswers : Setup → World → List Step → List Answer
+formerAnswers s w [] = []
+formerAnswers s w (x ∷ xs) = formerDecision s w x .outcome .answer ∷ formerAnswers s (formerlyStepped s w x) xs
 
 -- ---- on every state that satisfies the invariant
 module _ (s : Setup) (w : World) (inv : Inv s w) where
@@ -103,13 +112,17 @@ always-held s i xs = grants-meet s (ran s (freshWorld s) xs) (run-safe s i xs)
 pub same-decision : (s : Setup) → inRange s ≡ true → (xs : List Step) (x : Step) → formerDecision s (ran s (freshWorld s) xs) x ≡ decision s (ran s (freshWorld s) xs) x
 same-decision s i xs = same-decided s (ran s (freshWorld s) xs) (run-safe s i xs)
 
--- .. and so reach the same states
-same-run-from : (s : Setup) (xs : List Step) (w : World) → SoundWorld s w → Inv s w → formerlyRan s w xs ≡ ran s w xs
-unfolding formerlyRan ran stepped
-same-run-from s [] w k inv = refl
-same-run-from s (x ∷ xs) w k inv =
-    rw (same-decided s w inv x) (same-run-from s xs (stepped s w x) (stepped-sound s w x k) (step-keeps s w x k inv))
+-- .. and so a run by either leaves the same state and gets the same answers
+abbrev pub SameRun : Setup → World → List Step → Type 0
+SameRun s w xs = (formerlyRan s w xs ≡ ran s w xs) × (formerAnswers s w xs ≡ answers s w xs)
 
-pub same-run : (s : Setup) → inRange s ≡ true → (xs : List Step) → formerlyRan s (freshWorld s) xs ≡ ran s (freshWorld s) xs
+same-run-from : (s : Setup) (xs : List Step) (w : World) → SoundWorld s w → Inv s w → SameRun s w xs
+unfolding formerlyRan ran formerAnswers answers stepped
+same-run-from s [] w k inv = (refl, refl)
+same-run-from s (x ∷ xs) w k inv =
+    let rest = same-run-from s xs (stepped s w x) (stepped-sound s w x k) (step-keeps s w x k inv) in
+    (rw (same-decided s w inv x) (rest .0), rw (same-decided s w inv x) (ap (λ (l : List Answer). answerOf s w x ∷ l) (rest .1)))
+
+pub same-run : (s : Setup) → inRange s ≡ true → (xs : List Step) → SameRun s (freshWorld s) xs
 unfolding ran
 same-run s i xs = same-run-from s xs (freshWorld s) (run-sound s i []) (run-safe s i [])

@@ -125,12 +125,12 @@ never-held = (refl, refl, refl)
 pub askedAgain : List Step
 askedAgain = ask 0 0 ∷ deliver ∷ deliver ∷ deliver ∷ ask 0 0 ∷ deliver ∷ deliver ∷ ask 0 0 ∷ deliver ∷ []
 
--- the message at place 0; the version that the client holds; whether its request 3 stands
-abbrev pub met : World → Message × ℕ × Bool
-met w = (messageAt (w .tables .queue) 0, copyAt tiny (w .copies) 0 0 .version, stands (requestAt (w .requests) 0) 3)
+-- how many messages are under way, and the first; the version that the client holds; whether its request 3 stands
+abbrev pub met : World → ℕ × Message × ℕ × Bool
+met w = (w .tables .queue .len, messageAt (w .tables .queue) 0, copyAt tiny (w .copies) 0 0 .version, stands (requestAt (w .requests) 0) 3)
 
 -- the GRANT meets the version that it names; once the client has restarted, its number stands no more and no copy is there
-pub asked-again : (met (ran tiny (freshWorld tiny) askedAgain) ≡ (message 0 (Grant 0 3 10 1 1 100 Same), 1, true))
-    × (met (ran tiny (freshWorld tiny) (askedAgain ++ (step 9 0 0 0 ∷ []))) ≡ (message 0 (Grant 0 3 10 1 1 100 Same), 0, false))
+pub asked-again : (met (ran tiny (freshWorld tiny) askedAgain) ≡ (1, message 0 (Grant 0 3 10 1 1 100 Same), 1, true))
+    × (met (ran tiny (freshWorld tiny) (askedAgain ++ (step 9 0 0 0 ∷ []))) ≡ (1, message 0 (Grant 0 3 10 1 1 100 Same), 0, false))
 unfolding askedAgain tiny ran step foldFrom allFrom firstFrom removeAt storeEach inRange pushed removed freshTables ready settled noted offered lowestWaited volumeRenewed objectRenewed granted mustDrop renewedBy renewed dropTaken disowned dropped dropStaged stands swept sweptAll queueSound tablesSound copiesSound requestsSound sound known exists timely vacant growable refusalOfStep refusal grantReceived offerReceived received askDecided deliverDecided restartDecided performed decided target decision stepped
 asked-again = (refl, refl)

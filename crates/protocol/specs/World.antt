@@ -45,7 +45,7 @@ decision s w x =
     (getD (w .requests) (target s (w .tables) x .client) noRequest)
     x
 
--- what a decision makes of the lent records, and of all
+-- what a decision makes of the lent records, and of the whole world
 abbrev pub copiesAfter : Setup → List Copy → Target → Decision → List Copy
 copiesAfter s l a d = sweptAll s (d .change .sweep) (a .first) (set l (a .copy) (changed (getD l (a .copy) noCopy) (d .change .copy)))
 

@@ -77,8 +77,8 @@ fn a_standing_number_meets_its_version() {
     assert!(other >= FLOOR, "{other}: without the standing number it would not hold");
 }
 
-/// With 01's test and without it, and so with every mistake that is said to
-/// change nothing in a run, its delivery leaves the same.
+/// With 01's test and without it, and likewise with every mistake that is said
+/// to change nothing in a run, its delivery leaves the same.
 #[test]
 fn the_old_test_changes_nothing() {
     assert!(Mistakes::NOT_IN_RUNS.iter().any(|(_, mistakes)| mistakes.no_value_needs_version));

@@ -1,7 +1,7 @@
 -- How far a client is that waits for its read, phase by phase: what is under way, and what it needs to go on. Each phase leads to the next by one step of
 -- the policy (Moves).
 -- Letters: s setup, w world, d client, o object, n the number of its request; `known` says that it is connected.
-use Prim.Native.Nat.{ℕ, _+_, _-_, _<_, _≤_}
+use Prim.Native.Nat.{ℕ, _+_, _<_, _≤_}
 use native.Mathlib.Omega.{arith}
 use mathlib.Core.Bool.{Bool, true}
 use mathlib.Core.Path.{_≡_, _∙_}
