@@ -9,7 +9,7 @@ use borrow.Author.Tests.{lt-ltb, le-ltb}
 use Rattle.laws.specs.Loop.{left-more, left-none}
 use Rattle.layout.specs.Number.{sets-then}
 use Rattle.decimal.specs.Decimal.{digit, digits, further, width, decimal, field, length-digits, length-decimal, decimal-short}
-use Rattle.decimal.specs.Written.{Written, written-then, sets-past}
+use Rattle.output.specs.Written.{Written, written-then, sets-past}
 
 -- ---- digits counted
 module _ (y w A : ℕ) where

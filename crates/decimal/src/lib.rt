@@ -3,7 +3,7 @@ ghost use Prim.Native.Nat.{_+_, _≤_};
 ghost use mathlib.Core.Path.{_≡_};
 ghost use lib.ListN.{length};
 ghost use Rattle.decimal.specs.Decimal.{digit, width, decimal, field};
-ghost use Rattle.decimal.specs.Written.{Written};
+ghost use Rattle.output.specs.Written.{Written};
 
 // How many digits a number has.
 fn width(number: u64) -> usize

@@ -6,10 +6,15 @@ use mathlib.Core.Path.{_≡_}
 use lib.Dec.{eqb}
 use lib.ListN.{length}
 use lib.Seq.{sets}
-use Rattle.run.specs.Listed.{fileListing, listRefusal, listedBytes}
+use Rattle.output.specs.Report.{unlessRefused}
+use Rattle.run.specs.Listed.{fileListing, listRefusal}
 
--- a listing and its length; a call that is refused leaves both as they were
-pub record Lists (file before after : List ℕ) (n m r : ℕ) : Type 0 where
-  pub number : r ≡ listRefusal file (length before)
-  pub written : m ≡ cond (eqb (listRefusal file (length before)) 0) (length (fileListing file)) n
-  pub bytes : after ≡ sets before 0 (listedBytes file (length before))
+-- the bytes b at the start of an output, and their length; a call that is refused leaves both as they were
+pub record Writes (refusal : ℕ) (b before after : List ℕ) (n m r : ℕ) : Type 0 where
+  pub number : r ≡ refusal
+  pub written : m ≡ cond (eqb refusal 0) (length b) n
+  pub bytes : after ≡ sets before 0 (unlessRefused refusal b)
+
+-- a listing
+abbrev pub Lists : List ℕ → List ℕ → List ℕ → ℕ → ℕ → ℕ → Type 0
+Lists file before after n m r = Writes (listRefusal file (length before)) (fileListing file) before after n m r

@@ -3,7 +3,7 @@
 ghost use Rattle.exports.specs.Calls.{Lists};
 ghost use Rattle.frame_numbers.specs.Calls.{EncodesFields, DecodesFields};
 ghost use Rattle.numbers.specs.Numbers.{fieldsFrom};
-use run::Listed;
+use output::Report;
 
 // The listing of a run file's bytes, at the start of the output, and its length. 9 for what is no run file, 8 for an output that is too short.
 #[no_mangle]
@@ -11,11 +11,11 @@ pub extern "C" fn gevtsomi_list(file: &[u8], out: &mut [u8], written: &mut usize
     ensures { λ r. ⌜ Lists (now (file .entry)) (now (out .entry)) (now (out .exit)) (now (written .entry)) (now (written .exit)) r ⌝ }
 {
     match run::list(file, out) {
-        Listed::Written(n) => {
+        Report::Written(n) => {
             *written = n;
             0
         }
-        Listed::Refused(k) => k,
+        Report::Refused(k) => k,
     }
 }
 

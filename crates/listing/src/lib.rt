@@ -1,29 +1,15 @@
 // The listing of a run in bytes (01, "Frame, run file and listing"). Each function writes at a place of a lent output, and gives the place after.
 ghost use Prim.Native.Nat.{_+_, _≤_};
 ghost use lib.ListN.{length};
-ghost use Rattle.decimal.specs.Written.{Written};
+ghost use Rattle.output.specs.Written.{Written};
 ghost use Rattle.listing.specs.Listing.{header, line, lineOf, refusedListing};
 use protocol::step::Answer;
-
-// Any bytes.
-pub fn write_bytes(out: &mut [u8], at: usize, bytes: &[u8]) -> usize
-    requires { ⌜ at + length (now bytes) ≤ length (now out) ⌝ }
-    ensures { λ r. ⌜ Written (now (out .entry)) (now (out .exit)) at (now (bytes .entry)) r ⌝ }
-{
-    let n = bytes.len();
-    let mut i = 0;
-    while i < n {
-        out[at + i] = bytes[i];
-        i += 1;
-    }
-    at + n
-}
 
 pub fn write_header(out: &mut [u8], at: usize) -> usize
     requires { ⌜ at + 18 ≤ length (now out) ⌝ }
     ensures { λ r. ⌜ Written (now (out .entry)) (now (out .exit)) at header r ⌝ }
 {
-    write_bytes(out, at, b"step answer value\n")
+    output::write_bytes(out, at, b"step answer value\n")
 }
 
 // A line of three numbers.

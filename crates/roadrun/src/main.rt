@@ -4,11 +4,11 @@ mod input;
 
 ghost use Prim.Native.Nat.{_≤_};
 ghost use lib.ListN.{length};
-ghost use Rattle.decimal.specs.Written.{Written};
+ghost use Rattle.output.specs.Written.{Written};
 ghost use Rattle.roadrun.specs.Printed.{printed};
 use input::Input;
 use libc::STDOUT_FILENO;
-use run::Listed;
+use output::Report;
 
 // What is printed of a file's bytes, at the start of an output that has room for any: so a call that is refused met a file that is.
 fn print(file: &[u8], out: &mut [u8]) -> usize
@@ -16,8 +16,8 @@ fn print(file: &[u8], out: &mut [u8]) -> usize
     ensures { λ r. ⌜ Written (now (out .entry)) (now (out .exit)) 0 (printed (now (file .entry))) r ⌝ }
 {
     match run::list(file, out) {
-        Listed::Written(n) => n,
-        Listed::Refused(_) => listing::write_refused(out, 0),
+        Report::Written(n) => n,
+        Report::Refused(_) => listing::write_refused(out, 0),
     }
 }
 

@@ -4,20 +4,21 @@ use native.Mathlib.Omega.{arith}
 use mathlib.Core.Bool.{false}
 use mathlib.Core.List.{List, _++_}
 use mathlib.Core.Logic.{⊎-elim}
-use mathlib.Core.Path.{_≡_, sym, ap, _∙_}
+use mathlib.Core.Path.{_≡_, refl, ap, _∙_}
 use lib.ListN.{length, take, drop}
-use lib.Seq.{sets, sets-eq, take-append-seam, length-take-le}
+use lib.Seq.{sets-eq, take-append-seam, length-take-le}
 use Rattle.laws.specs.Choice.{true-or-false}
 use Rattle.shape.specs.Shape.{countOf, firstPlace, wellFormed}
 use Rattle.runfile.specs.declared.Contents.{Contents}
 use Rattle.runfile.specs.File.{contents, contentsOf}
 use Rattle.runfile.specs.Reading.{formed, contents-read, accepted}
 use Rattle.listing.specs.Listing.{header, length-header}
-use Rattle.decimal.specs.Written.{Written, written-then}
+use Rattle.output.specs.Written.{Written, written-then}
 use Rattle.run_steps.specs.Ran.{linesOf}
-use Rattle.run.specs.declared.Listed.{Listed}
-use Rattle.run.specs.declared.Listed.the-variants as listing-answer
-use Rattle.run.specs.Listed.{setupOf, answersOf, fileListing, listRefusal, listedBytes, listedNumber, listedLength, listing-fits, listed-all, listed-short, listed-none}
+use Rattle.output.specs.declared.Report.{Report}
+use Rattle.output.specs.declared.Report.the-variants as report
+use Rattle.output.specs.Report.{Reports, all-written, none-written}
+use Rattle.run.specs.Listed.{setupOf, answersOf, fileListing, listRefusal, listing-fits, listed-all, listed-short, listed-none}
 
 -- ---- a file read
 module _ (l : List ℕ) (r : Contents) (e : r ≡ contentsOf l) where
@@ -39,15 +40,12 @@ module _ (l : List ℕ) (r : Contents) (e : r ≡ contentsOf l) where
     print-written out′ next g = written-then out₀ out out′ 0 at next header _ w (rw read-is at g)
 
 -- ---- a listing copied into the lent output
-abbrev Does : List ℕ → List ℕ → List ℕ → Listed → Type 0
-Does l out out′ r =
-    (listedNumber r ≡ listRefusal l (length out)) × ((listedLength r ≡ length (listedBytes l (length out))) × (out′ ≡ sets out 0 (listedBytes l (length out))))
+abbrev Does : List ℕ → List ℕ → List ℕ → Report → Type 0
+Does l out out′ r = Reports (listRefusal l (length out)) (fileListing l) out out′ r
 
 module _ (l : List ℕ) (r : Contents) (e : r ≡ contentsOf l) where
-  pub list-refused : (out : List ℕ) → (r .refusal ≡ 0 → ⊥) → Does l out out (listing-answer.Refused 9)
-  list-refused out a =
-      let f = listed-none l (length out) (refused l r e a) in
-      (sym (f .0), (rw (f .1), rw (f .1)))
+  pub list-refused : (out : List ℕ) → (r .refusal ≡ 0 → ⊥) → Does l out out (report.Refused 9)
+  list-refused out a = none-written _ _ out 9 (listed-none l (length out) (refused l r e a)) refl
 
   module _ (a : r .refusal ≡ 0) (room buffer : List ℕ) (n : ℕ) (k : length room ≡ 112640) (w : Written room buffer 0 (fileListing l) n) where
     fits : length (fileListing l) ≤ 112640
@@ -66,12 +64,11 @@ module _ (l : List ℕ) (r : Contents) (e : r ≡ contentsOf l) where
         rw (i, b) (take-append-seam (fileListing l) (drop (0 + length (fileListing l)) room))
 
     module _ (out : List ℕ) where
-      pub list-written : (out′ : List ℕ) (end : ℕ) → n ≤ length out → Written out out′ 0 (take n buffer) end → Does l out out′ (listing-answer.Written n)
+      pub list-written : (out′ : List ℕ) (end : ℕ) → n ≤ length out → Written out out′ 0 (take n buffer) end → Does l out out′ (report.Written n)
       list-written out′ end h g =
-          let f = listed-all l (length out) (formed l r e a) (omega (arith, w .next)) in
-          (sym (f .0), (rw (f .1) (omega (arith, w .next)), rw (f .1, ← taken) (g .bytes .stored)))
+          let i : n ≡ length (fileListing l) = omega (arith, w .next) in
+          let f = listed-all l (length out) (formed l r e a) (omega arith) in
+          rw i (all-written _ _ out out′ f (rw taken at (g .bytes .stored)))
 
-      pub list-short : length out < n → Does l out out (listing-answer.Refused 8)
-      list-short h =
-          let f = listed-short l (length out) (formed l r e a) (omega (arith, w .next)) in
-          (sym (f .0), (rw (f .1), rw (f .1)))
+      pub list-short : length out < n → Does l out out (report.Refused 8)
+      list-short h = none-written _ _ out 8 (listed-short l (length out) (formed l r e a) (omega (arith, w .next))) refl

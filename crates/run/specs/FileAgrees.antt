@@ -9,7 +9,7 @@ use Rattle.shape.specs.Parts.{formed-in-range}
 use Rattle.runfile.specs.Steps.{stepsOf}
 use Rattle.listing.specs.Listing.{listingOf}
 use Rattle.promises.specs.Calls.{Calls, Kept, calls-answer, calls-there, calls-keep, calls-in-words}
-use Rattle.run.specs.Listed.{setupOf, answersOf, leftBy, fileListing, listRefusal, listedBytes, listed-formed}
+use Rattle.run.specs.Listed.{setupOf, answersOf, leftBy, fileListing, listRefusal, listed-formed}
 
 -- The bytes are the listing of answers that, with the world left after them, are those of the file's steps, agree with the ledger after every step, and
 -- with the customer's words about the history
@@ -18,18 +18,18 @@ pub record FileAgrees (l bytes : List ℕ) (rs : List Answer) (u : World) : Type
   pub kept : Kept (setupOf l) (stepsOf l) rs u
   pub words : HistoryAgrees (setupOf l) (stepsOf l) rs u
 
--- what is written for a file that is not refused is what a program would print that calls the public step over and over, from fresh tables on, with the
+-- the listing of a file that is not refused, which is what is written, is what a program would print that calls the public step over and over, from fresh tables on, with the
 -- file's steps
 pub file-as-calls : (l : List ℕ) (n : ℕ) (rs : List Answer) (u : World) → listRefusal l n ≡ 0 → Calls (setupOf l) (freshWorld (setupOf l)) (stepsOf l) rs u
-    → FileAgrees l (listedBytes l n) rs u
-unfolding listedBytes fileListing answersOf
+    → FileAgrees l (fileListing l) rs u
+unfolding fileListing answersOf
 file-as-calls l n rs u e c = record {
-  listing = rw (e, calls-answer (setupOf l) c);
+  listing = rw (calls-answer (setupOf l) c);
   kept = calls-keep (setupOf l) (stepsOf l) rs u c;
   words = calls-in-words (setupOf l) (formed-in-range l (listed-formed l n e)) (stepsOf l) rs u c;
 }
 
 -- and so it is of the run's own answers and what it leaves
-pub file-agrees : (l : List ℕ) (n : ℕ) → listRefusal l n ≡ 0 → FileAgrees l (listedBytes l n) (answersOf l) (leftBy l)
+pub file-agrees : (l : List ℕ) (n : ℕ) → listRefusal l n ≡ 0 → FileAgrees l (fileListing l) (answersOf l) (leftBy l)
 unfolding answersOf leftBy
 file-agrees l n e = file-as-calls l n (answersOf l) (leftBy l) e (calls-there (setupOf l) (freshWorld (setupOf l)) (stepsOf l))

@@ -1,12 +1,12 @@
 -- The listing of a run file's bytes, and what a call that lists them answers and writes.
 use Prim.Native.Nat.{ℕ, suc, _<_, _≤_}
 use native.Mathlib.Omega.{arith}
-use mathlib.Core.Bool.{true, false, cond}
+use mathlib.Core.Bool.{true, false}
 use mathlib.Core.List.{List, [], _∷_}
 use mathlib.Core.Logic.{⊎-elim}
 use mathlib.Core.Path.{_≡_, refl, sym, ap, _∙_}
-use lib.Dec.{leb, eqb}
-use lib.ListN.{length, length-append}
+use lib.Dec.{leb}
+use lib.ListN.{length}
 use borrow.Author.Tests.{le-leb, lt-leb}
 use Rattle.laws.specs.Choice.{true-or-false}
 use Rattle.protocol.specs.declared.setup.Setup.{Setup}
@@ -18,9 +18,7 @@ use Rattle.file_records.specs.Records.{setupIn}
 use Rattle.shape.specs.Shape.{setupPlace, wellFormed}
 use Rattle.shape.specs.Parts.{Parts, formed-parts}
 use Rattle.runfile.specs.Steps.{stepsOf, length-steps}
-use Rattle.listing.specs.Listing.{header, linesFrom, listingOf, length-header, listing-short}
-use Rattle.run.specs.declared.Listed.{Listed}
-use Rattle.run.specs.declared.Listed.the-variants.{Written, Refused}
+use Rattle.listing.specs.Listing.{listingOf, listing-short}
 
 abbrev pub setupOf : List ℕ → Setup
 setupOf l = setupIn l (setupPlace l)
@@ -42,20 +40,6 @@ fileListing l = listingOf (answersOf l)
 unfoldable pub listRefusal : List ℕ → ℕ → ℕ
 listRefusal l n = orRefuse (wellFormed l) 9 (orRefuse (leb (length (fileListing l)) n) 8 0)
 
--- what the call writes: the listing, or, where it is refused, nothing ("every lent table and buffer is unchanged")
-unfoldable pub listedBytes : List ℕ → ℕ → List ℕ
-listedBytes l n = cond (eqb (listRefusal l n) 0) (fileListing l) []
-
--- 01's number of the answer: 0 where the listing was written
-abbrev pub listedNumber : Listed → ℕ
-listedNumber (Written n) = 0
-listedNumber (Refused k) = k
-
--- how many bytes were written
-abbrev pub listedLength : Listed → ℕ
-listedLength (Written n) = n
-listedLength (Refused k) = 0
-
 -- ---- a buffer of a fixed size holds any listing
 length-answers : (s : Setup) (w : World) (xs : List Step) → length (answers s w xs) ≡ length xs
 unfolding answers
@@ -71,29 +55,21 @@ listing-fits l e = omega (arith, listing-short (answersOf l) (few (formed-parts 
 
 -- ---- what each way through the call comes to
 module _ (l : List ℕ) (n : ℕ) where
-  pub listed-all : wellFormed l ≡ true → length (fileListing l) ≤ n → (listRefusal l n ≡ 0) × (listedBytes l n ≡ fileListing l)
-  unfolding listRefusal listedBytes
-  listed-all e h = (rw (e, le-leb _ _ h), rw (e, le-leb _ _ h))
+  pub listed-all : wellFormed l ≡ true → length (fileListing l) ≤ n → listRefusal l n ≡ 0
+  unfolding listRefusal
+  listed-all e h = rw (e, le-leb _ _ h)
 
-  pub listed-short : wellFormed l ≡ true → n < length (fileListing l) → (listRefusal l n ≡ 8) × (listedBytes l n ≡ [])
-  unfolding listRefusal listedBytes
-  listed-short e h = (rw (e, lt-leb _ _ h), rw (e, lt-leb _ _ h))
+  pub listed-short : wellFormed l ≡ true → n < length (fileListing l) → listRefusal l n ≡ 8
+  unfolding listRefusal
+  listed-short e h = rw (e, lt-leb _ _ h)
 
-  pub listed-none : wellFormed l ≡ false → (listRefusal l n ≡ 9) × (listedBytes l n ≡ [])
-  unfolding listRefusal listedBytes
-  listed-none e = (rw e, rw e)
+  pub listed-none : wellFormed l ≡ false → listRefusal l n ≡ 9
+  unfolding listRefusal
+  listed-none e = rw e
 
   -- what is not refused is a run file
   pub listed-formed : listRefusal l n ≡ 0 → wellFormed l ≡ true
-  listed-formed e = ⊎-elim (λ t. t) (λ t. absurd (never (sym (listed-none t .0) ∙ e))) (true-or-false (wellFormed l))
+  listed-formed e = ⊎-elim (λ t. t) (λ t. absurd (never (sym (listed-none t) ∙ e))) (true-or-false (wellFormed l))
     where
       never : _≡_ {A = ℕ} 9 0 → ⊥
       never q = omega arith
-
-  -- a call that writes nothing is refused: every listing has its header
-  pub none-refused : length (listedBytes l n) ≡ 0 → eqb (listRefusal l n) 0 ≡ false
-  unfolding listedBytes fileListing
-  none-refused e = ⊎-elim (λ t. absurd (headed (rw t at e))) (λ t. t) (true-or-false (eqb (listRefusal l n) 0))
-    where
-      headed : length (listingOf (answersOf l)) ≡ 0 → ⊥
-      headed h = omega (arith, length-append header (linesFrom 1 (answersOf l)), length-header)

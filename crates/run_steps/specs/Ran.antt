@@ -20,7 +20,7 @@ use Rattle.runfile.specs.File.{stepAt}
 use Rattle.runfile.specs.Steps.{stepsOf, stepsLeft, left-first, left-next, left-last}
 use Rattle.listing.specs.Listing.{lineOf, linesFrom, line-short, answer-small}
 use Rattle.layout.specs.Number.{sets-then}
-use Rattle.decimal.specs.Written.{Written}
+use Rattle.output.specs.Written.{Written}
 
 -- where a run of file l stands that left world w after k steps: what is left of it writes the lines that are missing from `whole`
 pub record Going (s : Setup) (l : List ℕ) (start : ℕ) (whole : List ℕ) (end : ℕ) (w : World) (out : List ℕ) (at k : ℕ) : Type 0 where

@@ -2,7 +2,7 @@
 ghost use Prim.Native.Nat.{_+_, _*_, _≤_};
 ghost use mathlib.Core.Path.{_≡_};
 ghost use lib.ListN.{length};
-ghost use Rattle.decimal.specs.Written.{Written};
+ghost use Rattle.output.specs.Written.{Written};
 ghost use Rattle.runfile.specs.File.{contentsOf};
 ghost use Rattle.run_steps.specs.Ran.{linesOf};
 use runfile::Contents;

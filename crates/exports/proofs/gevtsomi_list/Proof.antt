@@ -1,4 +1,4 @@
-use Rattle.exports.proofs.Laws.{list-written, list-refused}
+use Rattle.exports.proofs.Laws.{told-written, told-refused}
 use borrow.Author.Needs.{needs}
 use Rattle.exports.proofs.gevtsomi_list.Statement.{statement}
 use Rattle.exports.proofs.gevtsomi_list.Tie as tie
@@ -16,13 +16,13 @@ same-length : tie.Need-same-length
 same-length c = search needs
 
 returns : tie.Need-returns
-returns c = search list-written
+returns c = search told-written
 
 same-length-2 : tie.Need-same-length-2
 same-length-2 c = search needs
 
 returns-2 : tie.Need-returns-2
-returns-2 c = search list-refused
+returns-2 c = search told-refused
 
 pub gevtsomi-list-spec : {M : Type 1} → statement M
 gevtsomi-list-spec =

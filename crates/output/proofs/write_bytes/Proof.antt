@@ -4,9 +4,9 @@ use native.Mathlib.Nat.{add-zero}
 use mathlib.Core.Path.{_≡_, refl}
 use lib.ListN.{length, drop, length-set}
 use lib.Seq.{sets}
-use Rattle.listing.proofs.Laws.{bytes-again, bytes-written}
-use Rattle.listing.proofs.write_bytes.Statement.{statement}
-use Rattle.listing.proofs.write_bytes.Tie as tie
+use Rattle.output.proofs.Laws.{bytes-again, bytes-written}
+use Rattle.output.proofs.write_bytes.Statement.{statement}
+use Rattle.output.proofs.write_bytes.Tie as tie
 
 abbrev Inv-loop : tie.InvT-loop
 Inv-loop out₀ at s n i₀ out i = (i ≤ length s) × ((length out ≡ length out₀) × (sets out (at + i) (drop i s) ≡ sets out₀ at s))
