@@ -3,24 +3,10 @@ use frame::Decoded;
 use frame::Encoded;
 use protocol::message::Kind;
 use protocol::message::Message;
-
-fn number(n: u64) {
-    io::print_decimal(1, n);
-    io::write_all(1, b" ");
-}
-
-fn byte(b: u8) {
-    io::print_hex(1, b as u64, 2);
-}
-
-fn bytes(s: &[u8]) {
-    let mut i = 0;
-    while i < s.len() {
-        byte(s[i]);
-        i += 1;
-    }
-    io::write_all(1, b"\n");
-}
+use test_lines::bytes;
+use test_lines::end;
+use test_lines::last;
+use test_lines::number;
 
 fn fields(f: Fields) {
     number(f.kind as u64);
@@ -47,14 +33,13 @@ fn again(m: Message) {
     let mut out = [238u8; 36];
     encoded(frame::encode(m, &mut out));
     bytes(&out);
+    end();
 }
 
 pub fn frame(s: &[u8]) {
     match frame::decode(s) {
         Decoded::Accepted(m) => again(m),
-        Decoded::Refused => {
-            io::write_all(1, b"8\n");
-        }
+        Decoded::Refused => last(8),
     }
 }
 
@@ -68,4 +53,5 @@ pub fn short_output() {
     let mut out = [238u8; 31];
     encoded(frame::encode(Message { client: 0, kind }, &mut out));
     bytes(&out);
+    end();
 }

@@ -1,17 +1,10 @@
 ghost use mathlib.Core.Path.{_≡_};
 ghost use Rattle.shape.specs.Places.{trailerPlace};
 use protocol::setup::Setup;
-use protocol::step::Step;
-
-fn number(n: u64) {
-    io::print_decimal(1, n);
-    io::write_all(1, b" ");
-}
-
-fn last(n: u64) {
-    io::print_decimal(1, n);
-    io::write_all(1, b"\n");
-}
+use test_lines::bytes;
+use test_lines::last;
+use test_lines::number;
+use test_lines::step;
 
 fn setup(s: Setup) {
     number(s.clients as u64);
@@ -24,15 +17,6 @@ fn setup(s: Setup) {
     number(s.volume[31] as u64);
 }
 
-fn step(x: Step) {
-    number(x.kind as u64);
-    number(x.client as u64);
-    number(x.object as u64);
-    number(x.place as u64);
-    number(x.clock as u64);
-    last(x.value);
-}
-
 // The bytes from one place up to another.
 pub fn cut(f: &[u8], from: usize, to: usize) -> &[u8] {
     if from <= to {
@@ -41,18 +25,6 @@ pub fn cut(f: &[u8], from: usize, to: usize) -> &[u8] {
         }
     }
     &f[..0]
-}
-
-fn byte(b: u8) {
-    io::print_hex(1, b as u64, 2);
-}
-
-fn bytes(s: &[u8]) {
-    let mut i = 0;
-    while i < s.len() {
-        byte(s[i]);
-        i += 1;
-    }
 }
 
 // The note's length, and its bytes in brackets.

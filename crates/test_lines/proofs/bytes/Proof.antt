@@ -1,8 +1,8 @@
 use Prim.Native.Nat.{_≤_, _-_}
 use lib.ListN.{length}
 use borrow.Author.Needs.{needs}
-use Rattle.runfile_test.proofs.show.bytes.Statement.{statement}
-use Rattle.runfile_test.proofs.show.bytes.Tie as tie
+use Rattle.test_lines.proofs.bytes.Statement.{statement}
+use Rattle.test_lines.proofs.bytes.Tie as tie
 
 abbrev Inv-loop : tie.InvT-loop
 Inv-loop s i₀ i = 0 ≤ i
