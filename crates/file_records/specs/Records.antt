@@ -1,7 +1,7 @@
 -- 01, "Frame, run file and listing": what a setup and a step are in a run file's bytes.
 use Prim.Native.Nat.{ℕ, _+_}
 use mathlib.Core.List.{List}
-use lib.ListN.{getD}
+use lib.ListN.{getD, replicate}
 use Rattle.layout.specs.Number.{bytesAt, numberAt}
 use Rattle.protocol.specs.declared.setup.Setup.{Setup}
 use Rattle.protocol.specs.declared.step.Step.{Step}
@@ -28,6 +28,10 @@ stepIn l p = record {
   clock = numberAt l (p + 4) 4;
   value = numberAt l (p + 8) 8;
 }
+
+-- a setup with nothing in it, which is out of range
+abbrev pub noSetup : Setup
+noSetup = record { clients = 0; volumes = 0; objects = 0; tv = 0; t = 0; m = 0; volume = replicate 32 0 }
 
 -- a step with nothing in it
 abbrev pub noStep : Step

@@ -3,7 +3,7 @@ ghost use Prim.Native.Nat.{_+_, _≤_};
 ghost use mathlib.Core.Path.{_≡_};
 ghost use lib.ListN.{length};
 ghost use Rattle.layout.specs.Number.{bytesAt};
-ghost use Rattle.file_records.specs.Records.{setupIn, stepIn, noStep};
+ghost use Rattle.file_records.specs.Records.{setupIn, stepIn, noSetup, noStep};
 use protocol::setup::Setup;
 use protocol::step::Step;
 
@@ -52,6 +52,21 @@ pub fn step_in(file: &[u8], at: usize) -> Step
         place: file[at + 3],
         clock: layout::read_u32(file, at + 4),
         value: layout::read_u64(file, at + 8),
+    }
+}
+
+pub fn no_setup() -> Setup
+    ensures { λ r. ⌜ r ≡ noSetup ⌝ }
+{
+    let volume = [0u8; 32];
+    Setup {
+        clients: 0,
+        volumes: 0,
+        objects: 0,
+        tv: 0,
+        t: 0,
+        m: 0,
+        volume,
     }
 }
 

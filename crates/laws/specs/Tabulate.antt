@@ -3,7 +3,7 @@ use Prim.Native.Nat.{ℕ, zero, suc, _+_, _<_, _≤_}
 use native.Mathlib.Omega.{arith}
 use mathlib.Core.List.{List, [], _∷_, _++_}
 use mathlib.Core.Path.{_≡_, refl, ap, _∙_}
-use lib.ListN.{getD, set, replicate}
+use lib.ListN.{length, getD, set, replicate}
 use Rattle.laws.specs.Lists.{removeAt}
 
 module _ {A : Type 0} where
@@ -32,8 +32,23 @@ module _ {A : Type 0} where
   tabulate-one f a b zero h = refl
   tabulate-one f a b (suc n) h = rw (h b (omega arith) (omega arith)) (ap (_∷_ a) (tabulate-one f a (b + 1) n (λ j k l. h j (omega arith) (omega arith))))
 
+  pub length-tabulate : (f : ℕ → A) (b n : ℕ) → length (tabulate f b n) ≡ n
+  unfolding tabulate
+  length-tabulate f b zero = refl
+  length-tabulate f b (suc n) = ap suc (length-tabulate f (b + 1) n)
+
+  -- one more at the end
+  pub tabulate-more : (f : ℕ → A) (b n : ℕ) → tabulate f b (suc n) ≡ tabulate f b n ++ (f (b + n) ∷ [])
+  unfolding tabulate
+  tabulate-more f b zero =
+      let e : b + 0 ≡ b = omega arith in
+      rw e
+  tabulate-more f b (suc n) =
+      let e : (b + 1) + n ≡ b + suc n = omega arith in
+      ap (_∷_ (f b)) (rw (← e) (tabulate-more f (b + 1) n))
+
   module _ (f g : ℕ → A) where
-    tabulate-same : (b n : ℕ) → ((j : ℕ) → b ≤ j → j < b + n → g j ≡ f j) → tabulate g b n ≡ tabulate f b n
+    pub tabulate-same : (b n : ℕ) → ((j : ℕ) → b ≤ j → j < b + n → g j ≡ f j) → tabulate g b n ≡ tabulate f b n
     unfolding tabulate
     tabulate-same b zero h = refl
     tabulate-same b (suc n) h =

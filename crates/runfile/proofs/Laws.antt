@@ -9,11 +9,14 @@ use lib.Seq.{length-take-le}
 use borrow.Author.Tests.{le-leb, lt-leb}
 use Rattle.protocol.specs.declared.setup.Setup.{Setup}
 use Rattle.protocol.specs.declared.step.Step.{Step}
-use Rattle.file_records.specs.Records.{setupIn, stepIn, noStep}
+use Rattle.file_records.specs.Records.{setupIn, stepIn, noSetup, noStep}
 use Rattle.shape.specs.Shape.{countOf, setupPlace, wellFormed}
 use Rattle.shape.specs.Parts.{Parts, formed-parts}
 use Rattle.runfile.specs.declared.Contents.{Contents}
 use Rattle.runfile.specs.File.{stepAt, contents, contentsOf, noContents, noteOf}
+
+pub refused-by : (s : Setup) → s ≡ noSetup → contents 9 s 0 0 ≡ noContents
+refused-by s e = rw e
 
 module _ (l : List ℕ) where
   pub formed-by : (w : Bool) → w ≡ wellFormed l → w ≡ true → Parts l

@@ -3,20 +3,17 @@ use Prim.Native.Nat.{ℕ, _+_}
 use mathlib.Core.Bool.{cond}
 use mathlib.Core.List.{List, []}
 use lib.Dec.{leb}
-use lib.ListN.{length, take, replicate}
+use lib.ListN.{length, take}
 use Rattle.protocol.specs.declared.setup.Setup.{Setup}
 use Rattle.protocol.specs.declared.step.Step.{Step}
-use Rattle.file_records.specs.Records.{setupIn, stepIn, noStep}
+use Rattle.file_records.specs.Records.{setupIn, stepIn, noSetup, noStep}
 use Rattle.shape.specs.Shape.{countOf, setupPlace, firstPlace, wellFormed}
 use Rattle.runfile.specs.declared.Contents.{Contents}
-
--- what is read of a file that is refused
-abbrev pub noSetup : Setup
-noSetup = record { clients = 0; volumes = 0; objects = 0; tv = 0; t = 0; m = 0; volume = replicate 32 0 }
 
 abbrev pub contents : ℕ → Setup → ℕ → ℕ → Contents
 contents refusal s count first = record { refusal = refusal; setup = s; count = count; first = first }
 
+-- what is read of a file that is refused
 abbrev pub noContents : Contents
 noContents = contents 9 noSetup 0 0
 

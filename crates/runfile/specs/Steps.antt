@@ -30,7 +30,7 @@ pub length-steps : (l : List ℕ) → length (stepsOf l) ≡ countOf l
 unfolding stepsOf
 length-steps l = length-from l (firstPlace l) (countOf l)
 
-from-at : (l : List ℕ) (p n k : ℕ) (d : Step) → k < n → getD (stepsFrom l p n) k d ≡ stepIn l (placeOf p k)
+pub from-at : (l : List ℕ) (p n k : ℕ) (d : Step) → k < n → getD (stepsFrom l p n) k d ≡ stepIn l (placeOf p k)
 unfolding stepsFrom
 from-at l p zero k d h = absurd (omega arith)
 from-at l p (suc n) zero d h =

@@ -16,19 +16,9 @@ pub struct Contents {
 fn refused() -> Contents
     ensures { λ r. ⌜ r ≡ noContents ⌝ }
 {
-    let volume = [0u8; 32];
-    let setup = Setup {
-        clients: 0,
-        volumes: 0,
-        objects: 0,
-        tv: 0,
-        t: 0,
-        m: 0,
-        volume,
-    };
     Contents {
         refusal: 9,
-        setup,
+        setup: file_records::no_setup(),
         count: 0,
         first: 0,
     }

@@ -40,11 +40,17 @@ pub formed-parts : (l : List ℕ) → wellFormed l ≡ true → Parts l
 unfolding wellFormed
 formed-parts l e = parts l (and-true (measured l) (contentsFit l) e .0)
 
--- its setup is in range
-pub formed-in-range : (l : List ℕ) → wellFormed l ≡ true → inRange (setupIn l (setupPlace l)) ≡ true
+-- its setup is in range, after counts that a 0 follows
+formed-setup : (l : List ℕ) → wellFormed l ≡ true → (eqb (reserved l (setupPlace l)) 0 ≡ true) × (inRange (setupIn l (setupPlace l)) ≡ true)
 unfolding wellFormed contentsFit
-formed-in-range l e =
+formed-setup l e =
     let p : ℕ = setupPlace l in
     let a = and-true (measured l) (contentsFit l) e .1 in
     let b = and-true (eqb (reserved l p) 0 && inRange (setupIn l p)) (stepsFit l (firstPlace l) (countOf l)) a .0 in
-    and-true (eqb (reserved l p) 0) (inRange (setupIn l p)) b .1
+    and-true (eqb (reserved l p) 0) (inRange (setupIn l p)) b
+
+pub formed-spare : (l : List ℕ) → wellFormed l ≡ true → reserved l (setupPlace l) ≡ 0
+formed-spare l e = eqb-true _ _ (formed-setup l e .0)
+
+pub formed-in-range : (l : List ℕ) → wellFormed l ≡ true → inRange (setupIn l (setupPlace l)) ≡ true
+formed-in-range l e = formed-setup l e .1

@@ -6,7 +6,7 @@ ghost use Rattle.shape.specs.Parts.{Parts};
 use protocol::step::Step;
 
 // A field that the step's kind does not use is 0; an unknown kind is asked nothing.
-fn step_fits(step: Step) -> bool
+pub fn step_fits(step: Step) -> bool
     ensures { λ r. ⌜ r ≡ stepFits step ⌝ }
 {
     let client = kinds::uses_client(step) | (step.client == 0);

@@ -1,10 +1,13 @@
--- Rattle proves this by itself; the file is here so that a must-fail edit is refused at the fact that fails.
+use Rattle.runfile.proofs.Laws.{refused-by}
 use borrow.Author.Needs.{needs}
 use Rattle.runfile.proofs.refused.Statement.{statement}
 use Rattle.runfile.proofs.refused.Tie as tie
 
+no-setup-requires : tie.Need-no-setup-requires
+no-setup-requires c κs = search needs
+
 returns : tie.Need-returns
-returns c = search needs
+returns c = refused-by _ (c .no-setup .ensures)
 
 pub refused-spec : {M : Type 1} → statement M
-refused-spec = tie.close (tie.spec returns)
+refused-spec = tie.close (tie.spec no-setup-requires returns)

@@ -1,0 +1,73 @@
+// The records of a run file as bytes of a lent output: a setup, a step, the trailer. Each function writes at a place where callers see to it that there is
+// room, and gives the place after.
+ghost use Prim.Native.Nat.{_+_, _≤_};
+ghost use mathlib.Core.Bool.{true};
+ghost use mathlib.Core.List.{[], _∷_};
+ghost use mathlib.Core.Path.{_≡_};
+ghost use lib.ListN.{length};
+ghost use Rattle.protocol.specs.Setup.{inRange};
+ghost use Rattle.layout.specs.Number.{Stored};
+ghost use Rattle.output.specs.Written.{Written};
+ghost use Rattle.record_bytes.specs.Bytes.{setupFront, setupBytes, stepBytes, trailerBytes};
+use protocol::setup::Setup;
+use protocol::step::Step;
+
+fn write_head(out: &mut [u8], at: usize, a: u8, b: u8, c: u8, d: u8)
+    requires { ⌜ at + 4 ≤ length (now out) ⌝ }
+    ensures { λ _. ⌜ Stored (now (out .entry)) (now (out .exit)) at (a ∷ (b ∷ (c ∷ (d ∷ [])))) ⌝ }
+{
+    out[at] = a;
+    out[at + 1] = b;
+    out[at + 2] = c;
+    out[at + 3] = d;
+}
+
+// The counts and durations of a setup in range: its counts are bytes.
+fn write_front(out: &mut [u8], at: usize, setup: Setup)
+    requires { ⌜ at + 16 ≤ length (now out) ⌝ }
+    requires { ⌜ inRange setup ≡ true ⌝ }
+    ensures { λ _. ⌜ Stored (now (out .entry)) (now (out .exit)) at (setupFront setup) ⌝ }
+{
+    write_head(
+        out,
+        at,
+        setup.clients as u8,
+        setup.volumes as u8,
+        setup.objects as u8,
+        0,
+    );
+    layout::write_u32(out, at + 4, setup.tv);
+    layout::write_u32(out, at + 8, setup.t);
+    layout::write_u32(out, at + 12, setup.m);
+}
+
+pub fn write_setup(out: &mut [u8], at: usize, setup: Setup) -> usize
+    requires { ⌜ at + 48 ≤ length (now out) ⌝ }
+    requires { ⌜ inRange setup ≡ true ⌝ }
+    ensures written { λ r. ⌜ Written (now (out .entry)) (now (out .exit)) at (setupBytes setup) r ⌝ }
+    ensures place { λ r. ⌜ r ≡ at + 48 ⌝ }
+{
+    write_front(out, at, setup);
+    let volume = setup.volume;
+    output::write_bytes(out, at + 16, &volume)
+}
+
+pub fn write_step(out: &mut [u8], at: usize, step: Step) -> usize
+    requires { ⌜ at + 16 ≤ length (now out) ⌝ }
+    ensures { λ r. ⌜ Written (now (out .entry)) (now (out .exit)) at (stepBytes step) r ⌝ }
+{
+    write_head(out, at, step.kind, step.client, step.object, step.place);
+    layout::write_u32(out, at + 4, step.clock);
+    layout::write_u64(out, at + 8, step.value);
+    at + 16
+}
+
+pub fn write_trailer(out: &mut [u8], at: usize, count: u32) -> usize
+    requires { ⌜ at + 8 ≤ length (now out) ⌝ }
+    requires { ⌜ count ≤ 4000 ⌝ }
+    ensures { λ r. ⌜ Written (now (out .entry)) (now (out .exit)) at (trailerBytes count) r ⌝ }
+{
+    layout::write_u32(out, at, count);
+    layout::write_u32(out, at + 4, 56 + 16 * count);
+    at + 8
+}

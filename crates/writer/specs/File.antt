@@ -1,0 +1,50 @@
+-- 02, A5: what the writer of run files asks before it writes.
+use Prim.Native.Nat.{ℕ, _≤_}
+use mathlib.Core.Bool.{Bool, true, _&&_}
+use mathlib.Core.List.{List}
+use mathlib.Core.Path.{_≡_}
+use lib.Dec.{leb}
+use lib.ListN.{length, getD}
+use borrow.Author.Tests.{leb-true}
+use Rattle.laws.specs.Choice.{and-true}
+use Rattle.laws.specs.Loop.{allFrom}
+use Rattle.protocol.specs.declared.setup.Setup.{Setup}
+use Rattle.protocol.specs.declared.step.Step.{Step}
+use Rattle.protocol.specs.Setup.{inRange}
+use Rattle.protocol.specs.Gate.{orRefuse}
+use Rattle.file_records.specs.Records.{noStep}
+use Rattle.shape.specs.Shape.{stepFits}
+use Rattle.record_bytes.specs.Bytes.{fileLength}
+use Rattle.step_list.specs.declared.Steps.{Steps}
+use Rattle.step_list.specs.Held.{held}
+
+-- "a step of a known kind has an unused field not 0": none of these has
+abbrev pub stepRight : List Step → ℕ → Bool
+stepRight xs k = stepFits (getD xs k noStep)
+
+unfoldable pub stepsRight : List Step → Bool
+stepsRight xs = allFrom (stepRight xs) 0 (length xs)
+
+-- "10 when more than 4,000 steps are wanted, a step of a known kind has an unused field not 0, the file would pass 65,536 bytes, or the output is too short":
+-- none of it, for a note of n bytes and an output of so many
+unfoldable pub fileFits : ℕ → Steps → ℕ → Bool
+fileFits n x room = leb (x .len) 4000 && leb (fileLength n (x .len)) 65536 && leb (fileLength n (x .len)) room && stepsRight (held x)
+
+-- the refusal, 0 for none: "after 01's setup question", 7
+unfoldable pub writeRefusal : ℕ → Setup → Steps → ℕ → ℕ
+writeRefusal n s x room = orRefuse (inRange s) 7 (orRefuse (fileFits n x room) 10 0)
+
+-- ---- a file that fits, taken apart
+pub record Fitting (n : ℕ) (x : Steps) (room : ℕ) : Type 0 where
+  pub few : x .len ≤ 4000
+  pub short : fileLength n (x .len) ≤ 65536
+  pub room-there : fileLength n (x .len) ≤ room
+  pub right : stepsRight (held x) ≡ true
+
+pub fitting : (n : ℕ) (x : Steps) (room : ℕ) → fileFits n x room ≡ true → Fitting n x room
+unfolding fileFits
+fitting n x room e =
+    let c = and-true _ _ e in
+    let b = and-true _ _ (c .0) in
+    let a = and-true _ _ (b .0) in
+    record { few = leb-true _ _ (a .0); short = leb-true _ _ (a .1); room-there = leb-true _ _ (b .1); right = c .1 }

@@ -1,0 +1,90 @@
+// The writer of run files: from a note, a setup and steps to the bytes that the reader takes apart again (02, A5).
+ghost use Prim.Native.Nat.{_+_, _*_, _≤_};
+ghost use mathlib.Core.Bool.{true};
+ghost use mathlib.Core.Path.{_≡_};
+ghost use lib.ListN.{length};
+ghost use Rattle.output.specs.Written.{Written};
+ghost use Rattle.output.specs.Report.{Reports};
+ghost use Rattle.protocol.specs.Setup.{inRange};
+ghost use Rattle.record_bytes.specs.Bytes.{stepsBytes, fileBytes, fileLength};
+ghost use Rattle.step_list.specs.Held.{held};
+ghost use Rattle.writer.specs.File.{stepsRight, fileFits, writeRefusal};
+use output::Report;
+use protocol::setup::Setup;
+use step_list::Steps;
+
+// Whether each step of a known kind has 0 in the fields that it does not use.
+fn steps_right(steps: Steps) -> bool
+    requires { ⌜ steps .len ≤ 4000 ⌝ }
+    ensures { λ r. ⌜ r ≡ stepsRight (held steps) ⌝ }
+{
+    let n = steps.len as usize;
+    let mut ok = true;
+    let mut k = 0;
+    while k < n {
+        ok = ok & shape::step_fits(steps.items[k]);
+        k += 1;
+    }
+    ok
+}
+
+// Whether there is such a file, and room for it.
+fn file_fits(note: usize, steps: Steps, room: usize) -> bool
+    ensures { λ r. ⌜ r ≡ fileFits note steps room ⌝ }
+{
+    if 4000 < steps.len {
+        return false;
+    }
+    if 65536 < note {
+        return false;
+    }
+    let length = note + (56 + 16 * (steps.len as usize));
+    if 65536 < length {
+        return false;
+    }
+    if room < length {
+        return false;
+    }
+    steps_right(steps)
+}
+
+fn write_steps(out: &mut [u8], at: usize, steps: Steps) -> usize
+    requires { ⌜ steps .len ≤ 4000 ⌝ }
+    requires { ⌜ at + 16 * steps .len ≤ length (now out) ⌝ }
+    ensures { λ r. ⌜ Written (now (out .entry)) (now (out .exit)) at (stepsBytes (held steps)) r ⌝ }
+{
+    let n = steps.len as usize;
+    let mut place = at;
+    let mut k = 0;
+    while k < n {
+        place = record_bytes::write_step(out, place, steps.items[k]);
+        k += 1;
+    }
+    place
+}
+
+// A file that fits, at the start of an output that has room for it.
+fn write_file(note: &[u8], setup: Setup, steps: Steps, out: &mut [u8]) -> usize
+    requires { ⌜ inRange setup ≡ true ⌝ }
+    requires { ⌜ fileFits (length (now note)) steps (length (now out)) ≡ true ⌝ }
+    ensures { λ r. ⌜ Written (now (out .entry)) (now (out .exit)) 0 (fileBytes (now (note .entry)) setup (held steps)) r ⌝ }
+{
+    let at = output::write_bytes(out, 0, note);
+    let first = record_bytes::write_setup(out, at, setup);
+    let end = write_steps(out, first, steps);
+    record_bytes::write_trailer(out, end, steps.len)
+}
+
+// The run file of a note, a setup and steps, at the start of the output. All is asked before the first byte is written: a setup out of range is 7; then 10
+// for more than 4,000 steps, a step of a known kind with an unused field that is not 0, a file of more than 65,536 bytes, or an output too short for it.
+pub fn write(note: &[u8], setup: Setup, steps: Steps, out: &mut [u8]) -> Report
+    ensures { λ r. ⌜ Reports (writeRefusal (length (now (note .entry))) setup steps (length (now (out .entry)))) (fileBytes (now (note .entry)) setup (held steps)) (now (out .entry)) (now (out .exit)) r ⌝ }
+{
+    if setup::in_range(setup) {
+        if file_fits(note.len(), steps, out.len()) {
+            return Report::Written(write_file(note, setup, steps, out));
+        }
+        return Report::Refused(10);
+    }
+    Report::Refused(7)
+}
