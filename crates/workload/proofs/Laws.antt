@@ -1,0 +1,97 @@
+-- What each way through a function, or a loop's turn, found, put together.
+use Prim.Native.Nat.{ℕ, _+_, _*_, _<_, _≤_}
+use native.Mathlib.Numerals.{add-one}
+use native.Mathlib.Omega.{arith}
+use mathlib.Core.Bool.{Bool, true, false}
+use mathlib.Core.List.{List}
+use mathlib.Core.Path.{_≡_, refl, sym, ap, _∙_}
+use lib.Dec.{eqb}
+use lib.ListN.{length, set, replicate}
+use borrow.Author.Tests.{le-leb, lt-leb, ne-eqb}
+use Rattle.protocol.specs.declared.setup.Setup.{Setup}
+use Rattle.protocol.specs.declared.step.Step.{Step}
+use Rattle.protocol.specs.Setup.{inRange}
+use Rattle.file_records.specs.Records.{noStep}
+use Rattle.output.specs.declared.Report.{Report}
+use Rattle.output.specs.declared.Report.the-variants as report
+use Rattle.output.specs.Report.{Reports, none-written}
+use Rattle.record_bytes.specs.Bytes.{fileBytes}
+use Rattle.step_list.specs.declared.Steps.{Steps}
+use Rattle.step_list.specs.Held.{held, blank, itemsOf, stepsBy, items-none, items-next, held-by}
+use Rattle.writer.specs.File.{writeRefusal}
+use Rattle.draws.specs.declared.Drawn.{Drawn}
+use Rattle.draws.specs.Draws.{drawnAfter}
+use Rattle.workload.specs.declared.Workload.{Workload}
+use Rattle.workload.specs.Workload.{seedOf, totalOf, stepOf, workload, stepsRefusal, workloadOf, fileRefusal}
+use Rattle.workload.specs.Laws.{total-small, same-refusal, unrefused, refused-alike}
+
+-- ---- the steps drawn one after the other: k items are filled, and seed and total are those of step k
+pub record Drawing (q : Setup) (s n : ℕ) (items : List Step) (last total k : ℕ) : Type 0 where
+  pub some : k ≤ n
+  pub filled : items ≡ itemsOf (stepOf q s) k
+  pub seed-is : last ≡ seedOf s k
+  pub total-is : total ≡ totalOf q s k
+
+pub drawing-none : (q : Setup) (s n : ℕ) (x : Step) → x ≡ noStep → Drawing q s n (replicate 4000 x) s 0 0
+unfolding seedOf totalOf
+drawing-none q s n x e = record { some = omega arith; filled = rw e (items-none (stepOf q s)); seed-is = refl; total-is = refl }
+
+module _ (q : Setup) (s n : ℕ) (items : List Step) (last total k : ℕ) (d : Drawing q s n items last total k) where
+  pub total-fits : k < n → n ≤ 4000 → total ≤ 16000
+  total-fits g h = omega (arith, d .total-is, total-small q s k)
+
+  pub drawing-again : (r : Drawn) → k < n → n ≤ 4000 → r ≡ drawnAfter q last total → Drawing q s n (set items k (r .step)) (r .seed) (r .total) (k + 1)
+  unfolding seedOf totalOf
+  drawing-again r g h e = record {
+    some = omega arith;
+    filled = rw (e, d .filled, d .seed-is, d .total-is) (items-next (stepOf q s) k (omega arith));
+    seed-is = rw (e, d .seed-is, add-one);
+    total-is = rw (e, d .seed-is, d .total-is, add-one);
+  }
+
+  pub drawing-end : n ≤ k → (let r : Steps = record { items = items; len = n } in r ≡ stepsBy (stepOf q s) n)
+  drawing-end h =
+      let i : k ≡ n = omega (arith, d .some) in
+      rw (d .filled, i)
+
+-- ---- what is asked
+module _ (q : Setup) (n : ℕ) (b : Bool) (e : b ≡ inRange q) where
+  pub accepted : b ≡ true → n ≤ 4000 → 0 ≡ stepsRefusal q n
+  unfolding stepsRefusal
+  accepted h g = rw (← e, h, le-leb _ _ g)
+
+  pub too-many : b ≡ true → 4000 < n → 10 ≡ stepsRefusal q n
+  unfolding stepsRefusal
+  too-many h g = rw (← e, h, lt-leb _ _ g)
+
+  pub out-of-range : b ≡ false → 7 ≡ stepsRefusal q n
+  unfolding stepsRefusal
+  out-of-range h = rw (← e, h)
+
+-- ---- what is answered; r is the refusal that was found
+module _ (q : Setup) (s n r : ℕ) (e : r ≡ stepsRefusal q n) where
+  pub in-range-then : r ≡ 0 → inRange q ≡ true
+  in-range-then h = unrefused q n (sym e ∙ h) .0
+
+  pub few-then : r ≡ 0 → n ≤ 4000
+  few-then h = unrefused q n (sym e ∙ h) .1
+
+  pub steps-drawn : (x : Steps) → r ≡ 0 → x ≡ stepsBy (stepOf q s) n → (let w : Workload = record { refusal = r; steps = x } in w ≡ workloadOf q s n)
+  unfolding workloadOf
+  steps-drawn x h f = rw (← e, h, f)
+
+  refused : (r ≡ 0 → ⊥) → eqb (stepsRefusal q n) 0 ≡ false
+  refused h = ap (λ (k : ℕ). eqb k 0) (sym e) ∙ ne-eqb r 0 h
+
+  pub no-steps-drawn : (x : Steps) → (r ≡ 0 → ⊥) → x ≡ blank 0 → (let w : Workload = record { refusal = r; steps = x } in w ≡ workloadOf q s n)
+  unfolding workloadOf
+  no-steps-drawn x h f = rw (refused h, ← e, f)
+
+  module _ (note before : List ℕ) where
+    pub file-written : (x : Steps) (after : List ℕ) (a : Report) → r ≡ 0 → x ≡ stepsBy (stepOf q s) n
+        → Reports (writeRefusal (length note) q x (length before)) (fileBytes note q (held x)) before after a
+        → Reports (fileRefusal (length note) q n (length before)) (fileBytes note q (workload q s n)) before after a
+    file-written x after a h f d = rw (f, held-by (stepOf q s) n (few-then h), same-refusal q s n (length note) (length before) (few-then h)) at d
+
+    pub file-refused : (r ≡ 0 → ⊥) → Reports (fileRefusal (length note) q n (length before)) (fileBytes note q (workload q s n)) before before (report.Refused r)
+    file-refused h = none-written _ _ before r (refused-alike q n (length note) (length before) (refused h) ∙ sym e) (ne-eqb r 0 h)

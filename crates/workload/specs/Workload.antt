@@ -1,0 +1,45 @@
+-- 02, A5: the steps of a workload.
+use Prim.Native.Nat.{ℕ, zero, suc}
+use mathlib.Core.Bool.{Bool, cond, _&&_}
+use mathlib.Core.List.{List}
+use lib.Dec.{leb, eqb}
+use Rattle.laws.specs.Tabulate.{tabulate}
+use Rattle.protocol.specs.declared.setup.Setup.{Setup}
+use Rattle.protocol.specs.declared.step.Step.{Step}
+use Rattle.protocol.specs.Setup.{inRange}
+use Rattle.protocol.specs.Gate.{orRefuse}
+use Rattle.record_bytes.specs.Bytes.{fileLength}
+use Rattle.step_list.specs.Held.{blank, stepsBy}
+use Rattle.draws.specs.Draws.{draw, drawnStep, totalAfter}
+use Rattle.workload.specs.declared.Workload.{Workload}
+
+-- the seed of step k, counted from 0: the last draw of the step before it
+unfoldable pub seedOf : ℕ → ℕ → ℕ
+seedOf s zero = s
+seedOf s (suc k) = draw (seedOf s k) 5
+
+-- the total before step k: "a total that starts at 0"
+unfoldable pub totalOf : Setup → ℕ → ℕ → ℕ
+totalOf q s zero = 0
+totalOf q s (suc k) = totalAfter (drawnStep q (seedOf s k) (totalOf q s k)) (totalOf q s k)
+
+-- step k
+abbrev pub stepOf : Setup → ℕ → ℕ → Step
+stepOf q s k = drawnStep q (seedOf s k) (totalOf q s k)
+
+-- the first n steps of a seed
+abbrev pub workload : Setup → ℕ → ℕ → List Step
+workload q s n = tabulate (stepOf q s) 0 n
+
+-- "10 when more than 4,000 steps are wanted .., after 01's setup question"
+unfoldable pub stepsRefusal : Setup → ℕ → ℕ
+stepsRefusal q n = orRefuse (inRange q) 7 (orRefuse (leb n 4000) 10 0)
+
+-- the steps, or none
+unfoldable pub workloadOf : Setup → ℕ → ℕ → Workload
+workloadOf q s n = record { refusal = stepsRefusal q n; steps = cond (eqb (stepsRefusal q n) 0) (stepsBy (stepOf q s) n) (blank 0) }
+
+-- the refusal of a workload's file, with a note of this length and an output of so many bytes: "the file would pass 65,536 bytes, or the output is too
+-- short" besides. No step has an unused field that is not 0.
+unfoldable pub fileRefusal : ℕ → Setup → ℕ → ℕ → ℕ
+fileRefusal note q n room = orRefuse (inRange q) 7 (orRefuse (leb n 4000 && leb (fileLength note n) 65536 && leb (fileLength note n) room) 10 0)

@@ -1,0 +1,83 @@
+// 02, A5: a workload from a seed, as steps and as a run file.
+ghost use Prim.Native.Nat.{_≤_};
+ghost use mathlib.Core.Bool.{true};
+ghost use mathlib.Core.Path.{_≡_};
+ghost use lib.ListN.{length};
+ghost use Rattle.protocol.specs.Setup.{inRange};
+ghost use Rattle.output.specs.Report.{Reports};
+ghost use Rattle.record_bytes.specs.Bytes.{fileBytes};
+ghost use Rattle.step_list.specs.Held.{stepsBy};
+ghost use Rattle.workload.specs.Workload.{stepOf, workload, stepsRefusal, workloadOf, fileRefusal};
+use output::Report;
+use protocol::setup::Setup;
+use step_list::Steps;
+
+// The steps of a workload. `refusal` is 7 for a setup out of range, 10 for more than 4,000 steps, and 0 else; a refused workload has no steps.
+pub struct Workload {
+    pub refusal: u8,
+    pub steps: Steps,
+}
+
+fn refusal(setup: Setup, count: u32) -> u8
+    ensures { λ r. ⌜ r ≡ stepsRefusal setup count ⌝ }
+{
+    if setup::in_range(setup) {
+        if count <= 4000 {
+            return 0;
+        }
+        return 10;
+    }
+    7
+}
+
+// So many steps of a seed, for a setup in range.
+fn drawn_steps(seed: u32, setup: Setup, count: u32) -> Steps
+    requires { ⌜ inRange setup ≡ true ⌝ }
+    requires { ⌜ count ≤ 4000 ⌝ }
+    ensures { λ r. ⌜ r ≡ stepsBy (stepOf setup seed) count ⌝ }
+{
+    let none = file_records::no_step();
+    let mut items = [none; 4000];
+    let n = count as usize;
+    let mut last = seed;
+    let mut total = 0;
+    let mut k = 0;
+    while k < n {
+        let drawn = draws::draw_step(setup, last, total);
+        let step = drawn.step;
+        items[k] = step;
+        last = drawn.seed;
+        total = drawn.total;
+        k += 1;
+    }
+    Steps { items, len: count }
+}
+
+// The steps of a seed, as many as are wanted.
+pub fn steps(seed: u32, setup: Setup, count: u32) -> Workload
+    ensures { λ r. ⌜ r ≡ workloadOf setup seed count ⌝ }
+{
+    let refusal = refusal(setup, count);
+    if refusal == 0 {
+        return Workload {
+            refusal,
+            steps: drawn_steps(seed, setup, count),
+        };
+    }
+    Workload {
+        refusal,
+        steps: step_list::blank(0),
+    }
+}
+
+// Their run file, at the start of the output. 7 for a setup out of range; then 10 for more than 4,000 steps, a file of more than 65,536 bytes, or an output
+// too short for it.
+pub fn write(note: &[u8], seed: u32, setup: Setup, count: u32, out: &mut [u8]) -> Report
+    ensures { λ r. ⌜ Reports (fileRefusal (length (now (note .entry))) setup count (length (now (out .entry)))) (fileBytes (now (note .entry)) setup (workload setup seed count)) (now (out .entry)) (now (out .exit)) r ⌝ }
+{
+    let refusal = refusal(setup, count);
+    if refusal == 0 {
+        return writer::write(note, setup, drawn_steps(seed, setup, count), out);
+    }
+    Report::Refused(refusal)
+}
