@@ -6,8 +6,14 @@ use mathlib.Core.Path.{_≡_}
 use lib.Dec.{eqb}
 use lib.ListN.{length}
 use lib.Seq.{sets}
+use Rattle.protocol.specs.declared.setup.Setup.{Setup}
 use Rattle.output.specs.Report.{unlessRefused}
+use Rattle.record_bytes.specs.Bytes.{fileBytes}
+use Rattle.step_list.specs.declared.Steps.{Steps}
+use Rattle.step_list.specs.Held.{held}
 use Rattle.run.specs.Listed.{fileListing, listRefusal}
+use Rattle.writer.specs.File.{writeRefusal}
+use Rattle.workload.specs.Workload.{workload, fileRefusal}
 
 -- the bytes b at the start of an output, and their length; a call that is refused leaves both as they were
 pub record Writes (refusal : ℕ) (b before after : List ℕ) (n m r : ℕ) : Type 0 where
@@ -18,3 +24,12 @@ pub record Writes (refusal : ℕ) (b before after : List ℕ) (n m r : ℕ) : Ty
 -- a listing
 abbrev pub Lists : List ℕ → List ℕ → List ℕ → ℕ → ℕ → ℕ → Type 0
 Lists file before after n m r = Writes (listRefusal file (length before)) (fileListing file) before after n m r
+
+-- a run file of these steps
+abbrev pub WritesFile : List ℕ → Setup → Steps → List ℕ → List ℕ → ℕ → ℕ → ℕ → Type 0
+WritesFile note s x before after n m r = Writes (writeRefusal (length note) s x (length before)) (fileBytes note s (held x)) before after n m r
+
+-- a run file of the first `count` steps of a seed
+abbrev pub WritesWorkload : ℕ → List ℕ → Setup → ℕ → List ℕ → List ℕ → ℕ → ℕ → ℕ → Type 0
+WritesWorkload seed note s count before after n m r =
+    Writes (fileRefusal (length note) s count (length before)) (fileBytes note s (workload s seed count)) before after n m r

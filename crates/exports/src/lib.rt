@@ -1,6 +1,7 @@
 // The library that other languages link (`rt staticlib exports`): calls on numbers and slices, each 0 or 01's number of a refusal, which changes nothing.
 // A slice is two arguments, its address and its length.
-ghost use Rattle.exports.specs.Calls.{Lists};
+ghost use Rattle.lent_parts.specs.Lent.{setupLent, stepsLent};
+ghost use Rattle.exports.specs.Calls.{Lists, WritesFile, WritesWorkload};
 ghost use Rattle.frame_numbers.specs.Calls.{EncodesFields, DecodesFields};
 ghost use Rattle.numbers.specs.Numbers.{fieldsFrom};
 use output::Report;
@@ -11,6 +12,51 @@ pub extern "C" fn gevtsomi_list(file: &[u8], out: &mut [u8], written: &mut usize
     ensures { λ r. ⌜ Lists (now (file .entry)) (now (out .entry)) (now (out .exit)) (now (written .entry)) (now (written .exit)) r ⌝ }
 {
     match run::list(file, out) {
+        Report::Written(n) => {
+            *written = n;
+            0
+        }
+        Report::Refused(k) => k,
+    }
+}
+
+// The run file of a note, a setup and steps, at the start of the output, and its length: the setup in its 48 bytes, the steps in records of 16. 7 for what is
+// no setup in range; then 10 for records that are not whole, more than 4,000 or with an unused field that is not 0, for a file of more than 65,536 bytes, and
+// for an output that is too short.
+#[no_mangle]
+pub extern "C" fn gevtsomi_write(
+    note: &[u8],
+    setup: &[u8],
+    records: &[u8],
+    out: &mut [u8],
+    written: &mut usize,
+) -> u8
+    ensures { λ r. ⌜ WritesFile (now (note .entry)) (setupLent (now (setup .entry))) (stepsLent (now (records .entry))) (now (out .entry)) (now (out .exit)) (now (written .entry)) (now (written .exit)) r ⌝ }
+{
+    let steps = lent_parts::steps_lent(records);
+    match writer::write(note, lent_parts::setup_lent(setup), steps, out) {
+        Report::Written(n) => {
+            *written = n;
+            0
+        }
+        Report::Refused(k) => k,
+    }
+}
+
+// The run file of the first steps of a seed, likewise. 7 for what is no setup in range; then 10 for more than 4,000 steps, a file of more than 65,536 bytes,
+// or an output that is too short.
+#[no_mangle]
+pub extern "C" fn gevtsomi_workload(
+    seed: u32,
+    note: &[u8],
+    setup: &[u8],
+    count: u32,
+    out: &mut [u8],
+    written: &mut usize,
+) -> u8
+    ensures { λ r. ⌜ WritesWorkload seed (now (note .entry)) (setupLent (now (setup .entry))) count (now (out .entry)) (now (out .exit)) (now (written .entry)) (now (written .exit)) r ⌝ }
+{
+    match workload::write(note, seed, lent_parts::setup_lent(setup), count, out) {
         Report::Written(n) => {
             *written = n;
             0

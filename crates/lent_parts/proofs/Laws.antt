@@ -1,0 +1,67 @@
+-- What each way through a function, or a loop's turn, found, put together.
+use Prim.Native.Nat.{ℕ, _+_, _*_, _/_, _%_, _<_, _≤_}
+use native.Mathlib.Omega.{arith}
+use mathlib.Core.List.{List}
+use mathlib.Core.Path.{_≡_, sym, ap, _∙_}
+use lib.ListN.{length, getD, set, replicate}
+use borrow.Author.Tests.{le-leb, lt-leb, eq-eqb, ne-eqb}
+use Rattle.protocol.specs.declared.setup.Setup.{Setup}
+use Rattle.protocol.specs.declared.step.Step.{Step}
+use Rattle.file_records.specs.Records.{setupIn, stepIn, noSetup, noStep}
+use Rattle.step_list.specs.declared.Steps.{Steps}
+use Rattle.step_list.specs.Held.{blank, itemsOf, stepsBy, items-none, items-next}
+use Rattle.lent_parts.specs.Lent.{setupLent, stepLent, stepsLent}
+
+-- ---- a setup
+module _ (l : List ℕ) (s : Setup) where
+  pub other-length : (length l ≡ 48 → ⊥) → s ≡ noSetup → s ≡ setupLent l
+  unfolding setupLent
+  other-length h e = rw (ne-eqb _ _ h) e
+
+  pub not-spare : length l ≡ 48 → (getD l 3 0 ≡ 0 → ⊥) → s ≡ noSetup → s ≡ setupLent l
+  unfolding setupLent
+  not-spare g h e = rw (eq-eqb _ _ g, ne-eqb (getD l 3 0) 0 h) e
+
+  pub setup-right : length l ≡ 48 → getD l 3 0 ≡ 0 → s ≡ setupIn l 0 → s ≡ setupLent l
+  unfolding setupLent
+  setup-right g h e = rw (eq-eqb _ _ g, eq-eqb (getD l 3 0) 0 h) e
+
+-- ---- records read one after the other: k items are filled, and the place is that of record k
+pub record Reading (l : List ℕ) (n : ℕ) (items : List Step) (place k : ℕ) : Type 0 where
+  pub some : k ≤ n
+  pub filled : items ≡ itemsOf (stepLent l) k
+  pub there : place ≡ 16 * k
+
+module _ (l : List ℕ) (n : ℕ) where
+  pub reading-none : (x : Step) → x ≡ noStep → Reading l n (replicate 4000 x) 0 0
+  reading-none x e = record { some = omega arith; filled = rw e (items-none (stepLent l)); there = omega arith }
+
+  module _ (items : List Step) (place k : ℕ) (r : Reading l n items place k) where
+    pub record-there : k < n → 16 * n ≤ length l → place + 16 ≤ length l
+    record-there g h = omega (arith, r .there)
+
+    pub reading-again : (x : Step) → k < n → n ≤ 4000 → x ≡ stepIn l place → Reading l n (set items k x) (place + 16) (k + 1)
+    reading-again x g h e = record {
+      some = omega arith;
+      filled = rw (e, r .filled, r .there) (items-next (stepLent l) k (omega arith));
+      there = omega (arith, r .there);
+    }
+
+    pub reading-end : n ≤ k → (let x : Steps = record { items = items; len = n } in x ≡ stepsBy (stepLent l) n)
+    reading-end h =
+        let i : k ≡ n = omega (arith, r .some) in
+        rw (r .filled, i)
+
+-- ---- the records as a whole
+module _ (l : List ℕ) (x : Steps) where
+  pub not-whole : (length l % 16 ≡ 0 → ⊥) → x ≡ blank 4001 → x ≡ stepsLent l
+  unfolding stepsLent
+  not-whole h e = rw (ne-eqb (length l % 16) 0 h) e
+
+  pub too-many : length l % 16 ≡ 0 → 64000 < length l → x ≡ blank 4001 → x ≡ stepsLent l
+  unfolding stepsLent
+  too-many g h e = rw (eq-eqb _ _ g, lt-leb _ _ h) e
+
+  pub whole : length l % 16 ≡ 0 → length l ≤ 64000 → x ≡ stepsBy (stepLent l) (length l / 16) → x ≡ stepsLent l
+  unfolding stepsLent
+  whole g h e = rw (eq-eqb _ _ g, le-leb _ _ h) e

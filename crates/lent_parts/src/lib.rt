@@ -1,0 +1,56 @@
+// The parts of a run file as a caller in another language lends them: a setup in its 48 bytes, and steps in records of 16, as they stand in a file.
+// What is no such part becomes one that the writer refuses.
+ghost use Prim.Native.Nat.{_*_, _≤_};
+ghost use mathlib.Core.Path.{_≡_};
+ghost use lib.ListN.{length};
+ghost use Rattle.step_list.specs.Held.{stepsBy};
+ghost use Rattle.lent_parts.specs.Lent.{setupLent, stepLent, stepsLent};
+use protocol::setup::Setup;
+use step_list::Steps;
+
+// Bytes of another length, or with a byte after the counts that is not 0, are a setup out of range.
+pub fn setup_lent(bytes: &[u8]) -> Setup
+    ensures { λ r. ⌜ r ≡ setupLent (now (bytes .entry)) ⌝ }
+{
+    if bytes.len() != 48 {
+        return file_records::no_setup();
+    }
+    if bytes[3] != 0 {
+        return file_records::no_setup();
+    }
+    file_records::setup_in(bytes, 0)
+}
+
+fn steps_in(records: &[u8], count: usize) -> Steps
+    requires { ⌜ 16 * count ≤ length (now records) ⌝ }
+    requires { ⌜ count ≤ 4000 ⌝ }
+    ensures { λ r. ⌜ r ≡ stepsBy (stepLent (now (records .entry))) count ⌝ }
+{
+    let none = file_records::no_step();
+    let mut items = [none; 4000];
+    let mut place = 0;
+    let mut k = 0;
+    while k < count {
+        items[k] = file_records::step_in(records, place);
+        place += 16;
+        k += 1;
+    }
+    Steps {
+        items,
+        len: count as u32,
+    }
+}
+
+// Records that are not whole, or more than 4,000, are too many.
+pub fn steps_lent(records: &[u8]) -> Steps
+    ensures { λ r. ⌜ r ≡ stepsLent (now (records .entry)) ⌝ }
+{
+    let n = records.len();
+    if n % 16 != 0 {
+        return step_list::blank(4001);
+    }
+    if 64000 < n {
+        return step_list::blank(4001);
+    }
+    steps_in(records, n / 16)
+}
