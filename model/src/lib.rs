@@ -31,5 +31,7 @@ pub mod step;
 pub mod step_record;
 pub mod tables;
 pub mod until_shown;
+pub mod workload;
 pub mod world;
 pub mod write_runfile;
+pub mod writer;

@@ -37,3 +37,6 @@ pub const NO_NUMBER_LEFT: u8 = 6;
 pub const BAD_SETUP: u8 = 7;
 pub const BAD_FRAME: u8 = 8;
 pub const BAD_FILE: u8 = 9;
+
+/// The refusal of what is not written: a workload or a run file (02, A5).
+pub const NOT_WRITTEN: u8 = 10;

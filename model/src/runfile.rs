@@ -141,7 +141,8 @@ fn distance_back(trailer: &[u8], len: usize) -> Result<usize, Fault> {
     Ok(distance(count))
 }
 
-fn read_setup(bytes: &[u8]) -> Result<Setup, Fault> {
+/// Of its 48 bytes.
+pub fn read_setup(bytes: &[u8]) -> Result<Setup, Fault> {
     let mut volume_of = [0; OBJECTS];
     volume_of.copy_from_slice(&bytes[16..SETUP_BYTES]);
     let setup = Setup {
@@ -160,7 +161,7 @@ fn read_setup(bytes: &[u8]) -> Result<Setup, Fault> {
     }
 }
 
-fn read_step(bytes: &[u8; STEP_BYTES]) -> Step {
+pub fn read_step(bytes: &[u8; STEP_BYTES]) -> Step {
     Step {
         kind: bytes[0],
         client: bytes[1],

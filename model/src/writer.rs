@@ -1,0 +1,45 @@
+//! The one writer of run files, with its refusals 7 and 10 (02, A5).
+
+use crate::limits::{BAD_SETUP, FILE_BYTES, NOT_WRITTEN, SETUP_BYTES, STEPS, STEP_BYTES};
+use crate::runfile::{distance, read_setup, read_step};
+use crate::setup::Setup;
+use crate::step_record::Step;
+use crate::workload;
+use crate::write_runfile::write;
+
+/// The file, for an output of so many bytes.
+pub fn write_checked(note: &[u8], setup: &Setup, steps: &[Step], room: usize) -> Result<Vec<u8>, u8> {
+    setup.check()?;
+    let len = note.len() + distance(steps.len());
+    let fits = steps.len() <= STEPS && len <= FILE_BYTES && len <= room;
+    if !fits || steps.iter().any(|step| *step != step.used_fields()) {
+        return Err(NOT_WRITTEN);
+    }
+    Ok(write(note, setup, steps))
+}
+
+/// The same from setup and step records as a run file has them, which is how
+/// a caller in C lends them.
+pub fn written(note: &[u8], setup: &[u8], records: &[u8], room: usize) -> Result<Vec<u8>, u8> {
+    let setup = lent_setup(setup)?;
+    let (records, []) = records.as_chunks::<STEP_BYTES>() else {
+        return Err(NOT_WRITTEN);
+    };
+    let steps: Vec<Step> = records.iter().map(read_step).collect();
+    write_checked(note, &setup, &steps, room)
+}
+
+/// The file of a workload, from a setup lent likewise.
+pub fn workload_file(seed: u32, note: &[u8], setup: &[u8], count: u32, room: usize) -> Result<Vec<u8>, u8> {
+    let setup = lent_setup(setup)?;
+    let steps = workload::steps(seed, &setup, count as usize)?;
+    write_checked(note, &setup, &steps, room)
+}
+
+/// Of another length, or with another fourth byte than 0, it is no setup.
+fn lent_setup(bytes: &[u8]) -> Result<Setup, u8> {
+    if bytes.len() != SETUP_BYTES {
+        return Err(BAD_SETUP);
+    }
+    read_setup(bytes).map_err(|_| BAD_SETUP)
+}

@@ -1,0 +1,8 @@
+//! 02, A5: the one writer of run files. What comes back from the reader, and
+//! what is refused.
+
+#[path = "../common/mod.rs"]
+mod common;
+
+mod read_back;
+mod refused;
