@@ -2,6 +2,7 @@
 
 pub mod builder;
 pub mod damage;
+pub mod lent_setups;
 pub mod notes;
 pub mod random_steps;
 pub mod rng;
@@ -15,3 +16,5 @@ pub mod scenes_queue;
 pub mod scenes_restart;
 pub mod scenes_writes;
 pub mod setups;
+pub mod workload_calls;
+pub mod writer_calls;

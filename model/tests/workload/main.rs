@@ -3,7 +3,14 @@
 
 #[path = "../common/mod.rs"]
 mod common;
+#[path = "../common/mistakes.rs"]
+#[macro_use]
+mod rule;
 
+mod mistaken;
+mod mistakes;
+mod reached;
 mod refused;
+mod ties;
 mod total;
 mod vectors;

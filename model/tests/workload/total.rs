@@ -15,7 +15,12 @@ fn clocks(steps: &[Step]) -> Vec<u32> {
 fn sums(seed: u32) -> Vec<u32> {
     let drawn: Vec<u32> = draws(seed).take(5 * STEPS).collect();
     let amounts = drawn.chunks(5).filter(|five| five[0] % 9 == 0).map(|five| five[4] % 5);
-    amounts.scan(0, |total, amount| Some(*total += amount).map(|()| *total)).collect()
+    let mut total = 0;
+    let grown = amounts.map(|amount| {
+        total += amount;
+        total
+    });
+    grown.collect()
 }
 
 /// So no clock step of a workload is refused.

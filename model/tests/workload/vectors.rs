@@ -6,14 +6,14 @@ use model::workload::{draws, steps};
 
 use crate::common;
 
-struct Vector {
-    seed: u32,
+pub struct Vector {
+    pub seed: u32,
     draws: [u32; 20],
     /// For the setup of the tests: 3 clients, 4 objects.
-    steps: [Step; 10],
+    pub steps: [Step; 10],
 }
 
-fn vectors() -> [Vector; 3] {
+pub fn vectors() -> [Vector; 3] {
     [from_0(), from_1(), from_last()]
 }
 

@@ -3,6 +3,11 @@
 
 #[path = "../common/mod.rs"]
 mod common;
+#[path = "../common/mistakes.rs"]
+#[macro_use]
+mod rule;
 
+mod mistaken;
+mod mistakes;
 mod read_back;
 mod refused;

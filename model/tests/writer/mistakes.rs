@@ -1,0 +1,34 @@
+//! Every mistake of a writer shows in the calls that the product is compared
+//! by.
+
+use model::gen::writer_calls::calls;
+
+use crate::mistaken::Mistake;
+use crate::rule::{assert_every_answer, differing, Rule};
+
+const RIGHT: Rule<Mistake> = Rule(None);
+
+#[test]
+fn without_a_mistake_it_is_the_models() {
+    for call in calls(2) {
+        assert!(RIGHT.file(&call) == call.file(), "{call:?}");
+    }
+}
+
+#[test]
+fn the_calls_find_every_mistake() {
+    let calls = calls(1);
+    let files: Vec<_> = calls.iter().map(|call| call.file()).collect();
+    for &mistake in Mistake::EACH {
+        let found = differing(&files, calls.iter().map(|call| Rule(Some(mistake)).file(call)));
+        println!("{mistake:?}: {found} of {} calls", calls.len());
+        assert!(found > 0, "{mistake:?}");
+    }
+}
+
+#[test]
+fn the_calls_meet_every_answer() {
+    for seed in [1, 2, 3] {
+        assert_every_answer(&calls(seed).iter().map(|call| call.file()).collect::<Vec<_>>());
+    }
+}
