@@ -1,13 +1,14 @@
 /*
  * The lease system of document 01 for C and C++: a run from the bytes of its
- * file to the bytes of its listing, and messages to and from frames.
+ * file to the bytes of its listing, run files from their parts or from a seed,
+ * and messages to and from frames.
  *
  * What runs is the proved code in libexports.a. It allocates nothing, does no
  * input or output and keeps nothing from call to call, so threads may call it
  * at the same time. It asks its host for memcpy and memset only.
  *
- * Each call gives 0, or document 01's number of the question that was answered
- * "no"; then all that it was lent is as it was.
+ * Each call gives 0, or the number of the question of documents 01 and 02 that
+ * was answered "no"; then all that it was lent is as it was.
  *
  * What is proved holds for a caller that
  * - lends with each address as many elements as the length after it says, or
@@ -20,7 +21,8 @@
  * - lets nobody else write what is lent, or read an output, until the call
  *   returns;
  * - has stack left for it: GEVTSOMI_LIST_STACK_BYTES for gevtsomi_list,
- *   4,096 bytes for the others.
+ *   GEVTSOMI_WRITE_STACK_BYTES for gevtsomi_write and gevtsomi_workload, 4,096
+ *   bytes for the others.
  */
 #ifndef GEVTSOMI_H
 #define GEVTSOMI_H
@@ -34,15 +36,46 @@ extern "C" {
 
 /* What a call gives. */
 #define GEVTSOMI_DONE 0
-/* No frame, or fields of none; or an output that is too short. */
+/* A setup that is out of range. */
+#define GEVTSOMI_BAD_SETUP 7
+/* No frame, or fields of none; or an output too short for frame or listing. */
 #define GEVTSOMI_NO_FRAME_OR_ROOM 8
 /* Not a run file. */
 #define GEVTSOMI_NO_RUN_FILE 9
+/* No run file has these parts, or the output is too short for it. */
+#define GEVTSOMI_NOT_WRITTEN 10
 
 /* The most bytes that a run file has; room for the listing of any. */
 #define GEVTSOMI_FILE_BYTES 65536
 #define GEVTSOMI_LISTING_BYTES 112640
 #define GEVTSOMI_LIST_STACK_BYTES 147456
+#define GEVTSOMI_WRITE_STACK_BYTES 524288
+
+/* How long a setup and a step are in a run file, and the most steps in one.
+   Numbers of more than a byte are little endian. A setup has, from byte
+
+    0  clients, 1 to 16
+    1  volumes, 1 to 8
+    2  objects, 1 to 32
+    3  0
+    4  ticks that a volume lease lives, 1 to 3,600, in 4 bytes
+    8  ticks that an object lease lives, 1 to 1,000,000, in 4
+   12  ticks that a write waits for messages at least, 1 to 60, in 4
+   16  the volume of each object, 0 past the object count, in 32
+
+   and a step, with 0 for what its kind does not use,
+
+    0  kind: 1 clock, 2 read, 3 ask, 4 write, 5 deliver, 6 lose, 7 double,
+       8 restart of the server, 9 restart of a client; with any other kind the
+       rest is free
+    1  client, of 2, 3 and 9
+    2  object, of 2, 3 and 4
+    3  place in the list of messages, of 5, 6 and 7
+    4  clock, of 1, in 4 bytes
+    8  value, of 4, in 8 */
+#define GEVTSOMI_SETUP_BYTES 48
+#define GEVTSOMI_STEP_BYTES 16
+#define GEVTSOMI_STEPS 4000
 
 /* How long a frame is. */
 #define GEVTSOMI_FRAME_BYTES 32
@@ -77,6 +110,32 @@ enum gevtsomi_field {
    output that is shorter than the listing. */
 uint8_t gevtsomi_list(const uint8_t *file, size_t file_len, uint8_t *output, size_t output_len,
                       size_t *written);
+
+/* Writes the run file of this note, setup and these step records, one after
+   the other, to the start of output, and its length to written: the one file
+   with this note that has these parts. 7 if the setup is not 48 bytes, its
+   fourth is not 0 or a field is out of range; then 10 if the records are no
+   multiple of 16 bytes or more than 4,000 steps, a step of a known kind has an
+   unused field that is not 0, the file would pass GEVTSOMI_FILE_BYTES, or
+   output is shorter than the file. */
+uint8_t gevtsomi_write(const uint8_t *note, size_t note_len, const uint8_t *setup,
+                       size_t setup_len, const uint8_t *records, size_t records_len,
+                       uint8_t *output, size_t output_len, size_t *written);
+
+/* The same with the first count steps of the workload of this seed, which are
+   the same every time. 7 as there; then 10 if count is above 4,000, the file
+   would pass GEVTSOMI_FILE_BYTES, or output is shorter than the file.
+
+   What it does not reach: where 2^e is the greatest power of two that divides
+   both the client count and the object count, in each read and ask the object
+   is 13 * client + 15 modulo 2^e. With 4 and 4 no object is asked by two
+   clients; with an odd count, as in 3 and 4, nothing is tied. And hardly any
+   lease is given: the server restarts every 9 steps on the average, and a
+   delivery meets a given message once in 64. So this is load for the list of
+   messages, restarts, offers and refusals. */
+uint8_t gevtsomi_workload(uint32_t seed, const uint8_t *note, size_t note_len,
+                          const uint8_t *setup, size_t setup_len, uint32_t count, uint8_t *output,
+                          size_t output_len, size_t *written);
 
 /* Writes the frame of these fields to the first 32 bytes of output: head has
    the fields from the kind to the value's presence, numbers those from the

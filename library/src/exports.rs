@@ -28,6 +28,30 @@ mod ffi {
 
         pub fn gevtsomi_decode(frame: *const u8, frame_len: usize, fields: *mut u64, fields_len: usize)
             -> u8;
+
+        pub fn gevtsomi_write(
+            note: *const u8,
+            note_len: usize,
+            setup: *const u8,
+            setup_len: usize,
+            records: *const u8,
+            records_len: usize,
+            output: *mut u8,
+            output_len: usize,
+            written: *mut usize,
+        ) -> u8;
+
+        pub fn gevtsomi_workload(
+            seed: u32,
+            note: *const u8,
+            note_len: usize,
+            setup: *const u8,
+            setup_len: usize,
+            count: u32,
+            output: *mut u8,
+            output_len: usize,
+            written: *mut usize,
+        ) -> u8;
     }
 }
 
@@ -79,4 +103,49 @@ pub fn decode(frame: &[u8]) -> Result<Fields, Refused> {
         object_expiry: object_expiry as u32,
         value,
     })
+}
+
+pub fn write(note: &[u8], setup: &[u8], records: &[u8], output: &mut [u8]) -> Result<usize, Refused> {
+    let mut written = 0;
+    // SAFETY: the slices are valid for the lengths given with them, and for
+    // as long as the call lasts; `written` is a local.
+    let number = unsafe {
+        ffi::gevtsomi_write(
+            note.as_ptr(),
+            note.len(),
+            setup.as_ptr(),
+            setup.len(),
+            records.as_ptr(),
+            records.len(),
+            output.as_mut_ptr(),
+            output.len(),
+            &mut written,
+        )
+    };
+    accepted(number).map(|()| written)
+}
+
+pub fn workload(
+    seed: u32,
+    note: &[u8],
+    setup: &[u8],
+    count: u32,
+    output: &mut [u8],
+) -> Result<usize, Refused> {
+    let mut written = 0;
+    // SAFETY: as in `write`.
+    let number = unsafe {
+        ffi::gevtsomi_workload(
+            seed,
+            note.as_ptr(),
+            note.len(),
+            setup.as_ptr(),
+            setup.len(),
+            count,
+            output.as_mut_ptr(),
+            output.len(),
+            &mut written,
+        )
+    };
+    accepted(number).map(|()| written)
 }

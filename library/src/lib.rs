@@ -1,25 +1,31 @@
 //! The lease system of document 01 as a library to link: a whole run from
-//! the bytes of its file to the bytes of its listing, and messages to and
-//! from frames.
+//! the bytes of its file to the bytes of its listing, run files from their
+//! parts or from a seed, and messages to and from frames.
 //!
 //! What runs is the proved code in `libexports.a`. This package only turns
-//! slices and messages into its arguments: it decides nothing, allocates
-//! nothing and does no input or output, so that firmware can link it.
+//! slices, messages and a file's parts into its arguments: it decides
+//! nothing, allocates nothing and does no input or output, so that firmware
+//! can link it.
 #![no_std]
 #![warn(missing_docs)]
 
 mod exports;
+mod file;
 mod frame;
 mod message;
+mod parts;
 mod run;
 
+pub use file::{workload, write, STEPS, WRITE_STACK_BYTES};
 pub use frame::{decode, encode, FRAME_BYTES};
 pub use message::{Kind, Message};
+pub use parts::{Setup, Step, SETUP_BYTES, STEP_BYTES};
 pub use run::{list, FILE_BYTES, LISTING_BYTES, LIST_STACK_BYTES};
 
 /// A call was refused; it changed nothing.
 #[derive(Clone, Copy, Debug, PartialEq, Eq)]
 pub struct Refused {
-    /// The number of document 01's question that was answered "no".
+    /// The number of the question of documents 01 and 02 that was answered
+    /// "no".
     pub number: u8,
 }

@@ -1,6 +1,9 @@
 //! The header for C says what the package says.
 
-use gevtsomi::{decode, list, FILE_BYTES, FRAME_BYTES, LISTING_BYTES, LIST_STACK_BYTES};
+use gevtsomi::{
+    decode, list, workload, write, Setup, FILE_BYTES, FRAME_BYTES, LISTING_BYTES, LIST_STACK_BYTES,
+    SETUP_BYTES, STEPS, STEP_BYTES, WRITE_STACK_BYTES,
+};
 
 const HEADER: &str = include_str!("../gevtsomi.h");
 const FILE: &[u8] = include_bytes!("data/document.run");
@@ -17,6 +20,10 @@ fn its_lengths_are_the_packages() {
     assert_eq!(defined("GEVTSOMI_FILE_BYTES"), FILE_BYTES);
     assert_eq!(defined("GEVTSOMI_LISTING_BYTES"), LISTING_BYTES);
     assert_eq!(defined("GEVTSOMI_LIST_STACK_BYTES"), LIST_STACK_BYTES);
+    assert_eq!(defined("GEVTSOMI_WRITE_STACK_BYTES"), WRITE_STACK_BYTES);
+    assert_eq!(defined("GEVTSOMI_SETUP_BYTES"), SETUP_BYTES);
+    assert_eq!(defined("GEVTSOMI_STEP_BYTES"), STEP_BYTES);
+    assert_eq!(defined("GEVTSOMI_STEPS"), STEPS);
     assert_eq!(defined("GEVTSOMI_FRAME_BYTES"), FRAME_BYTES);
 }
 
@@ -28,4 +35,19 @@ fn its_refusals_are_those_given() {
     assert_eq!(defined("GEVTSOMI_NO_RUN_FILE"), no_file.number.into());
     assert_eq!(defined("GEVTSOMI_NO_FRAME_OR_ROOM"), no_room.number.into());
     assert_eq!(defined("GEVTSOMI_NO_FRAME_OR_ROOM"), no_frame.number.into());
+    let setup = Setup {
+        clients: 1,
+        volumes: 1,
+        objects: 1,
+        volume_lease: 1,
+        object_lease: 1,
+        timeout: 1,
+        volume_of: [0; 32],
+    };
+    for (setup, name) in [(&[][..], "GEVTSOMI_BAD_SETUP"), (&setup.bytes(), "GEVTSOMI_NOT_WRITTEN")] {
+        let not_written = write(&[], setup, &[], &mut []).unwrap_err();
+        let not_drawn = workload(1, &[], setup, 0, &mut []).unwrap_err();
+        assert_eq!(defined(name), not_written.number.into());
+        assert_eq!(defined(name), not_drawn.number.into());
+    }
 }
