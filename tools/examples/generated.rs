@@ -7,6 +7,7 @@ use model::gen::builder::Builder;
 use model::gen::rng::Rng;
 use model::gen::runs::Run;
 use model::gen::{random_steps, scenes, setups};
+use tools::text::to_file;
 
 fn main() -> io::Result<()> {
     let count = std::env::args().nth(1).and_then(|count| count.parse().ok()).unwrap_or(200);
@@ -24,5 +25,5 @@ fn main() -> io::Result<()> {
     }
     b.steps.truncate(count);
     let note = format!("generated, {count} steps").into_bytes();
-    io::stdout().write_all(&Run { note, setup, steps: b.steps }.file())
+    io::stdout().write_all(&to_file(&Run { note, setup, steps: b.steps }))
 }

@@ -25,7 +25,7 @@ pub fn compare(
     let mut found = vec![false; Mistakes::IN_RUNS.len()];
     let damaged = damage::files(seed);
     for number in 0..count {
-        let file = runs::run(seed, number).file();
+        let file = text::to_file(&runs::run(seed, number));
         look_for_mistakes(&file, &mut found);
         if let Some(difference) = difference(&file, &mut printed)? {
             return Ok(Ended::Different(format!("seed {seed}, run {number} differs; {difference}")));

@@ -3,7 +3,8 @@
 //!
 //! All state comes from the model: the tools run it step by step and put
 //! into words or lines what its tables hold before and after each step.
-//! What a text expects is held to the proved library.
+//! What a text expects is held to the proved library, which writes every run
+//! file too.
 
 pub mod arguments;
 pub mod check;

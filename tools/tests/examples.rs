@@ -6,7 +6,7 @@ use common::{example, example_path};
 use model::examples::all;
 use tools::picture::layout::Window;
 use tools::picture::svg;
-use tools::text::{from_file, parse, script};
+use tools::text::{from_file, parse, script, to_file};
 
 fn stored(name: &str, ending: &str) -> Vec<u8> {
     example(&format!("{name}.{ending}"))
@@ -17,7 +17,7 @@ fn texts_and_run_files_are_the_same_runs() {
     for example in all() {
         let (file, text) = (stored(example.name, "run"), stored(example.name, "runtext"));
         let run = parse(&text).unwrap_or_else(|troubles| panic!("{}: {}", example.name, troubles[0]));
-        assert_eq!(run.file(), file, "{}", example.name);
+        assert_eq!(to_file(&run), file, "{}", example.name);
     }
 }
 

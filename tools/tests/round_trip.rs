@@ -1,17 +1,18 @@
 //! File to text to file: the same bytes for every file that the reader
-//! accepts. Text to file to text: the canonical form stays.
+//! accepts, so that the library writes what the model wrote. Text to file to
+//! text: the canonical form stays.
 
 use model::gen::rng::Rng;
 use model::gen::{damage, runs, setups};
 use model::runfile::read;
 use model::step_record::Step;
 use model::write_runfile::write;
-use tools::text::{from_file, parse, print, script};
+use tools::text::{from_file, parse, print, script, to_file};
 
 fn there_and_back(file: &[u8]) {
     let text = print(&from_file(file).expect("an accepted file"));
     let run = parse(text.as_bytes()).unwrap_or_else(|troubles| panic!("{}", troubles[0]));
-    assert_eq!(run.file(), file);
+    assert_eq!(to_file(&run), file);
     assert_eq!(print(&run), text);
 }
 

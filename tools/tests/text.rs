@@ -2,7 +2,7 @@
 
 use model::step_record::Step;
 use tools::text::words::Trouble;
-use tools::text::{note, parse, print, script, steps};
+use tools::text::{note, parse, print, script, steps, to_file};
 
 const SETUP: &str = "\
 clients 2 volumes 3 objects 4
@@ -206,7 +206,7 @@ fn the_file_keeps_its_limits() {
     assert_eq!(parse(steps(4_000).as_bytes()).unwrap().steps.len(), 4_000);
     assert_eq!(troubles(&steps(4_001)), ["line 4005: found step 4001, expected at most 4000 steps"]);
     let noted = |len: usize| format!("note \"{}\"\n{SETUP}", "n".repeat(len));
-    assert_eq!(parse(noted(65_480).as_bytes()).unwrap().file().len(), 65_536);
+    assert_eq!(to_file(&parse(noted(65_480).as_bytes()).unwrap()).len(), 65_536);
     assert!(troubles(&noted(65_481))[0].contains("found a note of 65481 bytes, expected at most 65480"));
     assert_eq!(
         troubles(&(noted(65_470) + "clock 0\n")),

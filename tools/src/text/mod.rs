@@ -2,6 +2,7 @@
 
 pub mod actions;
 pub mod expected;
+mod file;
 pub mod note;
 pub mod reader;
 pub mod script;
@@ -13,9 +14,9 @@ mod writer;
 use std::fmt::Write;
 
 use model::gen::runs::Run;
-use model::runfile::{self, Fault};
 use model::setup::Setup;
 
+pub use file::{from_file, to_file};
 pub use reader::script;
 use words::Trouble;
 
@@ -37,15 +38,4 @@ fn canonical(note: &[u8], setup: &Setup, steps: impl ExactSizeIterator<Item = St
         writeln!(text, "{line}").expect("a string takes every line");
     }
     text
-}
-
-/// The run of a file's bytes, as the model's reader sees it.
-pub fn from_file(file: &[u8]) -> Result<Run, Fault> {
-    let parts = runfile::parts(file)?;
-    Ok(Run { note: parts.note.to_vec(), setup: parts.setup, steps: parts.steps().collect() })
-}
-
-/// The run file of a run: the one place where the tools write them.
-pub fn to_file(run: &Run) -> Vec<u8> {
-    run.file()
 }

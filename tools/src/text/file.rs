@@ -1,0 +1,38 @@
+//! Run files, both ways: read as the model sees them, written by the proved
+//! library, which is the one writer of them.
+
+use gevtsomi::{write, Refused, FILE_BYTES, SETUP_BYTES, STEP_BYTES};
+use model::gen::runs::Run;
+use model::runfile::{self, Fault};
+use model::setup::Setup;
+use model::step_record::Step;
+
+/// The run of a file's bytes.
+pub fn from_file(file: &[u8]) -> Result<Run, Fault> {
+    let parts = runfile::parts(file)?;
+    Ok(Run { note: parts.note.to_vec(), setup: parts.setup, steps: parts.steps().collect() })
+}
+
+/// The run file of a run. The tools make no run that has none.
+pub fn to_file(run: &Run) -> Vec<u8> {
+    let records: Vec<u8> = run.steps.iter().flat_map(record).collect();
+    let file = written(|output| write(&run.note, &setup_bytes(&run.setup), &records, output));
+    file.expect("a run in range, and room for any file")
+}
+
+fn written(call: impl FnOnce(&mut [u8]) -> Result<usize, Refused>) -> Result<Vec<u8>, Refused> {
+    let mut file = vec![0; FILE_BYTES];
+    let len = call(&mut file)?;
+    file.truncate(len);
+    Ok(file)
+}
+
+fn setup_bytes(setup: &Setup) -> [u8; SETUP_BYTES] {
+    let Setup { clients, volumes, objects, volume_lease, object_lease, timeout, volume_of } = *setup;
+    gevtsomi::Setup { clients, volumes, objects, volume_lease, object_lease, timeout, volume_of }.bytes()
+}
+
+fn record(step: &Step) -> [u8; STEP_BYTES] {
+    let Step { kind, client, object, place, clock, value } = *step;
+    gevtsomi::Step { kind, client, object, place, clock, value }.record()
+}
