@@ -2,7 +2,10 @@
 
 mod common;
 
-use common::{example, example_path};
+use std::fs;
+use std::path::Path;
+
+use common::{example, example_path, run_program};
 use model::examples::all;
 use tools::picture::layout::Window;
 use tools::picture::svg;
@@ -19,6 +22,28 @@ fn texts_and_run_files_are_the_same_runs() {
         let run = parse(&text).unwrap_or_else(|troubles| panic!("{}: {}", example.name, troubles[0]));
         assert_eq!(to_file(&run), file, "{}", example.name);
     }
+}
+
+/// The model's tests hold the stored ones to the model.
+#[test]
+fn the_program_writes_what_is_stored() {
+    const WRITE_EXAMPLES: &str = env!("CARGO_BIN_EXE_write-examples");
+    let folder = Path::new(env!("CARGO_TARGET_TMPDIR")).join("examples");
+    fs::create_dir_all(&folder).unwrap();
+    let ended = run_program(WRITE_EXAMPLES, &[folder.to_str().unwrap()], b"");
+    assert_eq!((ended.status, ended.errors.as_str()), (0, ""));
+    for example in all() {
+        for ending in ["run", "listing"] {
+            let name = format!("{}.{ending}", example.name);
+            assert!(fs::read(folder.join(&name)).unwrap() == stored(example.name, ending), "{name}");
+        }
+    }
+    assert_eq!(String::from_utf8(ended.output).unwrap().lines().count(), 2 * all().len());
+    let nowhere = folder.join("nowhere").display().to_string();
+    let failed = run_program(WRITE_EXAMPLES, &[&nowhere], b"");
+    assert_eq!((failed.status, failed.output.len()), (1, 0));
+    assert!(failed.errors.starts_with(&format!("cannot write {nowhere}/0-document.run: ")));
+    assert_eq!(run_program(WRITE_EXAMPLES, &["one", "two"], b"").status, 2);
 }
 
 /// But for its comments, each text is in canonical form.
@@ -45,7 +70,7 @@ fn pictures_are_of_the_run_files() {
 #[test]
 fn no_example_is_left_over() {
     let names: Vec<&str> = all().iter().map(|example| example.name).collect();
-    for entry in std::fs::read_dir(example_path("")).unwrap() {
+    for entry in fs::read_dir(example_path("")).unwrap() {
         let name = entry.unwrap().file_name().into_string().unwrap();
         let (stem, ending) = name.split_once('.').unwrap();
         assert!(!["runtext", "svg"].contains(&ending) || names.contains(&stem), "{name}");
