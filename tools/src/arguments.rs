@@ -39,6 +39,16 @@ impl Arguments {
         number.map(Some).map_err(|_| wrong())
     }
 
+    /// A number of 32 bits that has to be there.
+    pub fn needed(&mut self, name: &str) -> Result<u32, Failure> {
+        let expected = format!("a number from 0 to {}", u32::MAX);
+        let found = self.option(name, &expected)?;
+        let digits = |found: &&String| found.bytes().all(|byte| byte.is_ascii_digit());
+        let number = found.as_ref().filter(digits).and_then(|found| found.parse().ok());
+        let found = found.map_or("nothing".into(), |found| format!("{found:?}"));
+        number.ok_or_else(|| Failure::Usage(format!("{name}: found {found}, expected {expected}")))
+    }
+
     pub fn flag(&mut self, name: &str) -> bool {
         let before = self.rest.len();
         self.rest.retain(|word| word != name);

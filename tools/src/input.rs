@@ -64,7 +64,12 @@ impl Input {
         text::script(&self.bytes).map_err(|troubles| self.failure(&told(&troubles)))
     }
 
-    /// The same as exact steps.
+    /// Note and setup of a text that has no steps.
+    pub fn without_steps(&self) -> Result<Script, Failure> {
+        text::without_steps(&self.bytes).map_err(|troubles| self.failure(&told(&troubles)))
+    }
+
+    /// What a text says as exact steps.
     pub fn written_out(&self) -> Result<WrittenOut, Failure> {
         let written = self.script()?.written_out();
         written.map_err(|trouble| self.failure(&[trouble.to_string()]))

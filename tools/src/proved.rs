@@ -6,17 +6,26 @@ use model::gen::runs::Run;
 use crate::listed::{line, Listed};
 use crate::text::to_file;
 
-/// The library's listing of a run. The tools make no run that it refuses.
+/// The library's listing of a run.
 pub fn listing(run: &Run) -> Vec<u8> {
-    let mut lines = vec![0; LISTING_BYTES];
-    let len = list(&to_file(run), &mut lines).expect("a run in range, and room for any listing");
-    lines.truncate(len);
-    lines
+    listing_of(&to_file(run))
 }
 
 /// The answer to each step.
 pub fn answers(run: &Run) -> Vec<Listed> {
-    let lines = String::from_utf8(listing(run)).expect("a listing is text");
+    answers_of(&to_file(run))
+}
+
+/// The listing of a file that the library wrote, which it never refuses.
+fn listing_of(file: &[u8]) -> Vec<u8> {
+    let mut lines = vec![0; LISTING_BYTES];
+    let len = list(file, &mut lines).expect("a run file, and room for any listing");
+    lines.truncate(len);
+    lines
+}
+
+pub fn answers_of(file: &[u8]) -> Vec<Listed> {
+    let lines = String::from_utf8(listing_of(file)).expect("a listing is text");
     let answer = |text| line(text).expect("a line of a listing").1;
     lines.lines().skip(1).map(answer).collect()
 }

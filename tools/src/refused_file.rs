@@ -1,5 +1,7 @@
-//! What is wrong with a refused run file, in words.
+//! What is wrong with a refused run file, or with a workload that has none, in
+//! words.
 
+use gevtsomi::Refused;
 use model::limits::{BAD_FILE, FILE_BYTES, STEPS};
 use model::runfile::{distance, Fault};
 use model::setup::{Field, OutOfRange};
@@ -9,6 +11,18 @@ use crate::text::steps::line;
 
 pub fn told(fault: &Fault) -> String {
     format!("run file refused ({BAD_FILE}): {}", reason(fault))
+}
+
+/// The setup is in range.
+pub fn no_workload(refused: Refused, note_len: usize, count: u32) -> String {
+    let count = count as usize;
+    let reason = if count > STEPS {
+        format!("found {count} steps, expected at most {STEPS}")
+    } else {
+        let room = FILE_BYTES - distance(count);
+        format!("found a note of {note_len} bytes, expected at most {room} with {count} steps")
+    };
+    format!("workload refused ({}): {reason}", refused.number)
 }
 
 fn reason(fault: &Fault) -> String {

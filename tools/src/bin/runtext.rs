@@ -1,5 +1,5 @@
-//! Turns the text form of a run into a run file and back, and checks what a
-//! text expects.
+//! Turns the text form of a run into a run file and back, checks what a text
+//! expects, and makes run files of workloads.
 
 use std::process::ExitCode;
 
@@ -8,8 +8,11 @@ use tools::check::verdict;
 use tools::command::{self, Failure};
 use tools::input::Input;
 use tools::output::Output;
+use tools::proved;
 use tools::refusals::counted;
-use tools::text::{print, to_file};
+use tools::refused_file::no_workload;
+use tools::text::script::Script;
+use tools::text::{print, to_file, workload_file};
 
 const HELP: &str = r#"runtext: the text form of runs
 
@@ -17,6 +20,8 @@ const HELP: &str = r#"runtext: the text form of runs
   runtext check [FILE..]             are the text's expectations met? by the proved library
   runtext format [--expand] [FILE]   text to canonical form, without comments
   runtext decode [FILE]              run file to text, in canonical form
+  runtext load --seed S --steps N [FILE]
+                                     text without steps to run file, with those of a workload
 
 Without a FILE, standard input is read. -o OUT writes a file instead of standard
 output, whole or not at all. A text has lines as these, in this order:
@@ -48,16 +53,26 @@ DROPPED from a client and GRANT, INVALIDATE, OFFER to one; deliver, lose and
 double take them by name. --expand writes names and joins out as exact steps.
 The paper's dash, region and notice are understood as client, volume and object.
 
-encode and check end with a line on standard error that counts refused steps.
-A bad line is told with its number, what was found and what was expected; then
-nothing is written and the exit status is 1, as it is where an expectation fails
-(2 is a wrong call).
+load reads note and setup alone. A seed, 0 to 4294967295, gives the same steps
+every time, at most 4000: load for the queue, restarts, offers and refusals, but
+hardly ever a lease, since the server restarts every 9 steps on the average and
+a delivery meets a given message once in 64. Take an odd number of clients or of
+objects, as 3 and 4: where 2^e is the greatest power of two that divides both,
+each read or ask has object = 13 * client + 15 modulo 2^e, so that with 4 and 4
+no object is asked by two clients.
+
+encode, check and load end with a line on standard error that counts refused
+steps. A bad line is told with its number, what was found and what was expected;
+then nothing is written and the exit status is 1, as it is where an expectation
+fails (2 is a wrong call).
 "#;
+
+const FORMS: &str = "encode, check, format, decode or load";
 
 fn main() -> ExitCode {
     command::main(HELP, |arguments| {
         let Some((form, rest)) = arguments.split_first() else {
-            return Err(Failure::Usage("found no argument, expected encode, check, format or decode".into()));
+            return Err(Failure::Usage(format!("found no argument, expected {FORMS}")));
         };
         let arguments = Arguments::new(rest);
         match form.as_str() {
@@ -68,9 +83,8 @@ fn main() -> ExitCode {
                 let run = Input::read(arguments.file()?.as_deref())?.run_of_file()?;
                 Ok(print(&run).into())
             }
-            other => {
-                Err(Failure::Usage(format!("found {other:?}, expected encode, check, format or decode")))
-            }
+            "load" => load(arguments),
+            other => Err(Failure::Usage(format!("found {other:?}, expected {FORMS}"))),
         }
     })
 }
@@ -86,6 +100,16 @@ fn format(mut arguments: Arguments) -> Result<Output, Failure> {
     let input = Input::read(arguments.file()?.as_deref())?;
     let text = if expand { input.written_out()?.print() } else { input.script()?.print() };
     Ok(text.into())
+}
+
+fn load(mut arguments: Arguments) -> Result<Output, Failure> {
+    let (seed, steps) = (arguments.needed("--seed")?, arguments.needed("--steps")?);
+    let input = Input::read(arguments.file()?.as_deref())?;
+    let Script { note, setup, .. } = input.without_steps()?;
+    let file = workload_file(seed, &note, &setup, steps)
+        .map_err(|refused| input.failure(&[no_workload(refused, note.len(), steps)]))?;
+    let told = vec![counted(proved::answers_of(&file))];
+    Ok(Output { told, ..file.into() })
 }
 
 /// A line for each text, also where one before it could not be read.

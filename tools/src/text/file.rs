@@ -1,7 +1,7 @@
 //! Run files, both ways: read as the model sees them, written by the proved
 //! library, which is the one writer of them.
 
-use gevtsomi::{write, Refused, FILE_BYTES, SETUP_BYTES, STEP_BYTES};
+use gevtsomi::{workload, write, Refused, FILE_BYTES, SETUP_BYTES, STEP_BYTES};
 use model::gen::runs::Run;
 use model::runfile::{self, Fault};
 use model::setup::Setup;
@@ -18,6 +18,11 @@ pub fn to_file(run: &Run) -> Vec<u8> {
     let records: Vec<u8> = run.steps.iter().flat_map(record).collect();
     let file = written(|output| write(&run.note, &setup_bytes(&run.setup), &records, output));
     file.expect("a run in range, and room for any file")
+}
+
+/// The run file of the first steps of a seed's workload, if it has one.
+pub fn workload_file(seed: u32, note: &[u8], setup: &Setup, count: u32) -> Result<Vec<u8>, Refused> {
+    written(|output| workload(seed, note, &setup_bytes(setup), count, output))
 }
 
 fn written(call: impl FnOnce(&mut [u8]) -> Result<usize, Refused>) -> Result<Vec<u8>, Refused> {

@@ -16,8 +16,8 @@ use std::fmt::Write;
 use model::gen::runs::Run;
 use model::setup::Setup;
 
-pub use file::{from_file, to_file};
-pub use reader::script;
+pub use file::{from_file, to_file, workload_file};
+pub use reader::{script, without_steps};
 use words::Trouble;
 
 /// The run of a text, or what is wrong with its lines.

@@ -9,6 +9,8 @@ use super::setup::Partial;
 use super::words::{plain, quoted, Trouble, Words, Wrong};
 use super::{expected, note, setup, steps};
 
+const NO_STEP: &str = "no step, as the seed gives them";
+
 /// The parts of a text in their order.
 #[derive(Clone, Copy, PartialEq, PartialOrd)]
 enum Part {
@@ -21,6 +23,8 @@ enum Part {
 
 struct Reader {
     part: Part,
+    /// The last part that the text may have.
+    last: Part,
     note: Vec<u8>,
     setup: Partial,
     lines: Vec<Line>,
@@ -31,8 +35,18 @@ struct Reader {
 
 /// What a text says, or what is wrong with its lines.
 pub fn script(text: &[u8]) -> Result<Script, Vec<Trouble>> {
+    read(text, Part::Steps)
+}
+
+/// The same of a text in which a step is a bad line.
+pub fn without_steps(text: &[u8]) -> Result<Script, Vec<Trouble>> {
+    read(text, Part::Volumes)
+}
+
+fn read(text: &[u8], last: Part) -> Result<Script, Vec<Trouble>> {
     let mut reader = Reader {
         part: Part::Note,
+        last,
         note: Vec::new(),
         setup: Partial::default(),
         lines: Vec::new(),
@@ -40,17 +54,17 @@ pub fn script(text: &[u8]) -> Result<Script, Vec<Trouble>> {
         troubles: Vec::new(),
     };
     let text = text.strip_suffix(b"\n").unwrap_or(text);
-    let mut last = 0;
+    let mut number = 0;
     for line in text.split(|&byte| byte == b'\n') {
-        last += 1;
-        if let Err(wrong) = reader.read_bytes(line, last) {
-            reader.troubles.push(Trouble { line: last, wrong });
+        number += 1;
+        if let Err(wrong) = reader.read_bytes(line, number) {
+            reader.troubles.push(Trouble { line: number, wrong });
         }
         if reader.first_step.is_none() && reader.part == Part::Steps {
-            reader.first_step = Some(last);
+            reader.first_step = Some(number);
         }
     }
-    reader.whole(last)
+    reader.whole(number)
 }
 
 impl Reader {
@@ -87,11 +101,13 @@ impl Reader {
             Part::Note => format!("a note or {}", setup::COUNTS),
             Part::Counts => setup::TICKS.into(),
             Part::Ticks => setup::VOLUME.into(),
+            Part::Volumes if self.last == Part::Volumes => setup::VOLUME.into(),
             Part::Volumes => format!("{} or {}", setup::VOLUME, steps::A_STEP),
             Part::Steps => steps::A_STEP.into(),
         };
         let once = [Part::Counts, Part::Ticks].contains(&self.part);
         match part_of(first, line) {
+            Some(part) if part > self.last => Err(Wrong::new(quoted(first), NO_STEP)),
             Some(part) if part > self.part || part == self.part && !once => Ok(part),
             _ => Err(Wrong::new(quoted(first), expected)),
         }
