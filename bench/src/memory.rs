@@ -2,7 +2,12 @@
 //! takes.
 
 use std::process::Command;
+use std::sync::atomic::{AtomicUsize, Ordering};
 use std::{env, fs, io, thread};
+
+/// Of the next thread that is measured. A thread may be given the stack of one
+/// that has ended, some of it in memory still, but not where it wants more.
+static STACK: AtomicUsize = AtomicUsize::new(4 << 20);
 
 /// Runs this program again with these words and gives the peak that it
 /// reports of itself, in KiB.
@@ -29,7 +34,8 @@ pub fn stack(call: impl FnOnce() + Send) -> io::Result<u64> {
         Ok(resident()? - before)
     };
     thread::scope(|scope| {
-        let started = thread::Builder::new().stack_size(4 << 20).spawn_scoped(scope, measured)?;
+        let size = STACK.fetch_add(1 << 16, Ordering::Relaxed);
+        let started = thread::Builder::new().stack_size(size).spawn_scoped(scope, measured)?;
         started.join().map_err(|_| io::Error::other("the call panicked"))?
     })
 }
@@ -71,5 +77,14 @@ mod tests {
         })
         .unwrap();
         assert!(none < 64 && some >= 256, "{none} and {some} KiB");
+    }
+
+    #[test]
+    fn a_second_time_as_much_is_counted() {
+        let call = || {
+            black_box([1_u8; 256 << 10]);
+        };
+        let (first, second) = (stack(call).unwrap(), stack(call).unwrap());
+        assert!(first.abs_diff(second) <= 4, "{first} and {second} KiB");
     }
 }
