@@ -1,14 +1,19 @@
 //! The run files that are timed, the same in every run of the program.
 
+use gevtsomi::FILE_BYTES;
 use model::gen::builder::Builder;
 use model::gen::random_steps;
 use model::gen::rng::Rng;
 use model::gen::setups::sized;
 use model::limits::STEPS;
 use model::listing::listing;
+use model::runfile::parts;
 use model::setup::Setup;
 use model::step_record::Step;
-use model::write_runfile::write;
+use model::write_runfile::{setup_bytes, write};
+
+/// Of the workload.
+pub const SEED: u32 = 1;
 
 pub struct Timed {
     pub name: &'static str,
@@ -22,13 +27,28 @@ pub struct Timed {
 }
 
 /// The largest setup, with a list of messages that is mostly full and with one
-/// that is worked off, and the smallest; each with the most steps.
+/// that is worked off, the smallest, and a workload; each with the most steps.
 pub fn runs() -> Vec<Timed> {
     vec![
         timed("16 clients, 8 volumes, 32 objects, by chance", spread(sized(16, 8, 32)), by_chance),
         timed("16 clients, 8 volumes, 32 objects, delivered in time", spread(sized(16, 8, 32)), in_time),
         timed("1 client, 1 volume, 1 object, by chance", sized(1, 1, 1), by_chance),
+        load("3 clients, 2 volumes, 4 objects, a workload"),
     ]
+}
+
+/// In this setup a workload does not tie objects to clients.
+fn load_setup() -> Setup {
+    spread(sized(3, 2, 4))
+}
+
+/// The library's file of the workload that is timed.
+pub fn load_file() -> Vec<u8> {
+    let mut file = vec![0; FILE_BYTES];
+    let setup = setup_bytes(&load_setup());
+    let len = gevtsomi::workload(SEED, &[], &setup, STEPS as u32, &mut file).expect("room for any file");
+    file.truncate(len);
+    file
 }
 
 /// Objects evenly over the volumes.
@@ -46,10 +66,26 @@ fn timed(name: &'static str, setup: Setup, more: fn(&mut Builder)) -> Timed {
         more(&mut builder);
         messages += builder.queue_len();
     }
-    let file = write(&[], &setup, &builder.steps);
+    described(name, write(&[], &setup, &builder.steps), messages)
+}
+
+fn load(name: &'static str) -> Timed {
+    let file = load_file();
+    let mut builder = Builder::new(Rng::new(1), load_setup());
+    let mut messages = 0;
+    for step in parts(&file).expect("a run file").steps() {
+        builder.push(step);
+        messages += builder.queue_len();
+    }
+    described(name, file, messages)
+}
+
+/// With how many messages were under way, added up over the steps.
+fn described(name: &'static str, file: Vec<u8>, messages: usize) -> Timed {
+    let kinds = parts(&file).expect("a run file").steps().map(|step| step.kind);
     let lines = String::from_utf8(listing(&file)).expect("a listing is text");
     let answers = lines.lines().skip(1).map(|line| line.split(' ').nth(1));
-    let answered: Vec<_> = builder.steps.iter().map(|step| step.kind).zip(answers).collect();
+    let answered: Vec<_> = kinds.zip(answers).collect();
     let counted = |kind, answer| answered.iter().filter(|&&pair| pair == (kind, Some(answer))).count();
     let (shown, waited) = (counted(2, "1"), counted(4, "0"));
     Timed { name, queue: messages as f64 / STEPS as f64, shown, waited, file }

@@ -1,18 +1,19 @@
 //! The proved library beside the model, on the same files in one process:
-//! time per step, how it grows, time to read a file, peak memory and stack.
-//! With `--brief` it prints the same tables of a few repetitions.
+//! time per step, how it grows, time to read and to write a file, peak memory
+//! and stack. With `--brief` it prints the same tables of a few repetitions.
 
+mod file_times;
 mod files;
 mod memory;
 mod timing;
 
 use std::{env, io};
 
-use files::{growing, kinds, refused_at_its_end, runs};
+use file_times::{reading, stack_of_writing, writing};
+use files::{growing, kinds, runs};
 use gevtsomi::LISTING_BYTES;
 use model::limits::STEPS;
 use model::listing::{listing, listing_trusting};
-use model::runfile::read;
 use timing::{medians, Effort, BRIEF, FULL};
 
 fn proved(file: &[u8]) -> usize {
@@ -70,11 +71,16 @@ fn report(effort: Effort) -> io::Result<()> {
     by_kind(effort);
     growth(effort);
     reading(effort);
+    writing(effort);
     println!("peak memory of a process that lists the first file once");
     for subject in ["nothing", "proved", "asking"] {
         println!("  {subject:10} {:6} KiB", memory::of(&[subject])?);
     }
     println!("stack that a listing of the first file takes: {} KiB", stack_of_a_listing()?);
+    let [seed, steps] = stack_of_writing()?;
+    println!(
+        "stack that writing the workload's file takes: from its seed {seed} KiB, from its steps {steps} KiB"
+    );
     Ok(())
 }
 
@@ -107,24 +113,6 @@ fn growth(effort: Effort) {
             println!("  {name:18} {size:3} {:6.0} {:6.0}", per_step(times[0]), per_step(times[1]));
         }
     }
-}
-
-fn reading(effort: Effort) {
-    let file = refused_at_its_end(&runs()[0].file);
-    assert_eq!(proved_refusal(&file), model_refusal(&file));
-    let times = medians(effort, &file, &[&proved_refusal, &model_refusal]);
-    println!("a file of {} bytes and {STEPS} steps read to its end, then refused", file.len());
-    println!("  proved library {:6.1} us", times[0] / 1000.0);
-    println!("  model          {:6.1} us, ratio {:.2}", times[1] / 1000.0, times[0] / times[1]);
-}
-
-/// A file that is refused needs no output.
-fn proved_refusal(file: &[u8]) -> usize {
-    gevtsomi::list(file, &mut []).expect_err("no run file").number.into()
-}
-
-fn model_refusal(file: &[u8]) -> usize {
-    read(file).expect_err("no run file").into()
 }
 
 /// What is timed is the same work.
