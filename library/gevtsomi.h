@@ -49,7 +49,7 @@ extern "C" {
 #define GEVTSOMI_FILE_BYTES 65536
 #define GEVTSOMI_LISTING_BYTES 112640
 #define GEVTSOMI_LIST_STACK_BYTES 147456
-#define GEVTSOMI_WRITE_STACK_BYTES 524288
+#define GEVTSOMI_WRITE_STACK_BYTES 278528
 
 /* How long a setup and a step are in a run file, and the most steps in one.
    Numbers of more than a byte are little endian. A setup has, from byte

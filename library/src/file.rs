@@ -6,7 +6,7 @@ use crate::{exports, Refused};
 pub const STEPS: usize = 4_000;
 
 /// The stack that [`write()`] and [`workload`] need at the most.
-pub const WRITE_STACK_BYTES: usize = 524_288;
+pub const WRITE_STACK_BYTES: usize = 278_528;
 
 /// Writes the run file of this note, setup and these steps to the start of
 /// `output` and gives its length: the one file with this note that has these
