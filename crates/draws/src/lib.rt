@@ -3,7 +3,7 @@ ghost use Prim.Native.Nat.{_*_, _%_, _≤_};
 ghost use mathlib.Core.Bool.{true, cond};
 ghost use mathlib.Core.Path.{_≡_};
 ghost use Rattle.protocol.specs.Setup.{inRange};
-ghost use Rattle.draws.specs.Draws.{next, fieldsDrawn, onlyUsed, totalAfter, drawnAfter};
+ghost use Rattle.draws.specs.Draws.{next, onlyUsed, totalAfter, drawnAfter};
 use protocol::setup::Setup;
 use protocol::step::Step;
 

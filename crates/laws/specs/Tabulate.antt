@@ -4,7 +4,7 @@ use native.Mathlib.Omega.{arith}
 use mathlib.Core.List.{List, [], _∷_, _++_}
 use mathlib.Core.Path.{_≡_, refl, ap, _∙_}
 use lib.ListN.{length, getD, set, replicate}
-use Rattle.laws.specs.Lists.{removeAt}
+use Rattle.laws.specs.Lists.{removeAt, All}
 
 module _ {A : Type 0} where
   -- f i, f (i + 1), .. : n of them
@@ -36,6 +36,12 @@ module _ {A : Type 0} where
   unfolding tabulate
   length-tabulate f b zero = refl
   length-tabulate f b (suc n) = ap suc (length-tabulate f (b + 1) n)
+
+  -- what holds at each number holds of each element
+  pub all-tabulate {κ} : (P : A → Type κ) (f : ℕ → A) (b n : ℕ) → ((k : ℕ) → b ≤ k → k < b + n → P (f k)) → All P (tabulate f b n)
+  unfolding tabulate All
+  all-tabulate P f b zero h = tt
+  all-tabulate P f b (suc n) h = (h b (omega arith) (omega arith), all-tabulate P f (b + 1) n (λ k g l. h k (omega arith) (omega arith)))
 
   -- one more at the end
   pub tabulate-more : (f : ℕ → A) (b n : ℕ) → tabulate f b (suc n) ≡ tabulate f b n ++ (f (b + n) ∷ [])

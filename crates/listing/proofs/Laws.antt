@@ -1,11 +1,9 @@
 -- What each way through a function, or a loop's turn, found, put together.
-use Prim.Native.Nat.{ℕ, suc, _+_, _<_, _≤_}
-use native.Mathlib.Numerals.{add-one}
+use Prim.Native.Nat.{ℕ, _+_, _≤_}
 use native.Mathlib.Omega.{arith}
 use mathlib.Core.List.{List, [], _∷_, _++_}
-use mathlib.Core.Path.{_≡_, refl}
-use lib.ListN.{length, getD, set, drop, length-append}
-use lib.Seq.{sets, drop-cons, drop-length}
+use mathlib.Core.Path.{_≡_}
+use lib.ListN.{length, length-append}
 use Rattle.protocol.specs.declared.step.Answer.{Answer}
 use Rattle.protocol.specs.Answers.{answerNumber, answerValue}
 use Rattle.decimal.specs.Decimal.{decimal, field, decimal-short}

@@ -1,25 +1,31 @@
 -- What holds of every workload: no clock passes 4 times the number of its steps, and each step fits into a run file.
-use Prim.Native.Nat.{ℕ, zero, suc, _+_, _*_, _<_, _≤_}
+use Prim.Native.Nat.{ℕ, zero, suc, _*_, _<_, _≤_}
 use native.Mathlib.Omega.{arith}
 use mathlib.Core.Bool.{Bool, true, false, cond, not, _&&_, _||_}
+use mathlib.Core.List.{List}
 use mathlib.Core.Path.{_≡_, refl, sym, ap, _∙_}
 use mathlib.Core.Logic.{⊎-elim}
 use lib.Dec.{leb, eqb}
-use borrow.Author.Tests.{leb-true}
+use lib.ListN.{length}
+use borrow.Author.Tests.{leb-true, eqb-true, eq-eqb}
 use Rattle.laws.specs.Choice.{or-yes, true-or-false, not-both}
+use Rattle.laws.specs.Lists.{All}
 use Rattle.laws.specs.Loop.{all-of}
-use Rattle.laws.specs.Tabulate.{tabulate-at, length-tabulate}
+use Rattle.laws.specs.Tabulate.{tabulate-at, length-tabulate, all-tabulate}
 use Rattle.protocol.specs.declared.setup.Setup.{Setup}
 use Rattle.protocol.specs.declared.step.Step.{Step}
 use Rattle.protocol.specs.Setup.{inRange}
 use Rattle.protocol.specs.Gate.{isClock, isWrite, usesClient, usesObject, usesPlace, known}
 use Rattle.file_records.specs.Records.{noStep}
 use Rattle.shape.specs.Shape.{stepFits}
-use Rattle.record_bytes.specs.Bytes.{fileLength}
-use Rattle.step_list.specs.Held.{held, stepsBy, held-by}
+use Rattle.layout.specs.Number.{limit}
+use Rattle.record_bytes.specs.Bytes.{fileBytes, fileLength}
+use Rattle.record_bytes.specs.Round.{Widths}
+use Rattle.step_list.specs.Held.{stepsBy, held-by}
 use Rattle.writer.specs.File.{stepRight, stepsRight, fileFits, writeRefusal}
+use Rattle.writer.specs.ReadBack.{ReadAs, not-refused}
 use Rattle.draws.specs.Draws.{onlyUsed}
-use Rattle.draws.specs.Laws.{clock-near, total-near}
+use Rattle.draws.specs.Laws.{clock-near, value-small, total-near}
 use Rattle.workload.specs.Workload.{seedOf, totalOf, stepOf, workload, stepsRefusal, fileRefusal}
 
 module _ (q : Setup) (s : ℕ) where
@@ -82,3 +88,18 @@ module _ (q : Setup) (n : ℕ) where
 
       yes : inRange q ≡ true → fileRefusal note q n room ≡ stepsRefusal q n
       yes t = ⊎-elim (few t) (λ u. rw t (rw u)) (true-or-false (leb n 4000))
+
+-- ---- the reader accepts the file of a workload, and hands back its parts
+module _ (note : List ℕ) (q : Setup) (s n room : ℕ) (v : length (q .volume) ≡ 32) (e : fileRefusal (length note) q n room ≡ 0) where
+  few : n ≤ 4000
+  few = ⊎-elim (λ t. unrefused q n (eqb-true _ _ t) .1) (λ t. not-both (eq-eqb _ _ (sym (refused-alike q n (length note) room t) ∙ e)) t) (true-or-false (eqb (stepsRefusal q n) 0))
+
+  widths : All Widths (workload q s n)
+  unfolding limit
+  widths =
+      all-tabulate Widths (stepOf q s) 0 n (λ k _ h. record { clock = omega (arith, clock-small q s k (omega (arith, h, few))); value = omega (arith, value-small q (seedOf s k) (totalOf q s k)) })
+
+  pub workload-read : ReadAs (fileBytes note q (workload q s n)) note q (workload q s n)
+  workload-read =
+      let h = held-by (stepOf q s) n few in
+      rw h at (not-refused note q (stepsBy (stepOf q s) n) room v (rw h widths) (same-refusal q s n (length note) room few ∙ e))

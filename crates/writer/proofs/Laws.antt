@@ -2,14 +2,13 @@
 use Prim.Native.Nat.{ℕ, _+_, _*_, _<_, _≤_}
 use native.Mathlib.Omega.{arith}
 use mathlib.Core.Bool.{Bool, true, false, _&&_}
-use mathlib.Core.List.{List, _++_}
+use mathlib.Core.List.{List}
 use mathlib.Core.Path.{_≡_, refl, sym, ap, _∙_}
 use lib.ListN.{length}
 use borrow.Author.Tests.{le-leb, lt-leb}
 use Rattle.laws.specs.Loop.{Scanning, all-by, all-end}
 use Rattle.laws.specs.Tabulate.{tabulate, length-tabulate}
 use Rattle.protocol.specs.declared.setup.Setup.{Setup}
-use Rattle.protocol.specs.declared.step.Step.{Step}
 use Rattle.protocol.specs.Setup.{inRange}
 use Rattle.shape.specs.Shape.{stepFits}
 use Rattle.output.specs.declared.Report.{Report}
@@ -19,7 +18,7 @@ use Rattle.output.specs.Written.{Written, written-then}
 use Rattle.record_bytes.specs.Bytes.{setupBytes, stepBytes, stepsBytes, trailerBytes, fileBytes, fileLength, steps-more, length-steps}
 use Rattle.step_list.specs.declared.Steps.{Steps}
 use Rattle.step_list.specs.Held.{itemOf, firstOf, held, held-at, length-held, first-more, first-all}
-use Rattle.writer.specs.File.{stepRight, stepsRight, fileFits, writeRefusal, Fitting, fitting}
+use Rattle.writer.specs.File.{stepRight, stepsRight, fileFits, writeRefusal, fitting}
 
 -- ---- the steps asked about one after the other
 module _ (x : Steps) (k : ℕ) (ok : Bool) (a : Scanning (stepRight (held x)) (x .len) ok k) where

@@ -4,15 +4,13 @@ use native.Mathlib.Omega.{arith}
 use mathlib.Core.Bool.{true}
 use mathlib.Core.List.{List, _++_, append-assoc}
 use mathlib.Core.Path.{_≡_, refl, sym, ap, _∙_}
-use lib.ListN.{length, getD, take, drop, length-drop, take-append-drop}
+use lib.ListN.{length, getD, drop, length-drop, take-append-drop}
 use lib.Seq.{drop-drop, getD-drop}
-use Rattle.laws.specs.Choice.{and-true}
-use Rattle.layout.specs.Number.{littleEndian, bytesAt, numberAt, Bytes}
+use Rattle.layout.specs.Number.{littleEndian, numberAt, Bytes}
 use Rattle.protocol.specs.declared.setup.Setup.{Setup}
 use Rattle.protocol.specs.declared.step.Step.{Step}
-use Rattle.protocol.specs.Setup.{inRange}
 use Rattle.file_records.specs.Records.{setupIn, stepIn}
-use Rattle.shape.specs.Shape.{countOf, distanceOf, setupPlace, firstPlace, reserved, stepsFit, contentsFit, wellFormed}
+use Rattle.shape.specs.Shape.{countOf, setupPlace, firstPlace, wellFormed}
 use Rattle.shape.specs.Parts.{Parts, formed-parts, whole, formed-spare}
 use Rattle.runfile.specs.File.{contentsOf, noteOf}
 use Rattle.runfile.specs.Reading.{formed, contents-read}

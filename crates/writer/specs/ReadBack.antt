@@ -1,25 +1,25 @@
 -- 02, A5: "writes the file that the reader accepts, whose parts come back the same".
-use Prim.Native.Nat.{ℕ, zero, suc, _+_, _-_, _*_, _<_, _≤_}
+use Prim.Native.Nat.{ℕ, _+_, _-_, _*_, _<_, _≤_}
 use native.Mathlib.Omega.{arith}
 use mathlib.Core.Bool.{true}
 use mathlib.Core.Logic.{⊎-elim}
 use mathlib.Core.List.{List, [], _∷_, _++_, append-assoc}
 use mathlib.Core.Path.{_≡_, refl, sym, ap, _∙_}
-use lib.ListN.{length, getD, take, drop, length-append}
+use lib.ListN.{length, drop}
 use lib.Seq.{drop-at, take-at, drop-drop, getD-drop}
 use borrow.Author.Tests.{le-leb, eq-eqb}
 use Rattle.laws.specs.Choice.{true-or-false}
 use Rattle.laws.specs.Lists.{All}
 use Rattle.laws.specs.Loop.{all-each, all-of}
-use Rattle.layout.specs.Number.{littleEndian, bytesOf, bytesAt, limit, numberAt, read-back}
+use Rattle.layout.specs.Number.{littleEndian, numberAt}
 use Rattle.protocol.specs.declared.setup.Setup.{Setup}
 use Rattle.protocol.specs.declared.step.Step.{Step}
 use Rattle.protocol.specs.Setup.{inRange}
 use Rattle.file_records.specs.Records.{setupIn, stepIn, noStep}
-use Rattle.shape.specs.Shape.{countOf, distanceOf, setupPlace, firstPlace, placeOf, reserved, stepFits, stepFitsAt, stepsFit, measured, contentsFit, wellFormed}
-use Rattle.runfile.specs.File.{contents, contentsOf, noteOf}
+use Rattle.shape.specs.Shape.{countOf, distanceOf, setupPlace, firstPlace, reserved, stepFits, stepFitsAt, measured, contentsFit, wellFormed}
+use Rattle.runfile.specs.File.{contentsOf, noteOf}
 use Rattle.runfile.specs.Steps.{stepsFrom, stepsOf, from-at}
-use Rattle.record_bytes.specs.Bytes.{setupFront, setupBytes, stepBytes, stepsBytes, trailerBytes, fileBytes, fileLength, length-setup, length-step, length-steps, length-trailer, length-file}
+use Rattle.record_bytes.specs.Bytes.{setupFront, setupBytes, stepBytes, stepsBytes, trailerBytes, fileBytes, fileLength, length-setup, length-step, length-steps, length-file}
 use Rattle.record_bytes.specs.Round.{Widths, bytes-there, step-there, setup-there, step-back, setup-back, trailer-back}
 use Rattle.step_list.specs.declared.Steps.{Steps}
 use Rattle.step_list.specs.Held.{held, length-held}

@@ -6,7 +6,7 @@ ghost use lib.ListN.{length};
 ghost use Rattle.output.specs.Written.{Written};
 ghost use Rattle.output.specs.Report.{Reports};
 ghost use Rattle.protocol.specs.Setup.{inRange};
-ghost use Rattle.record_bytes.specs.Bytes.{stepsBytes, fileBytes, fileLength};
+ghost use Rattle.record_bytes.specs.Bytes.{stepsBytes, fileBytes};
 ghost use Rattle.step_list.specs.Held.{held};
 ghost use Rattle.writer.specs.File.{stepsRight, fileFits, writeRefusal};
 use output::Report;
