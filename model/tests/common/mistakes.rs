@@ -1,5 +1,7 @@
 //! Mistakes by name, for a writer or a generator that may make one of them.
 
+use std::fmt::Debug;
+
 macro_rules! mistakes {
     ($($(#[$why:meta])* $name:ident,)*) => {
         #[derive(Clone, Copy, Debug, PartialEq, Eq)]
@@ -34,9 +36,20 @@ impl<M: Copy + PartialEq> Rule<M> {
 
 type File = Result<Vec<u8>, u8>;
 
-/// How many files are others with the mistake.
-pub fn differing(right: &[File], wrong: impl Iterator<Item = File>) -> usize {
-    right.iter().zip(wrong).filter(|(right, wrong)| *right != wrong).count()
+/// Each mistake makes another file of some call than the right one.
+pub fn assert_each_found<C, M: Copy + Debug>(
+    each: &[M],
+    calls: &[C],
+    right: impl Fn(&C) -> File,
+    made: impl Fn(Rule<M>, &C) -> File,
+) {
+    let files: Vec<_> = calls.iter().map(right).collect();
+    for &mistake in each {
+        let differs = |(call, file): &(&C, &File)| made(Rule(Some(mistake)), call) != **file;
+        let found = calls.iter().zip(&files).filter(differs).count();
+        println!("{mistake:?}: {found} of {} calls", calls.len());
+        assert!(found > 0, "{mistake:?}");
+    }
 }
 
 /// Files and both refusals, so that no answer alone would do.

@@ -6,7 +6,7 @@ use model::workload::steps;
 
 use crate::common;
 use crate::mistaken::Mistake;
-use crate::rule::{assert_every_answer, differing, Rule};
+use crate::rule::{assert_each_found, assert_every_answer, Rule};
 use crate::vectors::vectors;
 
 const RIGHT: Rule<Mistake> = Rule(None);
@@ -34,13 +34,7 @@ fn the_steps_worked_out_find_every_mistake() {
 
 #[test]
 fn the_calls_find_every_mistake() {
-    let calls = calls(1);
-    let files: Vec<_> = calls.iter().map(|call| call.file()).collect();
-    for &mistake in Mistake::EACH {
-        let found = differing(&files, calls.iter().map(|call| Rule(Some(mistake)).file(call)));
-        println!("{mistake:?}: {found} of {} calls", calls.len());
-        assert!(found > 0, "{mistake:?}");
-    }
+    assert_each_found(Mistake::EACH, &calls(1), |call| call.file(), |rule, call| rule.file(call));
 }
 
 #[test]

@@ -4,7 +4,7 @@
 use model::gen::writer_calls::calls;
 
 use crate::mistaken::Mistake;
-use crate::rule::{assert_every_answer, differing, Rule};
+use crate::rule::{assert_each_found, assert_every_answer, Rule};
 
 const RIGHT: Rule<Mistake> = Rule(None);
 
@@ -17,13 +17,7 @@ fn without_a_mistake_it_is_the_models() {
 
 #[test]
 fn the_calls_find_every_mistake() {
-    let calls = calls(1);
-    let files: Vec<_> = calls.iter().map(|call| call.file()).collect();
-    for &mistake in Mistake::EACH {
-        let found = differing(&files, calls.iter().map(|call| Rule(Some(mistake)).file(call)));
-        println!("{mistake:?}: {found} of {} calls", calls.len());
-        assert!(found > 0, "{mistake:?}");
-    }
+    assert_each_found(Mistake::EACH, &calls(1), |call| call.file(), |rule, call| rule.file(call));
 }
 
 #[test]
