@@ -1,6 +1,8 @@
 -- 01, "Questions at the gate": asked in order; the first "no" gives its number. 0 is none: the step is accepted.
-use Prim.Native.Nat.{ℕ}
-use mathlib.Core.Bool.{Bool, cond, not, _&&_, _||_}
+use Prim.Native.Nat.{ℕ, suc}
+use native.Mathlib.Omega.{arith}
+use mathlib.Core.Bool.{Bool, true, false, cond, not, _&&_, _||_}
+use mathlib.Core.Path.{_≡_, refl}
 use lib.Dec.{ltb, eqb}
 use Rattle.laws.specs.Loop.{allFrom}
 use Rattle.protocol.specs.declared.records.Request.{Request}
@@ -77,6 +79,11 @@ growable s t r x =
 
 abbrev pub orRefuse : Bool → ℕ → ℕ → ℕ
 orRefuse ok number next = cond ok next number
+
+-- where nothing is refused, the question was answered "yes"
+pub asked : (ok : Bool) (k n : ℕ) → orRefuse ok (suc k) n ≡ 0 → (ok ≡ true) × (n ≡ 0)
+asked true k n e = (refl, e)
+asked false k n e = absurd (omega arith)
 
 -- questions 2 to 6, once the tables are known to be sound
 unfoldable pub refusalOfStep : Setup → Tables → Request → Step → ℕ

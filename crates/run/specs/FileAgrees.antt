@@ -18,8 +18,8 @@ pub record FileAgrees (l bytes : List ℕ) (rs : List Answer) (u : World) : Type
   pub kept : Kept (setupOf l) (stepsOf l) rs u
   pub words : HistoryAgrees (setupOf l) (stepsOf l) rs u
 
--- the listing of a file that is not refused, which is what is written, is what a program would print that calls the public step over and over, from fresh tables on, with the
--- file's steps
+-- a file that is not refused: its listing, which is what is written, is what a program would print that calls the public step over and over with the file's
+-- steps, from fresh tables on
 pub file-as-calls : (l : List ℕ) (n : ℕ) (rs : List Answer) (u : World) → listRefusal l n ≡ 0 → Calls (setupOf l) (freshWorld (setupOf l)) (stepsOf l) rs u
     → FileAgrees l (fileListing l) rs u
 unfolding fileListing answersOf

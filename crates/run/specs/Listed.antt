@@ -1,18 +1,16 @@
--- The listing of a run file's bytes, and what a call that lists them answers and writes.
+-- The listing of a run file's bytes, and where a call that lists them is refused.
 use Prim.Native.Nat.{ℕ, suc, _<_, _≤_}
 use native.Mathlib.Omega.{arith}
 use mathlib.Core.Bool.{true, false}
 use mathlib.Core.List.{List, [], _∷_}
-use mathlib.Core.Logic.{⊎-elim}
-use mathlib.Core.Path.{_≡_, refl, sym, ap, _∙_}
+use mathlib.Core.Path.{_≡_, refl, ap}
 use lib.Dec.{leb}
 use lib.ListN.{length}
 use borrow.Author.Tests.{le-leb, lt-leb}
-use Rattle.laws.specs.Choice.{true-or-false}
 use Rattle.protocol.specs.declared.setup.Setup.{Setup}
 use Rattle.protocol.specs.declared.step.Answer.{Answer}
 use Rattle.protocol.specs.declared.step.Step.{Step}
-use Rattle.protocol.specs.Gate.{orRefuse}
+use Rattle.protocol.specs.Gate.{orRefuse, asked}
 use Rattle.protocol.specs.World.{World, freshWorld, stepped, ran, answers}
 use Rattle.file_records.specs.Records.{setupIn}
 use Rattle.shape.specs.Shape.{setupPlace, wellFormed}
@@ -69,7 +67,5 @@ module _ (l : List ℕ) (n : ℕ) where
 
   -- what is not refused is a run file
   pub listed-formed : listRefusal l n ≡ 0 → wellFormed l ≡ true
-  listed-formed e = ⊎-elim (λ t. t) (λ t. absurd (never (sym (listed-none t) ∙ e))) (true-or-false (wellFormed l))
-    where
-      never : _≡_ {A = ℕ} 9 0 → ⊥
-      never q = omega arith
+  unfolding listRefusal
+  listed-formed e = asked (wellFormed l) 8 _ e .0

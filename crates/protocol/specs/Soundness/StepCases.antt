@@ -25,7 +25,7 @@ use Rattle.protocol.specs.Server.{serverRestarted}
 use Rattle.protocol.specs.Client.{sweptAll}
 use Rattle.protocol.specs.Sound.{sound, recordsSound, tablesSound, clockLimit, canGrow}
 use Rattle.protocol.specs.SoundLaws.{sound-length}
-use Rattle.protocol.specs.Gate.{isClock, isAsk, isWrite, isRestartServer, usesClient, usesObject, usesPlace, known, exists, timely, vacant, growable, orRefuse, refusalOfStep, refusal}
+use Rattle.protocol.specs.Gate.{isClock, isAsk, isWrite, isRestartServer, usesClient, usesObject, usesPlace, known, exists, timely, vacant, growable, asked, refusalOfStep, refusal}
 use Rattle.protocol.specs.Decide.{kept, answered, counting, readDecided, askDecided, taken, deliverDecided, restartDecided, performed, refusedWith, decided}
 use Rattle.protocol.specs.World.{World, target, copiesAfter, requestsAfter, decision, stepped, answerOf}
 use Rattle.protocol.specs.Ledger.{accepts}
@@ -42,10 +42,6 @@ pub record Passed (s : Setup) (t : Tables) (r : Request) (x : Step) : Type 0 whe
 pub record Accepted (s : Setup) (t : Tables) (records : Bool) (r : Request) (x : Step) : Type 0 where
   pub sounds : sound s t records ≡ true
   pub passes : Passed s t r x
-
-asked : (ok : Bool) (k n : ℕ) → orRefuse ok (suc k) n ≡ 0 → (ok ≡ true) × (n ≡ 0)
-asked true k n e = (refl, e)
-asked false k n e = absurd (omega arith)
 
 pub passed : (s : Setup) (t : Tables) (r : Request) (x : Step) → refusalOfStep s t r x ≡ 0 → Passed s t r x
 unfolding refusalOfStep
