@@ -36,7 +36,7 @@ module _ (x : Step) where
 
 -- five draws one after the other
 module _ (s a b c d e : ℕ) (f : a ≡ next s) (g : b ≡ next a) (h : c ≡ next b) (i : d ≡ next c) (j : e ≡ next d) where
-  pub five : (a ≡ draw s 1) × ((b ≡ draw s 2) × ((c ≡ draw s 3) × ((d ≡ draw s 4) × (e ≡ draw s 5))))
+  five : (a ≡ draw s 1) × ((b ≡ draw s 2) × ((c ≡ draw s 3) × ((d ≡ draw s 4) × (e ≡ draw s 5))))
   unfolding draw
   five = (f, (rw (← f) g, (rw (← f, ← g) h, (rw (← f, ← g, ← h) i, rw (← f, ← g, ← h, ← i) j))))
 

@@ -88,7 +88,7 @@ pub struct Drawn {
 }
 
 // The next step after a seed, for a setup in range. A total of 4,000 steps is at most 16,000.
-pub fn draw_step(setup: Setup, seed: u32, total: u32) -> Drawn
+pub fn draw_step(seed: u32, setup: Setup, total: u32) -> Drawn
     requires { ⌜ inRange setup ≡ true ⌝ }
     requires { ⌜ total ≤ 16000 ⌝ }
     ensures { λ r. ⌜ r ≡ drawnAfter setup seed total ⌝ }

@@ -7,6 +7,8 @@ use lib.Dec.{eqb}
 use lib.ListN.{length}
 use lib.Seq.{sets}
 use Rattle.protocol.specs.declared.setup.Setup.{Setup}
+use Rattle.output.specs.declared.Report.{Report}
+use Rattle.output.specs.declared.Report.the-variants as report
 use Rattle.output.specs.Report.{unlessRefused}
 use Rattle.record_bytes.specs.Bytes.{fileBytes}
 use Rattle.step_list.specs.declared.Steps.{Steps}
@@ -14,6 +16,11 @@ use Rattle.step_list.specs.Held.{held}
 use Rattle.run.specs.Listed.{fileListing, listRefusal}
 use Rattle.writer.specs.File.{writeRefusal}
 use Rattle.workload.specs.Workload.{workload, fileRefusal}
+
+-- the length that a caller is told: that of what was written, and else what it was told before
+abbrev pub lengthAfter : Report → ℕ → ℕ
+lengthAfter (report.Written n) before = n
+lengthAfter (report.Refused k) before = before
 
 -- the bytes b at the start of an output, and their length; a call that is refused leaves both as they were
 pub record Writes (refusal : ℕ) (b before after : List ℕ) (n m r : ℕ) : Type 0 where

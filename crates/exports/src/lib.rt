@@ -1,23 +1,33 @@
 // The library that other languages link (`rt staticlib exports`): calls on numbers and slices, each 0 or 01's number of a refusal, which changes nothing.
 // A slice is two arguments, its address and its length.
+ghost use mathlib.Core.Path.{_≡_};
+ghost use Rattle.output.specs.Report.{reportNumber};
 ghost use Rattle.lent_parts.specs.Lent.{setupLent, stepsLent};
-ghost use Rattle.exports.specs.Calls.{Lists, WritesFile, WritesWorkload};
+ghost use Rattle.exports.specs.Calls.{lengthAfter, Lists, WritesFile, WritesWorkload};
 ghost use Rattle.frame_numbers.specs.Calls.{EncodesFields, DecodesFields};
 ghost use Rattle.numbers.specs.Numbers.{fieldsFrom};
 use output::Report;
 
-// The listing of a run file's bytes, at the start of the output, and its length. 9 for what is no run file, 8 for an output that is too short.
-#[no_mangle]
-pub extern "C" fn gevtsomi_list(file: &[u8], out: &mut [u8], written: &mut usize) -> u8
-    ensures { λ r. ⌜ Lists (now (file .entry)) (now (out .entry)) (now (out .exit)) (now (written .entry)) (now (written .exit)) r ⌝ }
+// The number of a call's answer, and how long it wrote, where it did.
+fn told(report: Report, written: &mut usize) -> u8
+    ensures number { λ r. ⌜ r ≡ reportNumber report ⌝ }
+    ensures length { λ _. ⌜ now (written .exit) ≡ lengthAfter report (now (written .entry)) ⌝ }
 {
-    match run::list(file, out) {
+    match report {
         Report::Written(n) => {
             *written = n;
             0
         }
         Report::Refused(k) => k,
     }
+}
+
+// The listing of a run file's bytes, at the start of the output, and its length. 9 for what is no run file, 8 for an output that is too short.
+#[no_mangle]
+pub extern "C" fn gevtsomi_list(file: &[u8], out: &mut [u8], written: &mut usize) -> u8
+    ensures { λ r. ⌜ Lists (now (file .entry)) (now (out .entry)) (now (out .exit)) (now (written .entry)) (now (written .exit)) r ⌝ }
+{
+    told(run::list(file, out), written)
 }
 
 // The run file of a note, a setup and steps, at the start of the output, and its length: the setup in its 48 bytes, the steps in records of 16. 7 for what is
@@ -34,13 +44,10 @@ pub extern "C" fn gevtsomi_write(
     ensures { λ r. ⌜ WritesFile (now (note .entry)) (setupLent (now (setup .entry))) (stepsLent (now (records .entry))) (now (out .entry)) (now (out .exit)) (now (written .entry)) (now (written .exit)) r ⌝ }
 {
     let steps = lent_parts::steps_lent(records);
-    match writer::write(note, lent_parts::setup_lent(setup), steps, out) {
-        Report::Written(n) => {
-            *written = n;
-            0
-        }
-        Report::Refused(k) => k,
-    }
+    told(
+        writer::write(note, lent_parts::setup_lent(setup), steps, out),
+        written,
+    )
 }
 
 // The run file of the first steps of a seed, likewise. 7 for what is no setup in range; then 10 for more than 4,000 steps, a file of more than 65,536 bytes,
@@ -56,13 +63,10 @@ pub extern "C" fn gevtsomi_workload(
 ) -> u8
     ensures { λ r. ⌜ WritesWorkload seed (now (note .entry)) (setupLent (now (setup .entry))) count (now (out .entry)) (now (out .exit)) (now (written .entry)) (now (written .exit)) r ⌝ }
 {
-    match workload::write(note, seed, lent_parts::setup_lent(setup), count, out) {
-        Report::Written(n) => {
-            *written = n;
-            0
-        }
-        Report::Refused(k) => k,
-    }
+    told(
+        workload::write(seed, note, lent_parts::setup_lent(setup), count, out),
+        written,
+    )
 }
 
 // The frame of a message whose fields these are, in the frame's order; those that its kind lacks are 0.

@@ -45,6 +45,10 @@ pub or-false : (a b : Bool) → (a || b) ≡ false → (a ≡ false) × (b ≡ f
 or-false true b e = not-both refl e
 or-false false b e = (refl, e)
 
+pub and-yes : (b : Bool) → (b && true) ≡ b
+and-yes true = refl
+and-yes false = refl
+
 pub or-yes : (b : Bool) → true ≡ (b || true)
 or-yes true = refl
 or-yes false = refl

@@ -2,14 +2,14 @@
 use Prim.Native.Nat.{ℕ, _+_, _*_, _/_, _%_, _<_, _≤_}
 use native.Mathlib.Omega.{arith}
 use mathlib.Core.List.{List}
-use mathlib.Core.Path.{_≡_}
-use lib.ListN.{length, getD, set, replicate}
+use mathlib.Core.Path.{_≡_, ap, _∙_}
+use lib.ListN.{length, getD, set}
 use borrow.Author.Tests.{le-leb, lt-leb, eq-eqb, ne-eqb}
 use Rattle.protocol.specs.declared.setup.Setup.{Setup}
 use Rattle.protocol.specs.declared.step.Step.{Step}
-use Rattle.file_records.specs.Records.{setupIn, stepIn, noSetup, noStep}
+use Rattle.file_records.specs.Records.{setupIn, stepIn, noSetup}
 use Rattle.step_list.specs.declared.Steps.{Steps}
-use Rattle.step_list.specs.Held.{blank, itemsOf, stepsBy, items-none, items-next}
+use Rattle.step_list.specs.Held.{blank, stepsBy, Filling, filling-none, filling-again, filling-end}
 use Rattle.lent_parts.specs.Lent.{setupLent, stepLent, stepsLent}
 
 -- ---- a setup
@@ -27,30 +27,24 @@ module _ (l : List ℕ) (s : Setup) where
   setup-right g h e = rw (eq-eqb _ _ g, eq-eqb (getD l 3 0) 0 h) e
 
 -- ---- records read one after the other: k items are filled, and the place is that of record k
-pub record Reading (l : List ℕ) (n : ℕ) (items : List Step) (place k : ℕ) : Type 0 where
-  pub some : k ≤ n
-  pub filled : items ≡ itemsOf (stepLent l) k
+pub record Reading (l : List ℕ) (n : ℕ) (x : Steps) (place k : ℕ) : Type 0 where
+  pub filling : Filling (stepLent l) n x k
   pub there : place ≡ 16 * k
 
-module _ (l : List ℕ) (n : ℕ) where
-  pub reading-none : (x : Step) → x ≡ noStep → Reading l n (replicate 4000 x) 0 0
-  reading-none x e = record { some = omega arith; filled = rw e (items-none (stepLent l)); there = omega arith }
+module _ (l : List ℕ) (n : ℕ) (x : Steps) where
+  pub reading-none : x ≡ blank n → Reading l n x 0 0
+  reading-none e = record { filling = filling-none _ n x e; there = omega arith }
 
-  module _ (items : List Step) (place k : ℕ) (r : Reading l n items place k) where
+  module _ (place k : ℕ) (r : Reading l n x place k) where
     pub record-there : k < n → 16 * n ≤ length l → place + 16 ≤ length l
     record-there g h = omega (arith, r .there)
 
-    pub reading-again : (x : Step) → k < n → n ≤ 4000 → x ≡ stepIn l place → Reading l n (set items k x) (place + 16) (k + 1)
-    reading-again x g h e = record {
-      some = omega arith;
-      filled = rw (e, r .filled, r .there) (items-next (stepLent l) k (omega arith));
-      there = omega (arith, r .there);
-    }
+    pub reading-again : (y : Step) → k < n → n ≤ 4000 → y ≡ stepIn l place
+        → (let z : Steps = record { items = set (x .items) k y; len = x .len } in Reading l n z (place + 16) (k + 1))
+    reading-again y g h e = record { filling = filling-again _ n x k y (r .filling) g h (e ∙ ap (stepIn l) (r .there)); there = omega (arith, r .there) }
 
-    pub reading-end : n ≤ k → (let x : Steps = record { items = items; len = n } in x ≡ stepsBy (stepLent l) n)
-    reading-end h =
-        let i : k ≡ n = omega (arith, r .some) in
-        rw (r .filled, i)
+    pub reading-end : n ≤ k → x ≡ stepsBy (stepLent l) n
+    reading-end h = filling-end _ n x k (r .filling) h
 
 -- ---- the records as a whole
 module _ (l : List ℕ) (x : Steps) where

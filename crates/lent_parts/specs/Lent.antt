@@ -11,18 +11,22 @@ use Rattle.shape.specs.Shape.{reserved}
 use Rattle.step_list.specs.declared.Steps.{Steps}
 use Rattle.step_list.specs.Held.{blank, stepsBy}
 
--- the setup in these bytes, if they are 48 and the one after the counts is 0; else one out of range, which is refused by 7
+-- 48 bytes, and the one after the counts is 0
+abbrev pub setupWhole : List ℕ → Bool
+setupWhole l = eqb (length l) 48 && eqb (reserved l 0) 0
+
+-- the setup in these bytes; else one out of range
 unfoldable pub setupLent : List ℕ → Setup
-setupLent l = cond (eqb (length l) 48 && eqb (reserved l 0) 0) (setupIn l 0) noSetup
+setupLent l = cond (setupWhole l) (setupIn l 0) noSetup
 
 -- record k of these
 abbrev pub stepLent : List ℕ → ℕ → Step
 stepLent l k = stepIn l (16 * k)
 
 -- whole records, at most 4,000
-abbrev pub wholeRecords : List ℕ → Bool
-wholeRecords l = eqb (length l % 16) 0 && leb (length l) 64000
+abbrev pub recordsWhole : List ℕ → Bool
+recordsWhole l = eqb (length l % 16) 0 && leb (length l) 64000
 
--- the steps in these records; else more than a run file can have, which is refused by 10
+-- the steps in these records; else more than a run file can have
 unfoldable pub stepsLent : List ℕ → Steps
-stepsLent l = cond (wholeRecords l) (stepsBy (stepLent l) (length l / 16)) (blank 4001)
+stepsLent l = cond (recordsWhole l) (stepsBy (stepLent l) (length l / 16)) (blank 4001)

@@ -26,22 +26,19 @@ fn steps_in(records: &[u8], count: usize) -> Steps
     requires { ⌜ count ≤ 4000 ⌝ }
     ensures { λ r. ⌜ r ≡ stepsBy (stepLent (now (records .entry))) count ⌝ }
 {
-    let none = file_records::no_step();
-    let mut items = [none; 4000];
+    let mut steps = step_list::blank(count as u32);
     let mut place = 0;
     let mut k = 0;
     while k < count {
-        items[k] = file_records::step_in(records, place);
+        let step = file_records::step_in(records, place);
+        steps.items[k] = step;
         place += 16;
         k += 1;
     }
-    Steps {
-        items,
-        len: count as u32,
-    }
+    steps
 }
 
-// Records that are not whole, or more than 4,000, are too many.
+// Records that are not whole, or more than 4,000, become a list that is longer than that of any run file.
 pub fn steps_lent(records: &[u8]) -> Steps
     ensures { λ r. ⌜ r ≡ stepsLent (now (records .entry)) ⌝ }
 {

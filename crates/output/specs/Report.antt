@@ -35,17 +35,18 @@ unlessRefused refusal b = cond (eqb refusal 0) b []
 pub record Reports (refusal : ℕ) (b before after : List ℕ) (r : Report) : Type 0 where
   pub answer : r ≡ reportOf refusal (length b)
   pub number : reportNumber r ≡ refusal
+  pub long : reportLength r ≡ length (unlessRefused refusal b)
   pub bytes : after ≡ sets before 0 (unlessRefused refusal b)
 
 module _ (refusal : ℕ) (b before : List ℕ) where
   -- ---- what each way through such a call comes to
   pub all-written : (after : List ℕ) → refusal ≡ 0 → after ≡ sets before 0 b → Reports refusal b before after (Written (length b))
   unfolding reportOf unlessRefused
-  all-written after e f = record { answer = rw e; number = sym e; bytes = rw e f }
+  all-written after e f = record { answer = rw e; number = sym e; long = rw e; bytes = rw e f }
 
   pub none-written : (k : ℕ) → refusal ≡ k → eqb k 0 ≡ false → Reports refusal b before before (Refused k)
   unfolding reportOf unlessRefused
-  none-written k e f = record { answer = rw (e, f); number = sym e; bytes = rw (e, f) }
+  none-written k e f = record { answer = rw (e, f); number = sym e; long = rw (e, f); bytes = rw (e, f) }
 
   -- ---- and what its caller goes by
   module _ (after : List ℕ) (r : Report) (d : Reports refusal b before after r) where

@@ -2,19 +2,18 @@
 // room, and gives the place after.
 ghost use Prim.Native.Nat.{_+_, _≤_};
 ghost use mathlib.Core.Bool.{true};
-ghost use mathlib.Core.List.{[], _∷_};
 ghost use mathlib.Core.Path.{_≡_};
 ghost use lib.ListN.{length};
 ghost use Rattle.protocol.specs.Setup.{inRange};
 ghost use Rattle.layout.specs.Number.{Stored};
 ghost use Rattle.output.specs.Written.{Written};
-ghost use Rattle.record_bytes.specs.Bytes.{setupFront, setupBytes, stepBytes, trailerBytes};
+ghost use Rattle.record_bytes.specs.Bytes.{head, setupFront, setupBytes, stepBytes, trailerBytes};
 use protocol::setup::Setup;
 use protocol::step::Step;
 
 fn write_head(out: &mut [u8], at: usize, a: u8, b: u8, c: u8, d: u8)
     requires { ⌜ at + 4 ≤ length (now out) ⌝ }
-    ensures { λ _. ⌜ Stored (now (out .entry)) (now (out .exit)) at (a ∷ (b ∷ (c ∷ (d ∷ [])))) ⌝ }
+    ensures { λ _. ⌜ Stored (now (out .entry)) (now (out .exit)) at (head a b c d) ⌝ }
 {
     out[at] = a;
     out[at + 1] = b;
@@ -41,6 +40,7 @@ fn write_front(out: &mut [u8], at: usize, setup: Setup)
     layout::write_u32(out, at + 12, setup.m);
 }
 
+// The second clause is for callers, who do not see that a setup has 32 volume bytes.
 pub fn write_setup(out: &mut [u8], at: usize, setup: Setup) -> usize
     requires { ⌜ at + 48 ≤ length (now out) ⌝ }
     requires { ⌜ inRange setup ≡ true ⌝ }

@@ -53,11 +53,10 @@ module _ (f : ℕ → Step) where
   unfolding filled
   filled-past n k h = rw (le-ltb _ _ h)
 
-  -- ---- a loop that has filled k items
-  pub items-none : replicate 4000 noStep ≡ itemsOf f 0
+  items-none : replicate 4000 noStep ≡ itemsOf f 0
   items-none = sym (tabulate-one (filled f 0) noStep 0 4000 (λ j _ _. filled-past 0 j (omega arith)))
 
-  pub items-next : (k : ℕ) → k < 4000 → set (itemsOf f k) k (f k) ≡ itemsOf f (k + 1)
+  items-next : (k : ℕ) → k < 4000 → set (itemsOf f k) k (f k) ≡ itemsOf f (k + 1)
   items-next k h = sym (tabulate-set (filled f k) (filled f (k + 1)) (f k) 4000 k h same (filled-below (k + 1) k (omega arith)))
     where
       same : (j : ℕ) → j < 4000 → (j ≡ k → ⊥) → filled f (k + 1) j ≡ filled f k j
@@ -73,11 +72,28 @@ module _ (f : ℕ → Step) where
               let b = ltb-false j k t in
               filled-past (k + 1) j (omega (arith, b, n)) ∙ sym (filled-past k j b)
 
-  -- and when it is through
   pub held-by : (n : ℕ) → n ≤ 4000 → held (stepsBy f n) ≡ tabulate f 0 n
   unfolding held
   held-by n h =
       tabulate-same f (itemOf (stepsBy f n)) 0 n (λ j _ b. tabulate-at (filled f n) 4000 j noStep (omega (arith, b)) ∙ filled-below n j (omega (arith, b)))
+
+-- ---- a loop that fills k of n items, of steps with nothing in them at first
+pub record Filling (f : ℕ → Step) (n : ℕ) (x : Steps) (k : ℕ) : Type 0 where
+  pub some : k ≤ n
+  pub is : x ≡ record { items = itemsOf f k; len = n }
+
+module _ (f : ℕ → Step) (n : ℕ) (x : Steps) where
+  pub filling-none : x ≡ blank n → Filling f n x 0
+  filling-none e = record { some = omega arith; is = rw (e, items-none f) }
+
+  pub filling-again : (k : ℕ) (y : Step) → Filling f n x k → k < n → n ≤ 4000 → y ≡ f k
+      → (let z : Steps = record { items = set (x .items) k y; len = x .len } in Filling f n z (k + 1))
+  filling-again k y d g h e = record { some = omega arith; is = rw (d .is, e, items-next f k (omega arith)) }
+
+  pub filling-end : (k : ℕ) → Filling f n x k → n ≤ k → x ≡ stepsBy f n
+  filling-end k d h =
+      let i : k ≡ n = omega (arith, d .some) in
+      d .is ∙ rw i
 
 -- ---- what a loop over the steps goes by
 module _ (x : Steps) where

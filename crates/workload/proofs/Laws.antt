@@ -6,18 +6,16 @@ use mathlib.Core.Bool.{Bool, true, false}
 use mathlib.Core.List.{List}
 use mathlib.Core.Path.{_≡_, refl, sym, ap, _∙_}
 use lib.Dec.{eqb}
-use lib.ListN.{length, set, replicate}
+use lib.ListN.{length, set}
 use borrow.Author.Tests.{le-leb, lt-leb, ne-eqb}
 use Rattle.protocol.specs.declared.setup.Setup.{Setup}
-use Rattle.protocol.specs.declared.step.Step.{Step}
 use Rattle.protocol.specs.Setup.{inRange}
-use Rattle.file_records.specs.Records.{noStep}
 use Rattle.output.specs.declared.Report.{Report}
 use Rattle.output.specs.declared.Report.the-variants as report
 use Rattle.output.specs.Report.{Reports, none-written}
 use Rattle.record_bytes.specs.Bytes.{fileBytes}
 use Rattle.step_list.specs.declared.Steps.{Steps}
-use Rattle.step_list.specs.Held.{held, blank, itemsOf, stepsBy, items-none, items-next, held-by}
+use Rattle.step_list.specs.Held.{held, blank, stepsBy, Filling, filling-none, filling-again, filling-end, held-by}
 use Rattle.writer.specs.File.{writeRefusal}
 use Rattle.draws.specs.declared.Drawn.{Drawn}
 use Rattle.draws.specs.Draws.{drawnAfter}
@@ -26,33 +24,30 @@ use Rattle.workload.specs.Workload.{seedOf, totalOf, stepOf, workload, s
 use Rattle.workload.specs.Laws.{total-small, same-refusal, unrefused, refused-alike}
 
 -- ---- the steps drawn one after the other: k items are filled, and seed and total are those of step k
-pub record Drawing (q : Setup) (s n : ℕ) (items : List Step) (last total k : ℕ) : Type 0 where
-  pub some : k ≤ n
-  pub filled : items ≡ itemsOf (stepOf q s) k
+pub record Drawing (q : Setup) (s n : ℕ) (x : Steps) (last total k : ℕ) : Type 0 where
+  pub filling : Filling (stepOf q s) n x k
   pub seed-is : last ≡ seedOf s k
   pub total-is : total ≡ totalOf q s k
 
-pub drawing-none : (q : Setup) (s n : ℕ) (x : Step) → x ≡ noStep → Drawing q s n (replicate 4000 x) s 0 0
+pub drawing-none : (q : Setup) (s n : ℕ) (x : Steps) → x ≡ blank n → Drawing q s n x s 0 0
 unfolding seedOf totalOf
-drawing-none q s n x e = record { some = omega arith; filled = rw e (items-none (stepOf q s)); seed-is = refl; total-is = refl }
+drawing-none q s n x e = record { filling = filling-none _ n x e; seed-is = refl; total-is = refl }
 
-module _ (q : Setup) (s n : ℕ) (items : List Step) (last total k : ℕ) (d : Drawing q s n items last total k) where
+module _ (q : Setup) (s n : ℕ) (x : Steps) (last total k : ℕ) (d : Drawing q s n x last total k) where
   pub total-fits : k < n → n ≤ 4000 → total ≤ 16000
   total-fits g h = omega (arith, d .total-is, total-small q s k)
 
-  pub drawing-again : (r : Drawn) → k < n → n ≤ 4000 → r ≡ drawnAfter q last total → Drawing q s n (set items k (r .step)) (r .seed) (r .total) (k + 1)
+  pub drawing-again : (r : Drawn) → k < n → n ≤ 4000 → r ≡ drawnAfter q last total
+      → (let y : Steps = record { items = set (x .items) k (r .step); len = x .len } in Drawing q s n y (r .seed) (r .total) (k + 1))
   unfolding seedOf totalOf
   drawing-again r g h e = record {
-    some = omega arith;
-    filled = rw (e, d .filled, d .seed-is, d .total-is) (items-next (stepOf q s) k (omega arith));
+    filling = filling-again _ n x k (r .step) (d .filling) g h (rw (e, d .seed-is, d .total-is));
     seed-is = rw (e, d .seed-is, add-one);
     total-is = rw (e, d .seed-is, d .total-is, add-one);
   }
 
-  pub drawing-end : n ≤ k → (let r : Steps = record { items = items; len = n } in r ≡ stepsBy (stepOf q s) n)
-  drawing-end h =
-      let i : k ≡ n = omega (arith, d .some) in
-      rw (d .filled, i)
+  pub drawing-end : n ≤ k → x ≡ stepsBy (stepOf q s) n
+  drawing-end h = filling-end _ n x k (d .filling) h
 
 -- ---- what is asked
 module _ (q : Setup) (n : ℕ) (b : Bool) (e : b ≡ inRange q) where

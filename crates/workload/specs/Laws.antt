@@ -1,28 +1,28 @@
--- What holds of every workload: no clock passes 4 times the number of its steps, and each step fits into a run file.
+-- What holds of every workload: no clock passes 4 times the number of its steps, each step fits into a run file, and the file is read back.
 use Prim.Native.Nat.{ℕ, zero, suc, _*_, _<_, _≤_}
 use native.Mathlib.Omega.{arith}
-use mathlib.Core.Bool.{Bool, true, false, cond, not, _&&_, _||_}
+use mathlib.Core.Bool.{Bool, true, false, cond, not, _||_}
 use mathlib.Core.List.{List}
 use mathlib.Core.Path.{_≡_, refl, sym, ap, _∙_}
 use mathlib.Core.Logic.{⊎-elim}
 use lib.Dec.{leb, eqb}
 use lib.ListN.{length}
-use borrow.Author.Tests.{leb-true, eqb-true, eq-eqb}
-use Rattle.laws.specs.Choice.{or-yes, true-or-false, not-both}
+use borrow.Author.Tests.{leb-true}
+use Rattle.laws.specs.Choice.{and-true, and-yes, or-yes, true-or-false, not-both}
 use Rattle.laws.specs.Lists.{All}
 use Rattle.laws.specs.Loop.{all-of}
 use Rattle.laws.specs.Tabulate.{tabulate-at, length-tabulate, all-tabulate}
 use Rattle.protocol.specs.declared.setup.Setup.{Setup}
 use Rattle.protocol.specs.declared.step.Step.{Step}
 use Rattle.protocol.specs.Setup.{inRange}
-use Rattle.protocol.specs.Gate.{isClock, isWrite, usesClient, usesObject, usesPlace, known}
+use Rattle.protocol.specs.Gate.{asked, isClock, isWrite, usesClient, usesObject, usesPlace, known}
 use Rattle.file_records.specs.Records.{noStep}
 use Rattle.shape.specs.Shape.{stepFits}
 use Rattle.layout.specs.Number.{limit}
-use Rattle.record_bytes.specs.Bytes.{fileBytes, fileLength}
+use Rattle.record_bytes.specs.Bytes.{fileBytes}
 use Rattle.record_bytes.specs.Round.{Widths}
 use Rattle.step_list.specs.Held.{stepsBy, held-by}
-use Rattle.writer.specs.File.{stepRight, stepsRight, fileFits, writeRefusal}
+use Rattle.writer.specs.File.{sizesFit, fitsAt, allFit, fileFits, writeRefusal}
 use Rattle.writer.specs.ReadBack.{ReadAs, not-refused}
 use Rattle.draws.specs.Draws.{onlyUsed}
 use Rattle.draws.specs.Laws.{clock-near, value-small, total-near}
@@ -49,50 +49,45 @@ used-fits x =
     rw (kept (usesClient x) (x .client), kept (usesObject x) (x .object), kept (usesPlace x) (x .place), kept (isClock x) (x .clock), kept (isWrite x) (x .value)) (sym (or-yes (not (known (onlyUsed x)))))
 
 module _ (q : Setup) (s n : ℕ) where
-  pub workload-right : stepsRight (workload q s n) ≡ true
-  unfolding stepsRight
-  workload-right =
-      rw (length-tabulate (stepOf q s) 0 n) (all-of (stepRight (workload q s n)) n (λ k h. ap stepFits (tabulate-at (stepOf q s) n k noStep h) ∙ used-fits _))
+  pub workload-fits : allFit (workload q s n) ≡ true
+  unfolding allFit
+  workload-fits =
+      rw (length-tabulate (stepOf q s) 0 n) (all-of (fitsAt (workload q s n)) n (λ k h. ap stepFits (tabulate-at (stepOf q s) n k noStep h) ∙ used-fits _))
 
   -- so the writer has nothing else to ask of a workload
-  pub same-refusal : (note room : ℕ) → n ≤ 4000 → writeRefusal note q (stepsBy (stepOf q s) n) room ≡ fileRefusal note q n room
+  pub same-refusal : (noteLength room : ℕ) → n ≤ 4000 → writeRefusal noteLength q (stepsBy (stepOf q s) n) room ≡ fileRefusal noteLength q n room
   unfolding writeRefusal fileFits fileRefusal
-  same-refusal note room h =
-      rw (held-by (stepOf q s) n h, workload-right, and-yes (leb n 4000 && leb (fileLength note n) 65536 && leb (fileLength note n) room))
-    where
-      and-yes : (b : Bool) → (b && true) ≡ b
-      and-yes true = refl
-      and-yes false = refl
+  same-refusal noteLength room h = rw (held-by (stepOf q s) n h, workload-fits, and-yes (sizesFit noteLength n room))
 
 -- ---- what is not refused, and what is
 module _ (q : Setup) (n : ℕ) where
   pub unrefused : stepsRefusal q n ≡ 0 → (inRange q ≡ true) × (n ≤ 4000)
   unfolding stepsRefusal
-  unrefused e = ⊎-elim yes (λ t. absurd (seven (rw t at e))) (true-or-false (inRange q))
-    where
-      seven : _≡_ {A = ℕ} 7 0 → ⊥
-      seven z = omega arith
+  unrefused e =
+      let range = asked (inRange q) 6 _ e in
+      (range .0, leb-true _ _ (asked (leb n 4000) 9 0 (range .1) .0))
 
-      ten : _≡_ {A = ℕ} 10 0 → ⊥
-      ten z = omega arith
+  module _ (noteLength room : ℕ) where
+    pub refused-alike : eqb (stepsRefusal q n) 0 ≡ false → fileRefusal noteLength q n room ≡ stepsRefusal q n
+    unfolding stepsRefusal fileRefusal sizesFit
+    refused-alike e = ⊎-elim yes (λ t. rw t) (true-or-false (inRange q))
+      where
+        few : inRange q ≡ true → leb n 4000 ≡ true → fileRefusal noteLength q n room ≡ stepsRefusal q n
+        few t u = not-both refl (rw u at (rw t at e))
 
-      yes : inRange q ≡ true → (inRange q ≡ true) × (n ≤ 4000)
-      yes t = (t, ⊎-elim (λ u. leb-true _ _ u) (λ u. absurd (ten (rw u at (rw t at e)))) (true-or-false (leb n 4000)))
+        yes : inRange q ≡ true → fileRefusal noteLength q n room ≡ stepsRefusal q n
+        yes t = ⊎-elim (few t) (λ u. rw t (rw u)) (true-or-false (leb n 4000))
 
-  pub refused-alike : (note room : ℕ) → eqb (stepsRefusal q n) 0 ≡ false → fileRefusal note q n room ≡ stepsRefusal q n
-  unfolding stepsRefusal fileRefusal
-  refused-alike note room e = ⊎-elim yes (λ t. rw t) (true-or-false (inRange q))
-    where
-      few : inRange q ≡ true → leb n 4000 ≡ true → fileRefusal note q n room ≡ stepsRefusal q n
-      few t u = not-both refl (rw u at (rw t at e))
-
-      yes : inRange q ≡ true → fileRefusal note q n room ≡ stepsRefusal q n
-      yes t = ⊎-elim (few t) (λ u. rw t (rw u)) (true-or-false (leb n 4000))
+    few-written : fileRefusal noteLength q n room ≡ 0 → n ≤ 4000
+    unfolding fileRefusal sizesFit
+    few-written e =
+        let sizes = asked (sizesFit noteLength n room) 9 0 (asked (inRange q) 6 _ e .1) .0 in
+        leb-true _ _ (and-true _ _ (and-true _ _ sizes .0) .0)
 
 -- ---- the reader accepts the file of a workload, and hands back its parts
 module _ (note : List ℕ) (q : Setup) (s n room : ℕ) (v : length (q .volume) ≡ 32) (e : fileRefusal (length note) q n room ≡ 0) where
   few : n ≤ 4000
-  few = ⊎-elim (λ t. unrefused q n (eqb-true _ _ t) .1) (λ t. not-both (eq-eqb _ _ (sym (refused-alike q n (length note) room t) ∙ e)) t) (true-or-false (eqb (stepsRefusal q n) 0))
+  few = few-written q n (length note) room e
 
   widths : All Widths (workload q s n)
   unfolding limit

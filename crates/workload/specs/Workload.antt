@@ -1,6 +1,6 @@
 -- 02, A5: the steps of a workload.
 use Prim.Native.Nat.{ℕ, zero, suc}
-use mathlib.Core.Bool.{cond, _&&_}
+use mathlib.Core.Bool.{cond}
 use mathlib.Core.List.{List}
 use lib.Dec.{leb, eqb}
 use Rattle.laws.specs.Tabulate.{tabulate}
@@ -8,8 +8,8 @@ use Rattle.protocol.specs.declared.setup.Setup.{Setup}
 use Rattle.protocol.specs.declared.step.Step.{Step}
 use Rattle.protocol.specs.Setup.{inRange}
 use Rattle.protocol.specs.Gate.{orRefuse}
-use Rattle.record_bytes.specs.Bytes.{fileLength}
 use Rattle.step_list.specs.Held.{blank, stepsBy}
+use Rattle.writer.specs.File.{sizesFit}
 use Rattle.draws.specs.Draws.{draw, drawnStep, totalAfter}
 use Rattle.workload.specs.declared.Workload.{Workload}
 
@@ -42,4 +42,4 @@ workloadOf q s n = record { refusal = stepsRefusal q n; steps = cond (eqb (steps
 -- the refusal of a workload's file, with a note of this length and an output of so many bytes: "the file would pass 65,536 bytes, or the output is too
 -- short" besides. No step has an unused field that is not 0.
 unfoldable pub fileRefusal : ℕ → Setup → ℕ → ℕ → ℕ
-fileRefusal note q n room = orRefuse (inRange q) 7 (orRefuse (leb n 4000 && leb (fileLength note n) 65536 && leb (fileLength note n) room) 10 0)
+fileRefusal noteLength q n room = orRefuse (inRange q) 7 (orRefuse (sizesFit noteLength n room) 10 0)

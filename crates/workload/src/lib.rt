@@ -36,21 +36,20 @@ fn drawn_steps(seed: u32, setup: Setup, count: u32) -> Steps
     requires { ⌜ count ≤ 4000 ⌝ }
     ensures { λ r. ⌜ r ≡ stepsBy (stepOf setup seed) count ⌝ }
 {
-    let none = file_records::no_step();
-    let mut items = [none; 4000];
+    let mut steps = step_list::blank(count);
     let n = count as usize;
     let mut last = seed;
     let mut total = 0;
     let mut k = 0;
     while k < n {
-        let drawn = draws::draw_step(setup, last, total);
+        let drawn = draws::draw_step(last, setup, total);
         let step = drawn.step;
-        items[k] = step;
+        steps.items[k] = step;
         last = drawn.seed;
         total = drawn.total;
         k += 1;
     }
-    Steps { items, len: count }
+    steps
 }
 
 // The steps of a seed, as many as are wanted.
@@ -72,7 +71,7 @@ pub fn steps(seed: u32, setup: Setup, count: u32) -> Workload
 
 // Their run file, at the start of the output. 7 for a setup out of range; then 10 for more than 4,000 steps, a file of more than 65,536 bytes, or an output
 // too short for it.
-pub fn write(note: &[u8], seed: u32, setup: Setup, count: u32, out: &mut [u8]) -> Report
+pub fn write(seed: u32, note: &[u8], setup: Setup, count: u32, out: &mut [u8]) -> Report
     ensures { λ r. ⌜ Reports (fileRefusal (length (now (note .entry))) setup count (length (now (out .entry)))) (fileBytes (now (note .entry)) setup (workload setup seed count)) (now (out .entry)) (now (out .exit)) r ⌝ }
 {
     let refusal = refusal(setup, count);

@@ -2,7 +2,6 @@
 use output::Report;
 use protocol::setup::Setup;
 use protocol::step::Step;
-use step_list::Steps;
 use test_lines::bytes;
 use test_lines::end;
 use test_lines::last;
@@ -65,11 +64,11 @@ fn vectors(seed: u32) {
 // A file of 92 bytes in an output of 96, whose last bytes stay; an output of 91 stays as it was.
 fn small_files() {
     let mut out = [170u8; 96];
-    report(workload::write(b"ride", 1, setup(), 2, &mut out));
+    report(workload::write(1, b"ride", setup(), 2, &mut out));
     bytes(&out);
     end();
     let mut short = [170u8; 91];
-    report(workload::write(b"ride", 1, setup(), 2, &mut short));
+    report(workload::write(1, b"ride", setup(), 2, &mut short));
     bytes(&short);
     end();
 }
@@ -78,28 +77,20 @@ fn small_files() {
 fn sizes() {
     let mut out = [0u8; 65537];
     let note = [0u8; 1481];
-    report(workload::write(&note[..1480], 1, setup(), 4000, &mut out));
-    report(workload::write(&note, 1, setup(), 4000, &mut out));
-    report(workload::write(b"", 1, setup(), 4001, &mut out));
+    report(workload::write(1, &note[..1480], setup(), 4000, &mut out));
+    report(workload::write(1, &note, setup(), 4000, &mut out));
+    report(workload::write(1, b"", setup(), 4001, &mut out));
     let mut s = setup();
     s.clients = 17;
-    report(workload::write(b"", 1, s, 4001, &mut out));
+    report(workload::write(1, b"", s, 4001, &mut out));
 }
 
 // What the writer makes of one step, in a file of 72 bytes, or of a list that claims to be longer than a run file can be.
 fn one_step(step: Step, len: u32) {
-    let none = Step {
-        kind: 0,
-        client: 0,
-        object: 0,
-        place: 0,
-        clock: 0,
-        value: 0,
-    };
-    let mut items = [none; 4000];
-    items[0] = step;
+    let mut steps = step_list::blank(len);
+    steps.items[0] = step;
     let mut out = [0u8; 72];
-    report(writer::write(b"", setup(), Steps { items, len }, &mut out));
+    report(writer::write(b"", setup(), steps, &mut out));
     bytes(&out);
     end();
 }

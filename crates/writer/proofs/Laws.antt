@@ -18,16 +18,16 @@ use Rattle.output.specs.Written.{Written, written-then}
 use Rattle.record_bytes.specs.Bytes.{setupBytes, stepBytes, stepsBytes, trailerBytes, fileBytes, fileLength, steps-more, length-steps}
 use Rattle.step_list.specs.declared.Steps.{Steps}
 use Rattle.step_list.specs.Held.{itemOf, firstOf, held, held-at, length-held, first-more, first-all}
-use Rattle.writer.specs.File.{stepRight, stepsRight, fileFits, writeRefusal, fitting}
+use Rattle.writer.specs.File.{fitsAt, allFit, sizesFit, fileFits, writeRefusal, fitting}
 
 -- ---- the steps asked about one after the other
-module _ (x : Steps) (k : ℕ) (ok : Bool) (a : Scanning (stepRight (held x)) (x .len) ok k) where
-  pub right-again : (r : Bool) → k < x .len → r ≡ stepFits (itemOf x k) → Scanning (stepRight (held x)) (x .len) (ok && r) (k + 1)
-  right-again r h e = (omega arith, all-by (stepRight (held x)) (x .len) k ok r _ h (e ∙ ap stepFits (sym (held-at x k h))) (a .1))
+module _ (x : Steps) (k : ℕ) (ok : Bool) (a : Scanning (fitsAt (held x)) (x .len) ok k) where
+  pub fit-again : (r : Bool) → k < x .len → r ≡ stepFits (itemOf x k) → Scanning (fitsAt (held x)) (x .len) (ok && r) (k + 1)
+  fit-again r h e = (omega arith, all-by (fitsAt (held x)) (x .len) k ok r _ h (e ∙ ap stepFits (sym (held-at x k h))) (a .1))
 
-  pub right-end : x .len ≤ k → ok ≡ stepsRight (held x)
-  unfolding stepsRight
-  right-end h = rw (length-held x) (all-end (stepRight (held x)) (x .len) k ok _ h (a .1))
+  pub fit-end : x .len ≤ k → ok ≡ allFit (held x)
+  unfolding allFit
+  fit-end h = rw (length-held x) (all-end (fitsAt (held x)) (x .len) k ok _ h (a .1))
 
 -- ---- and written
 pub steps-none : (x : Steps) (out : List ℕ) (at : ℕ) → Written out out at (stepsBytes (firstOf x 0)) at
@@ -52,19 +52,19 @@ module _ (x : Steps) (before out : List ℕ) (at place k : ℕ) (w : Written bef
 -- ---- whether there is such a file
 module _ (n : ℕ) (x : Steps) (room : ℕ) where
   pub too-many : 4000 < x .len → false ≡ fileFits n x room
-  unfolding fileFits
+  unfolding fileFits sizesFit
   too-many h = rw (lt-leb _ _ h)
 
   pub too-long : x .len ≤ 4000 → 65536 < fileLength n (x .len) → false ≡ fileFits n x room
-  unfolding fileFits
+  unfolding fileFits sizesFit
   too-long g h = rw (le-leb _ _ g, lt-leb _ _ h)
 
   pub no-room : x .len ≤ 4000 → fileLength n (x .len) ≤ 65536 → room < fileLength n (x .len) → false ≡ fileFits n x room
-  unfolding fileFits
+  unfolding fileFits sizesFit
   no-room g h i = rw (le-leb _ _ g, le-leb _ _ h, lt-leb _ _ i)
 
-  pub by-steps : (r : Bool) → x .len ≤ 4000 → fileLength n (x .len) ≤ 65536 → fileLength n (x .len) ≤ room → r ≡ stepsRight (held x) → r ≡ fileFits n x room
-  unfolding fileFits
+  pub by-steps : (r : Bool) → x .len ≤ 4000 → fileLength n (x .len) ≤ 65536 → fileLength n (x .len) ≤ room → r ≡ allFit (held x) → r ≡ fileFits n x room
+  unfolding fileFits sizesFit
   by-steps r g h i e = rw (le-leb _ _ g, le-leb _ _ h, le-leb _ _ i) e
 
 -- ---- the parts of a file that fits, one after the other

@@ -18,17 +18,20 @@ use Rattle.record_bytes.specs.Bytes.{fileLength}
 use Rattle.step_list.specs.declared.Steps.{Steps}
 use Rattle.step_list.specs.Held.{held}
 
+-- "10 when more than 4,000 steps are wanted, .. the file would pass 65,536 bytes, or the output is too short": none of it, for a note of n bytes, so many
+-- steps and an output of so many bytes
+unfoldable pub sizesFit : ℕ → ℕ → ℕ → Bool
+sizesFit n count room = leb count 4000 && leb (fileLength n count) 65536 && leb (fileLength n count) room
+
 -- "a step of a known kind has an unused field not 0": none of these has
-abbrev pub stepRight : List Step → ℕ → Bool
-stepRight xs k = stepFits (getD xs k noStep)
+abbrev pub fitsAt : List Step → ℕ → Bool
+fitsAt xs k = stepFits (getD xs k noStep)
 
-unfoldable pub stepsRight : List Step → Bool
-stepsRight xs = allFrom (stepRight xs) 0 (length xs)
+unfoldable pub allFit : List Step → Bool
+allFit xs = allFrom (fitsAt xs) 0 (length xs)
 
--- "10 when more than 4,000 steps are wanted, a step of a known kind has an unused field not 0, the file would pass 65,536 bytes, or the output is too short":
--- none of it, for a note of n bytes and an output of so many
 unfoldable pub fileFits : ℕ → Steps → ℕ → Bool
-fileFits n x room = leb (x .len) 4000 && leb (fileLength n (x .len)) 65536 && leb (fileLength n (x .len)) room && stepsRight (held x)
+fileFits n x room = sizesFit n (x .len) room && allFit (held x)
 
 -- the refusal, 0 for none: "after 01's setup question", 7
 unfoldable pub writeRefusal : ℕ → Setup → Steps → ℕ → ℕ
@@ -39,12 +42,12 @@ pub record Fitting (n : ℕ) (x : Steps) (room : ℕ) : Type 0 where
   pub few : x .len ≤ 4000
   pub short : fileLength n (x .len) ≤ 65536
   pub room-there : fileLength n (x .len) ≤ room
-  pub right : stepsRight (held x) ≡ true
+  pub fit : allFit (held x) ≡ true
 
 pub fitting : (n : ℕ) (x : Steps) (room : ℕ) → fileFits n x room ≡ true → Fitting n x room
-unfolding fileFits
+unfolding fileFits sizesFit
 fitting n x room e =
-    let c = and-true _ _ e in
+    let c = and-true (sizesFit n (x .len) room) (allFit (held x)) e in
     let b = and-true _ _ (c .0) in
     let a = and-true _ _ (b .0) in
-    record { few = leb-true _ _ (a .0); short = leb-true _ _ (a .1); room-there = leb-true _ _ (b .1); right = c .1 }
+    record { few = leb-true _ _ (a .0); short = leb-true _ _ (a .1); room-there = leb-true _ _ (b .1); fit = c .1 }

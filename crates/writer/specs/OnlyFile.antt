@@ -6,18 +6,19 @@ use mathlib.Core.List.{List, _++_, append-assoc}
 use mathlib.Core.Path.{_≡_, refl, sym, ap, _∙_}
 use lib.ListN.{length, getD, drop, length-drop, take-append-drop}
 use lib.Seq.{drop-drop, getD-drop}
-use Rattle.layout.specs.Number.{littleEndian, numberAt, Bytes}
+use Rattle.layout.specs.Number.{Bytes}
 use Rattle.protocol.specs.declared.setup.Setup.{Setup}
 use Rattle.protocol.specs.declared.step.Step.{Step}
 use Rattle.file_records.specs.Records.{setupIn, stepIn}
 use Rattle.shape.specs.Shape.{countOf, setupPlace, firstPlace, wellFormed}
 use Rattle.shape.specs.Parts.{Parts, formed-parts, whole, formed-spare}
+use Rattle.shape.specs.Places.{trailerPlace}
 use Rattle.runfile.specs.File.{contentsOf, noteOf}
 use Rattle.runfile.specs.Reading.{formed, contents-read}
 use Rattle.runfile.specs.Steps.{stepsFrom, stepsOf, length-steps}
 use Rattle.record_bytes.specs.Bytes.{setupBytes, stepBytes, stepsBytes, trailerBytes, fileBytes}
-use Rattle.record_bytes.specs.Round.{bytes-there, step-there, setup-there, bytes-left, step-again, setup-again, trailer-again}
-use Rattle.writer.specs.ReadBack.{ReadAs}
+use Rattle.record_bytes.specs.Round.{step-there, setup-there, bytes-left, step-again, setup-again, trailer-again}
+use Rattle.writer.specs.ReadBack.{ReadAs, trailer-there}
 
 -- ---- the steps read and written again, with what follows
 module _ (l : List ℕ) (b : Bytes l) where
@@ -40,19 +41,15 @@ module _ (l : List ℕ) (b : Bytes l) where
     parts : Parts l
     parts = formed-parts l e
 
-    trailer-same : trailerBytes (countOf l) ≡ drop (length l - 8) l
+    trailer-same : trailerBytes (countOf l) ≡ drop (trailerPlace l) l
     trailer-same =
-        let d : List ℕ = drop (length l - 8) l in
-        let z : length l - 8 ≡ length l - 8 + 0 = omega arith in
-        let f : length l - 4 ≡ length l - 8 + 4 = omega (arith, parts .long) in
-        let c : numberAt d 0 4 ≡ countOf l = sym (ap (λ (p : ℕ). numberAt l p 4) z ∙ ap littleEndian (bytes-there l (length l - 8) 0 4)) in
-        let g : numberAt d 4 4 ≡ 56 + 16 * countOf l = sym (ap (λ (p : ℕ). numberAt l p 4) f ∙ ap littleEndian (bytes-there l (length l - 8) 4 4)) ∙ parts .right in
-        trailer-again d (bytes-left l (length l - 8) b) (countOf l) (omega (arith, length-drop (length l - 8) l, parts .long)) c g
+        let t = trailer-there l (omega (arith, parts .long)) in
+        trailer-again (drop (trailerPlace l) l) (bytes-left l (trailerPlace l) b) (countOf l) (omega (arith, length-drop (trailerPlace l) l, parts .long)) (sym (t .0)) (sym (t .1) ∙ parts .right)
 
     steps-same : stepsBytes (stepsOf l) ++ trailerBytes (countOf l) ≡ drop (firstPlace l) l
     unfolding stepsOf
     steps-same =
-        let f : length l - 8 ≡ firstPlace l + 16 * countOf l = omega (arith, whole l parts) in
+        let f : trailerPlace l ≡ firstPlace l + 16 * countOf l = omega (arith, whole l parts) in
         let t : trailerBytes (countOf l) ≡ drop (firstPlace l + 16 * countOf l) l = trailer-same ∙ ap (λ (p : ℕ). drop p l) f in
         rw t (steps-again (firstPlace l) (countOf l) (omega (arith, whole l parts)))
 

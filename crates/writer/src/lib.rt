@@ -8,15 +8,15 @@ ghost use Rattle.output.specs.Report.{Reports};
 ghost use Rattle.protocol.specs.Setup.{inRange};
 ghost use Rattle.record_bytes.specs.Bytes.{stepsBytes, fileBytes};
 ghost use Rattle.step_list.specs.Held.{held};
-ghost use Rattle.writer.specs.File.{stepsRight, fileFits, writeRefusal};
+ghost use Rattle.writer.specs.File.{allFit, fileFits, writeRefusal};
 use output::Report;
 use protocol::setup::Setup;
 use step_list::Steps;
 
 // Whether each step of a known kind has 0 in the fields that it does not use.
-fn steps_right(steps: Steps) -> bool
+fn all_fit(steps: Steps) -> bool
     requires { ⌜ steps .len ≤ 4000 ⌝ }
-    ensures { λ r. ⌜ r ≡ stepsRight (held steps) ⌝ }
+    ensures { λ r. ⌜ r ≡ allFit (held steps) ⌝ }
 {
     let n = steps.len as usize;
     let mut ok = true;
@@ -29,23 +29,23 @@ fn steps_right(steps: Steps) -> bool
 }
 
 // Whether there is such a file, and room for it.
-fn file_fits(note: usize, steps: Steps, room: usize) -> bool
-    ensures { λ r. ⌜ r ≡ fileFits note steps room ⌝ }
+fn file_fits(note_len: usize, steps: Steps, room: usize) -> bool
+    ensures { λ r. ⌜ r ≡ fileFits «note_len» steps room ⌝ }
 {
     if 4000 < steps.len {
         return false;
     }
-    if 65536 < note {
+    if 65536 < note_len {
         return false;
     }
-    let length = note + (56 + 16 * (steps.len as usize));
+    let length = note_len + (56 + 16 * (steps.len as usize));
     if 65536 < length {
         return false;
     }
     if room < length {
         return false;
     }
-    steps_right(steps)
+    all_fit(steps)
 }
 
 fn write_steps(out: &mut [u8], at: usize, steps: Steps) -> usize

@@ -5,13 +5,16 @@ use Rattle.lent_parts.proofs.steps_in.Statement.{statement}
 use Rattle.lent_parts.proofs.steps_in.Tie as tie
 
 abbrev Inv-loop : tie.InvT-loop
-Inv-loop records count items₀ place₀ k₀ items place k = Reading records count items place k
+Inv-loop records count steps₀ place₀ k₀ steps place k = Reading records count steps place k
 
 abbrev μ-loop : tie.MeasureT-loop
-μ-loop records count items₀ place₀ k₀ items place k = count - k
+μ-loop records count steps₀ place₀ k₀ steps place k = count - k
 
-no-step-requires : tie.Need-no-step-requires Inv-loop μ-loop
-no-step-requires c κs = search needs
+cast-blank : tie.Need-cast-blank Inv-loop μ-loop
+cast-blank c = search needs
+
+blank-requires : tie.Need-blank-requires Inv-loop μ-loop
+blank-requires c κs = search needs
 
 loop-holds : tie.Need-loop-holds Inv-loop μ-loop
 loop-holds c = search reading-none
@@ -19,11 +22,11 @@ loop-holds c = search reading-none
 step-in-requires : tie.Need-step-in-requires Inv-loop μ-loop
 step-in-requires c κs = search record-there
 
-mul-items : tie.Need-mul-items Inv-loop μ-loop
-mul-items c = search needs
+mul-step : tie.Need-mul-step Inv-loop μ-loop
+mul-step c = search needs
 
-array-set-from-items : tie.Need-array-set-from-items Inv-loop μ-loop
-array-set-from-items c = search needs
+element-set-from-step : tie.Need-element-set-from-step Inv-loop μ-loop
+element-set-from-step c = search needs
 
 add-place : tie.Need-add-place Inv-loop μ-loop
 add-place c = search needs
@@ -37,9 +40,6 @@ loop-less c = search needs
 loop-again : tie.Need-loop-again Inv-loop μ-loop
 loop-again c = search reading-again
 
-cast-t13 : tie.Need-cast-t13 Inv-loop μ-loop
-cast-t13 c = search needs
-
 returns : tie.Need-returns Inv-loop μ-loop
 returns c = search reading-end
 
@@ -49,14 +49,14 @@ steps-in-spec =
     (tie.spec
     Inv-loop
     μ-loop
-    no-step-requires
+    cast-blank
+    blank-requires
     loop-holds
     step-in-requires
-    mul-items
-    array-set-from-items
+    mul-step
+    element-set-from-step
     add-place
     add-k
     loop-less
     loop-again
-    cast-t13
     returns)

@@ -5,13 +5,13 @@ use Rattle.workload.proofs.drawn_steps.Statement.{statement}
 use Rattle.workload.proofs.drawn_steps.Tie as tie
 
 abbrev Inv-loop : tie.InvT-loop
-Inv-loop seed setup count items₀ n last₀ total₀ k₀ items last total k = Drawing setup seed count items last total k
+Inv-loop seed setup count steps₀ n last₀ total₀ k₀ steps last total k = Drawing setup seed count steps last total k
 
 abbrev μ-loop : tie.MeasureT-loop
-μ-loop seed setup count items₀ n last₀ total₀ k₀ items last total k = count - k
+μ-loop seed setup count steps₀ n last₀ total₀ k₀ steps last total k = count - k
 
-no-step-requires : tie.Need-no-step-requires Inv-loop μ-loop
-no-step-requires c κs = search needs
+blank-requires : tie.Need-blank-requires Inv-loop μ-loop
+blank-requires c κs = search needs
 
 loop-holds : tie.Need-loop-holds Inv-loop μ-loop
 loop-holds c = search drawing-none
@@ -19,11 +19,11 @@ loop-holds c = search drawing-none
 draw-step-requires : tie.Need-draw-step-requires Inv-loop μ-loop
 draw-step-requires c κs = (search needs, search total-fits)
 
-mul-items : tie.Need-mul-items Inv-loop μ-loop
-mul-items c = search needs
+mul-step : tie.Need-mul-step Inv-loop μ-loop
+mul-step c = search needs
 
-array-set-from-items : tie.Need-array-set-from-items Inv-loop μ-loop
-array-set-from-items c = search needs
+element-set-from-step : tie.Need-element-set-from-step Inv-loop μ-loop
+element-set-from-step c = search needs
 
 add-k : tie.Need-add-k Inv-loop μ-loop
 add-k c = search needs
@@ -43,11 +43,11 @@ drawn-steps-spec =
     (tie.spec
     Inv-loop
     μ-loop
-    no-step-requires
+    blank-requires
     loop-holds
     draw-step-requires
-    mul-items
-    array-set-from-items
+    mul-step
+    element-set-from-step
     add-k
     loop-less
     loop-again

@@ -28,8 +28,8 @@ returns-3 c = search too-long
 returns-4 : tie.Need-returns-4
 returns-4 c = search no-room
 
-steps-right-requires : tie.Need-steps-right-requires
-steps-right-requires c κs = search needs
+all-fit-requires : tie.Need-all-fit-requires
+all-fit-requires c κs = search needs
 
 returns-5 : tie.Need-returns-5
 returns-5 c = search by-steps
@@ -46,5 +46,5 @@ file-fits-spec =
     add-length-2
     returns-3
     returns-4
-    steps-right-requires
+    all-fit-requires
     returns-5)

@@ -3,13 +3,13 @@ use Prim.Native.Nat.{_-_}
 use native.Mathlib.Nat.{sub-zero}
 use Rattle.laws.specs.Loop.{Scanning}
 use Rattle.step_list.specs.Held.{held}
-use Rattle.writer.specs.File.{stepRight}
-use Rattle.writer.proofs.Laws.{right-again, right-end}
-use Rattle.writer.proofs.steps_right.Statement.{statement}
-use Rattle.writer.proofs.steps_right.Tie as tie
+use Rattle.writer.specs.File.{fitsAt}
+use Rattle.writer.proofs.Laws.{fit-again, fit-end}
+use Rattle.writer.proofs.all_fit.Statement.{statement}
+use Rattle.writer.proofs.all_fit.Tie as tie
 
 abbrev Inv-loop : tie.InvT-loop
-Inv-loop steps n ok₀ k₀ ok k = Scanning (stepRight (held steps)) (steps .len) ok k
+Inv-loop steps n ok₀ k₀ ok k = Scanning (fitsAt (held steps)) (steps .len) ok k
 
 abbrev μ-loop : tie.MeasureT-loop
 μ-loop steps n ok₀ k₀ ok k = steps .len - k
@@ -38,13 +38,13 @@ loop-less c = search needs
 loop-again : tie.Need-loop-again Inv-loop μ-loop
 loop-again c =
     let head = c .before .before .before in
-    right-again _ _ (head .loop .ok) (head .loop .inv) _ (c .before .before .loop-test .taken) (c .step-fits .ensures)
+    fit-again _ _ (head .loop .ok) (head .loop .inv) _ (c .before .before .loop-test .taken) (c .step-fits .ensures)
 
 returns : tie.Need-returns Inv-loop μ-loop
-returns c = search right-end
+returns c = search fit-end
 
-pub steps-right-spec : {M : Type 1} → statement M
-steps-right-spec =
+pub all-fit-spec : {M : Type 1} → statement M
+all-fit-spec =
     tie.close
     (tie.spec
     Inv-loop
