@@ -1,5 +1,7 @@
 //! A command's arguments, taken apart: options first, the files are left.
 
+use std::str::FromStr;
+
 use crate::command::Failure;
 
 pub struct Arguments {
@@ -30,23 +32,22 @@ impl Arguments {
         Ok(Some(found))
     }
 
-    pub fn number(&mut self, name: &str, value: &str) -> Result<Option<u64>, Failure> {
+    /// Takes out `name NUMBER`, of digits alone.
+    pub fn number<N: FromStr>(&mut self, name: &str, value: &str) -> Result<Option<N>, Failure> {
         let Some(found) = self.option(name, value)? else {
             return Ok(None);
         };
-        let number = found.parse();
-        let wrong = || Failure::Usage(format!("{name}: found {found:?}, expected {value}"));
-        number.map(Some).map_err(|_| wrong())
+        match found.parse() {
+            Ok(number) if found.bytes().all(|byte| byte.is_ascii_digit()) => Ok(Some(number)),
+            _ => Err(Failure::Usage(format!("{name}: found {found:?}, expected {value}"))),
+        }
     }
 
     /// A number of 32 bits that has to be there.
     pub fn needed(&mut self, name: &str) -> Result<u32, Failure> {
         let expected = format!("a number from 0 to {}", u32::MAX);
-        let found = self.option(name, &expected)?;
-        let digits = |found: &&String| found.bytes().all(|byte| byte.is_ascii_digit());
-        let number = found.as_ref().filter(digits).and_then(|found| found.parse().ok());
-        let found = found.map_or("nothing".into(), |found| format!("{found:?}"));
-        number.ok_or_else(|| Failure::Usage(format!("{name}: found {found}, expected {expected}")))
+        let missing = || Failure::Usage(format!("{name}: found nothing, expected {expected}"));
+        self.number(name, &expected)?.ok_or_else(missing)
     }
 
     pub fn flag(&mut self, name: &str) -> bool {

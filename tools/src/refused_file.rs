@@ -13,7 +13,7 @@ pub fn told(fault: &Fault) -> String {
     format!("run file refused ({BAD_FILE}): {}", reason(fault))
 }
 
-/// The setup is in range.
+/// Of a workload whose setup is in range, so that two reasons are left.
 pub fn no_workload(refused: Refused, note_len: usize, count: u32) -> String {
     let count = count as usize;
     let reason = if count > STEPS {

@@ -66,8 +66,8 @@ fn a_step_is_a_bad_line_beside_others() {
     assert_eq!(
         bad.errors,
         "line 3: found `61`, expected ticks from 1 to 60\n\
-         line 7: found `clock`, expected no step, as the seed gives them\n\
-         line 9: found `restart`, expected no step, as the seed gives them\n\
+         line 7: found `clock`, expected no step: the seed gives the steps\n\
+         line 9: found `restart`, expected no step: the seed gives the steps\n\
          line 10: found `2`, expected a volume from 0 to 1\n"
     );
     let unknown = load(&["--seed", "1", "--steps", "20"], &(TEXT.to_string() + "x\n"));

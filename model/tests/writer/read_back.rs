@@ -2,9 +2,9 @@
 //! unchecked writer makes.
 
 use model::gen::rng::Rng;
-use model::gen::{runs, setups};
+use model::gen::{damage, runs, setups};
 use model::limits::STEPS;
-use model::runfile::{distance, read, RunFile};
+use model::runfile::{distance, read};
 use model::setup::Setup;
 use model::step_record::Step;
 use model::workload;
@@ -52,20 +52,36 @@ fn workloads_come_back() {
     }
 }
 
-/// Another byte anywhere past the note makes a file that is refused or has
-/// other parts, so no other file of the note has these.
+/// Whatever file is accepted is the one that is written from its parts, so no
+/// two files of a note have the same ones.
 #[test]
 fn no_other_file_of_the_note_has_those_parts() {
+    let generated = (0..200).map(|number| runs::run(3, number).file());
+    let accepted = generated.chain(damage::files(3)).chain(one_byte_changed());
+    let mut count = 0;
+    for file in accepted {
+        if let Ok(run) = read(&file) {
+            let steps: Vec<_> = run.steps().collect();
+            let again = write_checked(run.note, &run.setup, &steps, file.len());
+            assert!(again == Ok(file.clone()), "{file:?}");
+            count += 1;
+        }
+    }
+    println!("{count} files");
+    assert!(count > 1_000);
+}
+
+/// A small file with each of its bytes changed in every way.
+fn one_byte_changed() -> impl Iterator<Item = Vec<u8>> {
     let unknown = Step { kind: 10, client: 1, object: 2, place: 3, clock: 4, value: 5 };
     let steps = [Step::clock(7), Step::write(2, 9), unknown, Step::read(1, 3)];
     let file = write_checked(b"note", &common::setup(), &steps, 200).expect("room for the file");
-    let parts = read(&file).expect("an accepted file");
-    for place in 4..file.len() {
-        for byte in (0..=255).filter(|&byte| byte != file[place]) {
+    (0..file.len()).flat_map(move |place| {
+        let file = file.clone();
+        (0..=255).map(move |byte| {
             let mut other = file.clone();
             other[place] = byte;
-            let same = |run: &RunFile| run.setup == parts.setup && run.steps().eq(parts.steps());
-            assert!(!read(&other).is_ok_and(|run| same(&run)), "byte {place} as {byte}");
-        }
-    }
+            other
+        })
+    })
 }

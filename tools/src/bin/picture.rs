@@ -61,7 +61,7 @@ fn narrowing(shown: Window, wanted: Window) -> Option<String> {
 }
 
 fn step(arguments: &mut Arguments, name: &str) -> Result<Option<usize>, Failure> {
-    Ok(arguments.number(name, "the number of a step")?.map(|number| number as usize))
+    arguments.number(name, "the number of a step")
 }
 
 /// A run without steps has an empty window.

@@ -9,7 +9,7 @@ use super::setup::Partial;
 use super::words::{plain, quoted, Trouble, Words, Wrong};
 use super::{expected, note, setup, steps};
 
-const NO_STEP: &str = "no step, as the seed gives them";
+const NO_STEP: &str = "no step: the seed gives the steps";
 
 /// The parts of a text in their order.
 #[derive(Clone, Copy, PartialEq, PartialOrd)]
