@@ -1,4 +1,4 @@
--- What a caller from another language gets: 01's number, 0 for none, and what stands in what it lent.
+-- What a caller from another language gets: the number of the refusal in 01 or 02, 0 for none, and what stands in what it lent.
 use Prim.Native.Nat.{ℕ}
 use mathlib.Core.Bool.{cond}
 use mathlib.Core.List.{List}

@@ -1,5 +1,5 @@
-// The library that other languages link (`rt staticlib exports`): calls on numbers and slices, each 0 or 01's number of a refusal, which changes nothing.
-// A slice is two arguments, its address and its length.
+// The library that other languages link (`rt staticlib exports`): calls on numbers and slices, each 0 or the number of a refusal in 01 or 02, which changes
+// nothing. A slice is two arguments, its address and its length.
 ghost use mathlib.Core.Path.{_≡_};
 ghost use Rattle.output.specs.Report.{reportNumber};
 ghost use Rattle.lent_parts.specs.Lent.{setupLent, stepsLent};
@@ -8,7 +8,7 @@ ghost use Rattle.frame_numbers.specs.Calls.{EncodesFields, DecodesFields};
 ghost use Rattle.numbers.specs.Numbers.{fieldsFrom};
 use output::Report;
 
-// The number of a call's answer, and how long it wrote, where it did.
+// The number of a call's answer; where bytes were written, how many is told too.
 fn told(report: Report, written: &mut usize) -> u8
     ensures number { λ r. ⌜ r ≡ reportNumber report ⌝ }
     ensures length { λ _. ⌜ now (written .exit) ≡ lengthAfter report (now (written .entry)) ⌝ }

@@ -43,9 +43,9 @@ module _ (l : List ℕ) (n room : ℕ) where
   records-refused s t e = rw (t, not-fitting e)
 
 -- ---- and what is read back, of records that are bytes
-volumes : (l : List ℕ) → length (setupLent l .volume) ≡ 32
+pub volumes-lent : (l : List ℕ) → length (setupLent l .volume) ≡ 32
 unfolding setupLent setupIn bytesAt
-volumes l = cond-keeps (λ (s : Setup). length (s .volume) ≡ 32) (setupWhole l) (λ _. refl) (λ _. refl)
+volumes-lent l = cond-keeps (λ (s : Setup). length (s .volume) ≡ 32) (setupWhole l) (λ _. refl) (λ _. refl)
 
 widths : (l : List ℕ) → Bytes l → recordsWhole l ≡ true → All Widths (held (stepsLent l))
 unfolding stepsLent stepIn
@@ -62,4 +62,4 @@ module _ (note setup records : List ℕ) (room : ℕ) (e : writeRefusal (length 
       ⊎-elim (λ t. t) (λ t. not-both fits (not-fitting records (length note) room t)) (true-or-false (recordsWhole records))
 
   pub lent-read : Bytes records → ReadAs (fileBytes note (setupLent setup) (held (stepsLent records))) note (setupLent setup) (held (stepsLent records))
-  lent-read b = not-refused note (setupLent setup) (stepsLent records) room (volumes setup) (widths records b whole) e
+  lent-read b = not-refused note (setupLent setup) (stepsLent records) room (volumes-lent setup) (widths records b whole) e

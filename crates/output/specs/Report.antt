@@ -13,7 +13,7 @@ use Rattle.laws.specs.Choice.{true-or-false}
 use Rattle.output.specs.declared.Report.{Report}
 use Rattle.output.specs.declared.Report.the-variants.{Written, Refused}
 
--- 01's number of the answer: 0 where the bytes were written
+-- the number of the answer in 01 or 02: 0 where the bytes were written
 abbrev pub reportNumber : Report → ℕ
 reportNumber (Written n) = 0
 reportNumber (Refused k) = k

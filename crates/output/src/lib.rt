@@ -3,7 +3,7 @@ ghost use Prim.Native.Nat.{_+_, _≤_};
 ghost use lib.ListN.{length};
 ghost use Rattle.output.specs.Written.{Written};
 
-// What a call did with a lent output: how many bytes it wrote, or 01's number of the refusal (`reportNumber`, `reportLength`).
+// What a call did with a lent output: how many bytes it wrote, or the number of the refusal in 01 or 02 (`reportNumber`, `reportLength`).
 pub enum Report {
     Written(usize),
     Refused(u8),

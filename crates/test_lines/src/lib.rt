@@ -1,4 +1,4 @@
-// What the test programs print: numbers in decimal with a space after each, the last one of a line without, bytes in hexadecimal, and steps.
+// What the test programs print: numbers in decimal, each with a space after it or, by `last`, with the line's end; bytes in hexadecimal; and steps.
 use libc::STDOUT_FILENO;
 use protocol::step::Step;
 

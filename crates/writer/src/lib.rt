@@ -28,7 +28,7 @@ fn all_fit(steps: Steps) -> bool
     ok
 }
 
-// Whether there is such a file, and room for it.
+// Whether these steps and a note of this length make a run file, and there is room for it.
 fn file_fits(note_len: usize, steps: Steps, room: usize) -> bool
     ensures { λ r. ⌜ r ≡ fileFits «note_len» steps room ⌝ }
 {
