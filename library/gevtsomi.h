@@ -36,7 +36,7 @@ extern "C" {
 
 /* What a call gives. */
 #define GEVTSOMI_DONE 0
-/* A setup that is out of range. */
+/* No setup, or one that is out of range. */
 #define GEVTSOMI_BAD_SETUP 7
 /* No frame, or fields of none; or an output too short for frame or listing. */
 #define GEVTSOMI_NO_FRAME_OR_ROOM 8
@@ -113,11 +113,11 @@ uint8_t gevtsomi_list(const uint8_t *file, size_t file_len, uint8_t *output, siz
 
 /* Writes the run file of this note, setup and these step records, one after
    the other, to the start of output, and its length to written: the one file
-   with this note that has these parts. Bytes of output past it stay. 7 if the setup is not 48 bytes, its
-   fourth is not 0 or a field is out of range; then 10 if the records are no
-   multiple of 16 bytes or more than 4,000 steps, a step of a known kind has an
-   unused field that is not 0, the file would pass GEVTSOMI_FILE_BYTES, or
-   output is shorter than the file. */
+   with this note that has these parts. Bytes of output past it stay. 7 if the
+   setup is not 48 bytes, its fourth is not 0 or a field is out of range; then
+   10 if the records are no multiple of 16 bytes or more than 4,000 steps, a
+   step of a known kind has an unused field that is not 0, the file would pass
+   GEVTSOMI_FILE_BYTES, or output is shorter than the file. */
 uint8_t gevtsomi_write(const uint8_t *note, size_t note_len, const uint8_t *setup,
                        size_t setup_len, const uint8_t *records, size_t records_len,
                        uint8_t *output, size_t output_len, size_t *written);
@@ -126,15 +126,14 @@ uint8_t gevtsomi_write(const uint8_t *note, size_t note_len, const uint8_t *setu
    the same every time. 7 as there; then 10 if count is above 4,000, the file
    would pass GEVTSOMI_FILE_BYTES, or output is shorter than the file.
 
-   What it does not reach: where 2^e is the greatest power of two that divides
-   both the client count and the object count, object and 13 * client + 15 of
-   each read and ask leave the same remainder by 2^e. With 4 and 4 no object is
-   asked by two clients; with an odd count, as in 3 and 4, the two are not tied.
-   A count that is a power of two is gone through in a fixed order: each of 4
-   objects comes every 4th step, each place every 64th. And hardly any lease is
-   given: the server restarts every 9 steps on the average, and a delivery meets
-   a given message once in 64. So this is load for the list of messages,
-   restarts, offers and refusals. */
+   Take an odd number of clients or of objects, as 3 and 4: where 2^e is the
+   greatest power of two that divides both, object and 13 * client + 15 of each
+   read and ask leave the same remainder by 2^e, so that with 4 and 4 no object
+   is asked by two clients. A count that is a power of two is gone through in a
+   fixed order: each of 4 objects is drawn every 4th step, each place every
+   64th. And hardly any lease is given: the server restarts every 9 steps on the
+   average, and a delivery meets a given message once in 64. So this is load for
+   the list of messages, restarts, offers and refusals. */
 uint8_t gevtsomi_workload(uint32_t seed, const uint8_t *note, size_t note_len,
                           const uint8_t *setup, size_t setup_len, uint32_t count, uint8_t *output,
                           size_t output_len, size_t *written);

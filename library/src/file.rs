@@ -31,12 +31,12 @@ pub fn write(note: &[u8], setup: &[u8], records: &[u8], output: &mut [u8]) -> Re
 ///
 /// # What it does not reach
 ///
-/// Where 2^e is the greatest power of two that divides both the client count
-/// and the object count, object and 13 × client + 15 of each read and ask leave
-/// the same remainder by 2^e. With 4 and 4 no object is asked by two clients;
-/// with an odd count, as in 3 and 4, the two are not tied. A count that is a
-/// power of two is gone through in a fixed order: each of 4 objects comes every
-/// 4th step, each place every 64th.
+/// Take an odd number of clients or of objects, as 3 and 4: where 2^e is the
+/// greatest power of two that divides both, object and 13 × client + 15 of each
+/// read and ask leave the same remainder by 2^e, so that with 4 and 4 no object
+/// is asked by two clients. A count that is a power of two is gone through in a
+/// fixed order: each of 4 objects is drawn every 4th step, each place every
+/// 64th.
 ///
 /// Hardly any lease is given: the server restarts every 9 steps on the
 /// average, and a delivery meets a given message once in 64. So this is load

@@ -54,13 +54,14 @@ double take them by name. --expand writes names and joins out as exact steps.
 The paper's dash, region and notice are understood as client, volume and object.
 
 load reads note and setup alone. A seed, 0 to 4294967295, gives the same steps
-every time, at most 4000: load for the queue, restarts, offers and refusals, but
-hardly ever a lease, since the server restarts every 9 steps on the average and
-a delivery meets a given message once in 64. Take an odd number of clients or of
-objects, as 3 and 4: where 2^e is the greatest power of two that divides both,
-object and 13 * client + 15 of each read and ask leave the same remainder by 2^e,
-so that with 4 and 4 no object is asked by two clients. A count that is a power of
-two is gone through in a fixed order: each of 4 objects comes every 4th step.
+every time, at most 4000: load for the list of messages, restarts, offers and
+refusals, but hardly ever a lease, since the server restarts every 9 steps on
+the average and a delivery meets a given message once in 64. Take an odd number
+of clients or of objects, as 3 and 4: where 2^e is the greatest power of two
+that divides both, object and 13 * client + 15 of each read and ask leave the
+same remainder by 2^e, so that with 4 and 4 no object is asked by two clients. A
+count that is a power of two is gone through in a fixed order: each of 4 objects
+is drawn every 4th step.
 
 encode, check and load end with a line on standard error that counts refused
 steps. A bad line is told with its number, what was found and what was expected;
