@@ -1,14 +1,14 @@
 -- 01, "Frame, run file and listing": the fields of a message at their places in a frame.
 use Prim.Native.Nat.{ℕ}
-use mathlib.Core.List.{List, [], _∷_, _++_}
+use mathlib.Core.List.{List, _++_}
 use lib.ListN.{getD}
-use Rattle.layout.specs.Number.{bytesOf, numberAt}
+use Rattle.layout.specs.Number.{bytesOf, numberAt, fourBytes}
 use Rattle.fields.specs.declared.Fields.{Fields}
 use Rattle.fields.specs.Fields.{row}
 
 -- "A frame is 32 bytes, little endian: kind, dash, object, value present, one byte each;
 abbrev pub head : Fields → List ℕ
-head f = f .kind ∷ (f .client ∷ (f .object ∷ (f .present ∷ [])))
+head f = fourBytes (f .kind) (f .client) (f .object) (f .present)
 
 -- number, volume expiry, epoch, version, object expiry;
 unfoldable pub numbers : Fields → List ℕ

@@ -1,11 +1,10 @@
 -- Fields laid out are read back, and the other way round.
 use Prim.Native.Nat.{ℕ, _<_}
 use native.Mathlib.Omega.{arith}
-use mathlib.Core.List.{List, [], append-assoc, append-nil}
-use mathlib.Core.Path.{_≡_, sym, _∙_}
-use lib.ListN.{length, drop}
-use lib.Seq.{drop-cons, drop-length}
-use Rattle.layout.specs.Number.{littleEndian, bytesOf, bytesAt, limit, numberAt, Bytes, read-back, number-then}
+use mathlib.Core.List.{List, append-assoc}
+use mathlib.Core.Path.{_≡_, sym}
+use lib.ListN.{length}
+use Rattle.layout.specs.Number.{littleEndian, bytesOf, bytesAt, limit, Bytes, read-back, four-then, number-then, number-last}
 use Rattle.fields.specs.declared.Fields.{Fields}
 use Rattle.frame_places.specs.Places.{numbers, laid, fieldsIn}
 
@@ -30,7 +29,4 @@ fields-back f h =
 pub laid-back : (l : List ℕ) → Bytes l → length l ≡ 32 → laid (fieldsIn l) ≡ l
 unfolding laid numbers fieldsIn
 laid-back l b h =
-    let none : drop 32 l ≡ [] = rw h at (drop-length l) in
-    let value : bytesOf 8 (numberAt l 24 8) ≡ drop 24 l =
-    sym (append-nil _) ∙ (rw none at (number-then l b 24 8 (omega arith))) in
-    simp append-assoc (rw (value, number-then l b 20 4 (omega arith), number-then l b 16 4 (omega arith), number-then l b 12 4 (omega arith), number-then l b 8 4 (omega arith), number-then l b 4 4 (omega arith), ← drop-cons l 3 0 (omega arith), ← drop-cons l 2 0 (omega arith), ← drop-cons l 1 0 (omega arith), ← drop-cons l 0 0 (omega arith)))
+    simp append-assoc (rw (number-last l b 24 8 (sym h), number-then l b 20 4 (omega arith), number-then l b 16 4 (omega arith), number-then l b 12 4 (omega arith), number-then l b 8 4 (omega arith), number-then l b 4 4 (omega arith)) (four-then l (omega arith)))

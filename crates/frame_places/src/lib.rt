@@ -28,10 +28,7 @@ fn write_head(out: &mut [u8], f: Fields)
     requires { ⌜ 4 ≤ length (now out) ⌝ }
     ensures { λ _. ⌜ Stored (now (out .entry)) (now (out .exit)) 0 (head f) ⌝ }
 {
-    out[0] = f.kind;
-    out[1] = f.client;
-    out[2] = f.object;
-    out[3] = f.present;
+    layout::write_four(out, 0, f.kind, f.client, f.object, f.present);
 }
 
 fn write_numbers(out: &mut [u8], f: Fields)

@@ -5,7 +5,7 @@ use mathlib.Core.List.{List}
 use mathlib.Core.Path.{_≡_, _∙_}
 use lib.ListN.{getD, set, length-set}
 use lib.Seq.{sets}
-use Rattle.layout.specs.Number.{littleEndian, bytesOf, bytesAt, numberAt, Stored}
+use Rattle.layout.specs.Number.{littleEndian, bytesOf, bytesAt, numberAt, fourBytes, Stored}
 
 -- the places after p, as the code counts them and as the definitions do
 two : (p : ℕ) → p + 1 + 1 ≡ p + 2
@@ -25,22 +25,22 @@ module _ (l : List ℕ) (p : ℕ) where
       let k : p + 1 + 1 + 1 + 1 ≡ p + 4 = omega arith in
       rw (k, g, e, f) (omega arith)
 
--- what four stores leave, each of the byte that the code computed
-module _ (l : List ℕ) (p x a b c d : ℕ) where
-  four-sets : a ≡ x % 256 → b ≡ x / 256 % 256 → c ≡ x / 65536 % 256 → d ≡ x / 16777216 % 256
-      → set (set (set (set l p a) (p + 1) b) (p + 2) c) (p + 3) d ≡ sets l p (bytesOf 4 x)
-  unfolding bytesOf
-  four-sets e f g h =
-      let i : p + 1 ≡ suc p = omega arith in
-      let j : p + 2 ≡ suc (suc p) = omega arith in
-      let k : p + 3 ≡ suc (suc (suc p)) = omega arith in
-      let v : x / 256 / 256 ≡ x / 65536 = omega arith in
-      let w : x / 65536 / 256 ≡ x / 16777216 = omega arith in
-      rw (i, j, k, e, f, g, h, v, w)
+-- what four stores leave
+pub store-four : (l : List ℕ) (p a b c d : ℕ) → Stored l (set (set (set (set l p a) (p + 1) b) (p + 2) c) (p + 3) d) p (fourBytes a b c d)
+store-four l p a b c d =
+    let i : p + 1 ≡ suc p = omega arith in
+    let j : p + 2 ≡ suc (suc p) = omega arith in
+    let k : p + 3 ≡ suc (suc (suc p)) = omega arith in
+    record { stored = rw (i, j, k); long = simp length-set }
 
-  pub store-four : a ≡ x % 256 → b ≡ x / 256 % 256 → c ≡ x / 65536 % 256 → d ≡ x / 16777216 % 256
-      → Stored l (set (set (set (set l p a) (p + 1) b) (p + 2) c) (p + 3) d) p (bytesOf 4 x)
-  store-four e f g h = record { stored = four-sets e f g h; long = simp length-set }
+-- and where each is the byte that the code computed
+pub store-number : (l m : List ℕ) (p x a b c d : ℕ) → a ≡ x % 256 → b ≡ x / 256 % 256 → c ≡ x / 65536 % 256 → d ≡ x / 16777216 % 256
+    → Stored l m p (fourBytes a b c d) → Stored l m p (bytesOf 4 x)
+unfolding bytesOf
+store-number l m p x a b c d e f g h s =
+    let v : x / 256 / 256 ≡ x / 65536 = omega arith in
+    let w : x / 65536 / 256 ≡ x / 16777216 = omega arith in
+    record { stored = s .stored ∙ rw (e, f, g, h, v, w); long = s .long }
 
 -- a higher part leaves the lowest byte, and moves down with the others
 byte : (x y k : ℕ) → x ≡ y + 256 * k → (x % 256 ≡ y % 256) × (x / 256 ≡ y / 256 + k)

@@ -3,10 +3,10 @@ use Prim.Native.Nat.{ℕ, zero, suc, _+_, _*_, _/_, _%_, _<_, _≤_}
 use native.Mathlib.Nat.{add-zero}
 use native.Mathlib.Numerals.{add-one}
 use native.Mathlib.Omega.{arith}
-use mathlib.Core.List.{List, [], _∷_, _++_}
+use mathlib.Core.List.{List, [], _∷_, _++_, append-nil}
 use mathlib.Core.Path.{_≡_, refl, sym, ap, _∙_}
 use lib.ListN.{length, getD, set, drop}
-use lib.Seq.{sets, drop-cons}
+use lib.Seq.{sets, drop-cons, drop-length}
 
 -- the number that these bytes make
 unfoldable pub littleEndian : List ℕ → ℕ
@@ -31,6 +31,10 @@ bytesAt l p (suc w) = getD l p 0 ∷ bytesAt l (p + 1) w
 -- the number that stands in w bytes at place p
 abbrev pub numberAt : List ℕ → ℕ → ℕ → ℕ
 numberAt l p w = littleEndian (bytesAt l p w)
+
+-- four bytes
+abbrev pub fourBytes : ℕ → ℕ → ℕ → ℕ → List ℕ
+fourBytes a b c d = a ∷ (b ∷ (c ∷ (d ∷ [])))
 
 -- each element is a byte
 abbrev pub Bytes : List ℕ → Type 0
@@ -93,6 +97,16 @@ bytes-then l p (suc w) h =
     let here : p < length l = omega arith in
     rw one (ap (_∷_ (getD l p 0)) (bytes-then l (p + 1) w (omega arith)) ∙ rw add-one (sym (drop-cons l p 0 here)))
 
+pub four-then : (l : List ℕ) → 4 ≤ length l → fourBytes (getD l 0 0) (getD l 1 0) (getD l 2 0) (getD l 3 0) ++ drop 4 l ≡ l
+four-then l h =
+    rw (← drop-cons l 3 0 (omega arith), ← drop-cons l 2 0 (omega arith), ← drop-cons l 1 0 (omega arith), ← drop-cons l 0 0 (omega arith))
+
 -- the same through the number
 pub number-then : (l : List ℕ) → Bytes l → (p w : ℕ) → p + w ≤ length l → bytesOf w (numberAt l p w) ++ drop (p + w) l ≡ drop p l
 number-then l b p w h = rw (write-back l b p w) (bytes-then l p w h)
+
+-- and where the list ends with it
+pub number-last : (l : List ℕ) → Bytes l → (p w : ℕ) → p + w ≡ length l → bytesOf w (numberAt l p w) ≡ drop p l
+number-last l b p w h =
+    let none : drop (p + w) l ≡ [] = rw h (drop-length l) in
+    sym (append-nil _) ∙ (rw none at (number-then l b p w (omega arith)))

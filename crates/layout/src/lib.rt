@@ -2,7 +2,7 @@
 ghost use Prim.Native.Nat.{_+_, _*_, _/_, _%_, _≤_};
 ghost use mathlib.Core.Path.{_≡_};
 ghost use lib.ListN.{length};
-ghost use Rattle.layout.specs.Number.{numberAt, bytesOf, Stored};
+ghost use Rattle.layout.specs.Number.{numberAt, bytesOf, fourBytes, Stored};
 
 // The number that four bytes make.
 fn join(a: u8, b: u8, c: u8, d: u8) -> u32
@@ -31,14 +31,28 @@ pub fn read_u64(bytes: &[u8], at: usize) -> u64
     read_u32(bytes, at) as u64 + 4294967296 * (read_u32(bytes, at + 4) as u64)
 }
 
+pub fn write_four(out: &mut [u8], at: usize, a: u8, b: u8, c: u8, d: u8)
+    requires { ⌜ at + 4 ≤ length (now out) ⌝ }
+    ensures { λ _. ⌜ Stored (now (out .entry)) (now (out .exit)) at (fourBytes a b c d) ⌝ }
+{
+    out[at] = a;
+    out[at + 1] = b;
+    out[at + 2] = c;
+    out[at + 3] = d;
+}
+
 pub fn write_u32(out: &mut [u8], at: usize, number: u32)
     requires { ⌜ at + 4 ≤ length (now out) ⌝ }
     ensures { λ _. ⌜ Stored (now (out .entry)) (now (out .exit)) at (bytesOf 4 number) ⌝ }
 {
-    out[at] = low_byte(number);
-    out[at + 1] = low_byte(number / 256);
-    out[at + 2] = low_byte(number / 65536);
-    out[at + 3] = low_byte(number / 16777216);
+    write_four(
+        out,
+        at,
+        low_byte(number),
+        low_byte(number / 256),
+        low_byte(number / 65536),
+        low_byte(number / 16777216),
+    );
 }
 
 pub fn write_u64(out: &mut [u8], at: usize, number: u64)

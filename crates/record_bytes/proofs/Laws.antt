@@ -1,25 +1,17 @@
 -- What a function found, put together.
-use Prim.Native.Nat.{ℕ, suc, _+_, _*_, _≤_}
+use Prim.Native.Nat.{ℕ, _+_, _*_, _≤_}
 use native.Mathlib.Omega.{arith}
 use mathlib.Core.List.{List}
 use mathlib.Core.Path.{_≡_, refl, sym}
-use lib.ListN.{length, set, length-set}
-use Rattle.layout.specs.Number.{bytesOf, Stored, stored-then, number-stored}
+use lib.ListN.{length}
+use Rattle.layout.specs.Number.{bytesOf, fourBytes, Stored, stored-then, number-stored}
 use Rattle.protocol.specs.declared.setup.Setup.{Setup}
 use Rattle.protocol.specs.declared.step.Step.{Step}
 use Rattle.output.specs.Written.{Written}
-use Rattle.record_bytes.specs.Bytes.{head, setupFront, setupBytes, stepBytes, trailerBytes, length-front, length-setup, length-step, length-trailer}
-
--- four bytes, stored one after the other
-pub head-stored : (l : List ℕ) (p a b c d : ℕ) → Stored l (set (set (set (set l p a) (p + 1) b) (p + 2) c) (p + 3) d) p (head a b c d)
-head-stored l p a b c d =
-    let i : p + 1 ≡ suc p = omega arith in
-    let j : p + 2 ≡ suc (suc p) = omega arith in
-    let k : p + 3 ≡ suc (suc (suc p)) = omega arith in
-    record { stored = rw (i, j, k); long = simp length-set }
+use Rattle.record_bytes.specs.Bytes.{setupFront, setupBytes, stepBytes, trailerBytes, length-front, length-setup, length-step, length-trailer}
 
 module _ (p : ℕ) where
-  pub step-stored : (x : Step) (l m n r : List ℕ) → Stored l m p (head (x .kind) (x .client) (x .object) (x .place)) → Stored m n (p + 4) (bytesOf 4 (x .clock))
+  pub step-stored : (x : Step) (l m n r : List ℕ) → Stored l m p (fourBytes (x .kind) (x .client) (x .object) (x .place)) → Stored m n (p + 4) (bytesOf 4 (x .clock))
       → Stored n r (p + 8) (bytesOf 8 (x .value)) → Written l r p (stepBytes x) (p + 16)
   unfolding stepBytes
   step-stored x l m n r a b c =
@@ -30,7 +22,7 @@ module _ (p : ℕ) where
   unfolding trailerBytes
   trailer-stored n l m r a b = record { next = rw (length-trailer n); bytes = number-stored l m r p 4 _ _ a b }
 
-  pub front-stored : (s : Setup) (l a b c r : List ℕ) → Stored l a p (head (s .clients) (s .volumes) (s .objects) 0) → Stored a b (p + 4) (bytesOf 4 (s .tv))
+  pub front-stored : (s : Setup) (l a b c r : List ℕ) → Stored l a p (fourBytes (s .clients) (s .volumes) (s .objects) 0) → Stored a b (p + 4) (bytesOf 4 (s .tv))
       → Stored b c (p + 8) (bytesOf 4 (s .t)) → Stored c r (p + 12) (bytesOf 4 (s .m)) → Stored l r p (setupFront s)
   unfolding setupFront
   front-stored s l a b c r e f g h =

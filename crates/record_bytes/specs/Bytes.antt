@@ -4,24 +4,20 @@ use native.Mathlib.Omega.{arith}
 use mathlib.Core.List.{List, [], _∷_, _++_, append-assoc, append-nil}
 use mathlib.Core.Path.{_≡_, refl, sym}
 use lib.ListN.{length, length-append}
-use Rattle.layout.specs.Number.{bytesOf}
+use Rattle.layout.specs.Number.{bytesOf, fourBytes}
 use Rattle.protocol.specs.declared.setup.Setup.{Setup}
 use Rattle.protocol.specs.declared.step.Step.{Step}
 
--- four bytes that begin a record
-abbrev pub head : ℕ → ℕ → ℕ → ℕ → List ℕ
-head a b c d = a ∷ (b ∷ (c ∷ (d ∷ [])))
-
 -- "setup (48 bytes: dash, volume and object counts, a 0, tv, t, m, 32 volume bytes, unused ones 0)"
 unfoldable pub setupFront : Setup → List ℕ
-setupFront s = head (s .clients) (s .volumes) (s .objects) 0 ++ (bytesOf 4 (s .tv) ++ (bytesOf 4 (s .t) ++ bytesOf 4 (s .m)))
+setupFront s = fourBytes (s .clients) (s .volumes) (s .objects) 0 ++ (bytesOf 4 (s .tv) ++ (bytesOf 4 (s .t) ++ bytesOf 4 (s .m)))
 
 abbrev pub setupBytes : Setup → List ℕ
 setupBytes s = setupFront s ++ s .volume
 
 -- "steps of 16 bytes (kind, dash, object, place; clock in 4; value in 8; unused fields 0)"
 unfoldable pub stepBytes : Step → List ℕ
-stepBytes x = head (x .kind) (x .client) (x .object) (x .place) ++ (bytesOf 4 (x .clock) ++ bytesOf 8 (x .value))
+stepBytes x = fourBytes (x .kind) (x .client) (x .object) (x .place) ++ (bytesOf 4 (x .clock) ++ bytesOf 8 (x .value))
 
 unfoldable pub stepsBytes : List Step → List ℕ
 stepsBytes [] = []

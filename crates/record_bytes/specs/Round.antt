@@ -3,17 +3,17 @@ use Prim.Native.Nat.{ℕ, zero, suc, _+_, _*_, _<_, _≤_}
 use native.Mathlib.Nat.{add-zero}
 use native.Mathlib.Omega.{arith}
 use mathlib.Core.Bool.{true}
-use mathlib.Core.List.{List, [], _∷_, _++_, append-assoc, append-nil}
+use mathlib.Core.List.{List, [], _∷_, _++_, append-assoc}
 use mathlib.Core.Path.{_≡_, refl, sym, ap, _∙_}
 use lib.ListN.{length, getD, drop}
-use lib.Seq.{drop-cons, drop-length, getD-drop}
-use Rattle.layout.specs.Number.{littleEndian, bytesOf, bytesAt, limit, numberAt, Bytes, read-back, bytes-then, number-then}
+use lib.Seq.{getD-drop}
+use Rattle.layout.specs.Number.{littleEndian, bytesOf, bytesAt, limit, numberAt, Bytes, fourBytes, read-back, bytes-then, four-then, number-then, number-last}
 use Rattle.protocol.specs.declared.setup.Setup.{Setup}
 use Rattle.protocol.specs.declared.step.Step.{Step}
 use Rattle.protocol.specs.Setup.{inRange}
 use Rattle.protocol.specs.Ranges.{ranges}
 use Rattle.file_records.specs.Records.{setupIn, stepIn}
-use Rattle.record_bytes.specs.Bytes.{head, setupFront, setupBytes, stepBytes, trailerBytes}
+use Rattle.record_bytes.specs.Bytes.{setupFront, setupBytes, stepBytes, trailerBytes}
 
 -- clock and value have numbers of their width, as in every step of a program
 pub record Widths (x : Step) : Type 0 where
@@ -68,23 +68,16 @@ trailer-back n h = (read-back 4 n (omega arith), read-back 4 (56 + 16 * n) (omeg
 
 -- ---- read and written again, with what follows
 module _ (l : List ℕ) (b : Bytes l) where
-  head-again : 4 ≤ length l → head (getD l 0 0) (getD l 1 0) (getD l 2 0) (getD l 3 0) ++ drop 4 l ≡ l
-  head-again h =
-      rw (← drop-cons l 3 0 (omega arith), ← drop-cons l 2 0 (omega arith), ← drop-cons l 1 0 (omega arith), ← drop-cons l 0 0 (omega arith))
-
   pub step-again : 16 ≤ length l → stepBytes (stepIn l 0) ++ drop 16 l ≡ l
   unfolding stepBytes stepIn
-  step-again h = simp append-assoc (rw (number-then l b 8 8 (omega arith), number-then l b 4 4 (omega arith)) (head-again (omega arith)))
+  step-again h = simp append-assoc (rw (number-then l b 8 8 (omega arith), number-then l b 4 4 (omega arith)) (four-then l (omega arith)))
 
   pub setup-again : 48 ≤ length l → getD l 3 0 ≡ 0 → setupBytes (setupIn l 0) ++ drop 48 l ≡ l
   unfolding setupFront setupIn
   setup-again h z =
       simp append-assoc (rw (bytes-then l 16 32 (omega arith), number-then l b 12 4 (omega arith), number-then l b 8 4 (omega arith), number-then l b 4 4 (omega arith))
-      (ap (λ (d : ℕ). head (getD l 0 0) (getD l 1 0) (getD l 2 0) d ++ drop 4 l) (sym z) ∙ head-again (omega arith)))
+      (ap (λ (d : ℕ). fourBytes (getD l 0 0) (getD l 1 0) (getD l 2 0) d ++ drop 4 l) (sym z) ∙ four-then l (omega arith)))
 
   pub trailer-again : (n : ℕ) → length l ≡ 8 → numberAt l 0 4 ≡ n → numberAt l 4 4 ≡ 56 + 16 * n → trailerBytes n ≡ l
   unfolding trailerBytes
-  trailer-again n h e f =
-      let none : drop 8 l ≡ [] = rw h at (drop-length l) in
-      let last : bytesOf 4 (numberAt l 4 4) ≡ drop 4 l = sym (append-nil _) ∙ (rw none at (number-then l b 4 4 (omega arith))) in
-      rw (← f, ← e) (rw last (number-then l b 0 4 (omega arith)))
+  trailer-again n h e f = rw (← f, ← e) (rw (number-last l b 4 4 (sym h)) (number-then l b 0 4 (omega arith)))

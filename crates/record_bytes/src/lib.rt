@@ -7,19 +7,9 @@ ghost use lib.ListN.{length};
 ghost use Rattle.protocol.specs.Setup.{inRange};
 ghost use Rattle.layout.specs.Number.{Stored};
 ghost use Rattle.output.specs.Written.{Written};
-ghost use Rattle.record_bytes.specs.Bytes.{head, setupFront, setupBytes, stepBytes, trailerBytes};
+ghost use Rattle.record_bytes.specs.Bytes.{setupFront, setupBytes, stepBytes, trailerBytes};
 use protocol::setup::Setup;
 use protocol::step::Step;
-
-fn write_head(out: &mut [u8], at: usize, a: u8, b: u8, c: u8, d: u8)
-    requires { ⌜ at + 4 ≤ length (now out) ⌝ }
-    ensures { λ _. ⌜ Stored (now (out .entry)) (now (out .exit)) at (head a b c d) ⌝ }
-{
-    out[at] = a;
-    out[at + 1] = b;
-    out[at + 2] = c;
-    out[at + 3] = d;
-}
 
 // The counts and durations of a setup in range: its counts are bytes.
 fn write_front(out: &mut [u8], at: usize, setup: Setup)
@@ -27,7 +17,7 @@ fn write_front(out: &mut [u8], at: usize, setup: Setup)
     requires { ⌜ inRange setup ≡ true ⌝ }
     ensures { λ _. ⌜ Stored (now (out .entry)) (now (out .exit)) at (setupFront setup) ⌝ }
 {
-    write_head(
+    layout::write_four(
         out,
         at,
         setup.clients as u8,
@@ -56,7 +46,7 @@ pub fn write_step(out: &mut [u8], at: usize, step: Step) -> usize
     requires { ⌜ at + 16 ≤ length (now out) ⌝ }
     ensures { λ r. ⌜ Written (now (out .entry)) (now (out .exit)) at (stepBytes step) r ⌝ }
 {
-    write_head(out, at, step.kind, step.client, step.object, step.place);
+    layout::write_four(out, at, step.kind, step.client, step.object, step.place);
     layout::write_u32(out, at + 4, step.clock);
     layout::write_u64(out, at + 8, step.value);
     at + 16

@@ -1,9 +1,9 @@
 use borrow.Author.Needs.{needs}
 use native.Mathlib.Omega.{arith}
 use lib.ListN.{length-set}
-use Rattle.record_bytes.proofs.Laws.{head-stored}
-use Rattle.record_bytes.proofs.write_head.Statement.{statement}
-use Rattle.record_bytes.proofs.write_head.Tie as tie
+use Rattle.layout.proofs.Laws.{store-four}
+use Rattle.layout.proofs.write_four.Statement.{statement}
+use Rattle.layout.proofs.write_four.Tie as tie
 
 slice-write-out : tie.Need-slice-write-out
 slice-write-out c = search needs
@@ -30,10 +30,10 @@ same-length : tie.Need-same-length
 same-length c = search needs
 
 returns : tie.Need-returns
-returns c = search head-stored
+returns c = search store-four
 
-pub write-head-spec : {M : Type 1} → statement M
-write-head-spec =
+pub write-four-spec : {M : Type 1} → statement M
+write-four-spec =
     tie.close
     (tie.spec
     slice-write-out

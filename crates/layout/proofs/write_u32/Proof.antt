@@ -1,63 +1,41 @@
 use borrow.Author.Needs.{needs}
-use native.Mathlib.Omega.{arith}
-use lib.ListN.{length-set}
-use Rattle.layout.proofs.Laws.{store-four}
+use Rattle.layout.proofs.Laws.{store-number}
 use Rattle.layout.proofs.write_u32.Statement.{statement}
 use Rattle.layout.proofs.write_u32.Tie as tie
 
 low-byte-requires : tie.Need-low-byte-requires
 low-byte-requires c κs = search needs
 
-slice-write-out : tie.Need-slice-write-out
-slice-write-out c = search needs
-
 low-byte-requires-2 : tie.Need-low-byte-requires-2
 low-byte-requires-2 c κs = search needs
-
-add-out : tie.Need-add-out
-add-out c = search needs
-
-slice-write-out-2 : tie.Need-slice-write-out-2
-slice-write-out-2 c = simp length-set (omega arith)
 
 low-byte-requires-3 : tie.Need-low-byte-requires-3
 low-byte-requires-3 c κs = search needs
 
-add-out-2 : tie.Need-add-out-2
-add-out-2 c = search needs
-
-slice-write-out-3 : tie.Need-slice-write-out-3
-slice-write-out-3 c = simp length-set (omega arith)
-
 low-byte-requires-4 : tie.Need-low-byte-requires-4
 low-byte-requires-4 c κs = search needs
 
-add-out-3 : tie.Need-add-out-3
-add-out-3 c = search needs
-
-slice-write-out-4 : tie.Need-slice-write-out-4
-slice-write-out-4 c = simp length-set (omega arith)
+write-four-requires : tie.Need-write-four-requires
+write-four-requires c κs = search needs
 
 same-length : tie.Need-same-length
 same-length c = search needs
 
 returns : tie.Need-returns
-returns c = search store-four
+returns c =
+    let four = c .before .before in
+    let third = four .before .before in
+    let second = third .before in
+    store-number _ _ _ _ _ _ _ _ (second .before .low-byte .ensures) (second .low-byte2 .ensures) (third .low-byte3 .ensures) (four .before .low-byte4 .ensures) (four .write-four .ensures)
 
 pub write-u32-spec : {M : Type 1} → statement M
 write-u32-spec =
     tie.close
     (tie.spec
     low-byte-requires
-    slice-write-out
     low-byte-requires-2
-    add-out
-    slice-write-out-2
     low-byte-requires-3
-    add-out-2
-    slice-write-out-3
     low-byte-requires-4
-    add-out-3
-    slice-write-out-4
+    write-four-requires
     same-length
     returns)

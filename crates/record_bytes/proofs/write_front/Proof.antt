@@ -5,17 +5,17 @@ use Rattle.record_bytes.proofs.Laws.{front-stored}
 use Rattle.record_bytes.proofs.write_front.Statement.{statement}
 use Rattle.record_bytes.proofs.write_front.Tie as tie
 
-cast-write-head : tie.Need-cast-write-head
-cast-write-head c = omega (arith, ranges _ (c .before .before .before .pre .1) .clients .1)
+cast-write-four : tie.Need-cast-write-four
+cast-write-four c = omega (arith, ranges _ (c .before .before .before .pre .1) .clients .1)
 
-cast-write-head-2 : tie.Need-cast-write-head-2
-cast-write-head-2 c = omega (arith, ranges _ (c .before .before .before .before .pre .1) .volumes .1)
+cast-write-four-2 : tie.Need-cast-write-four-2
+cast-write-four-2 c = omega (arith, ranges _ (c .before .before .before .before .pre .1) .volumes .1)
 
-cast-write-head-3 : tie.Need-cast-write-head-3
-cast-write-head-3 c = omega (arith, ranges _ (c .before .before .before .before .before .pre .1) .objects .1)
+cast-write-four-3 : tie.Need-cast-write-four-3
+cast-write-four-3 c = omega (arith, ranges _ (c .before .before .before .before .before .pre .1) .objects .1)
 
-write-head-requires : tie.Need-write-head-requires
-write-head-requires c κs = search needs
+write-four-requires : tie.Need-write-four-requires
+write-four-requires c κs = search needs
 
 add-write-u32 : tie.Need-add-write-u32
 add-write-u32 c = search needs
@@ -45,10 +45,10 @@ pub write-front-spec : {M : Type 1} → statement M
 write-front-spec =
     tie.close
     (tie.spec
-    cast-write-head
-    cast-write-head-2
-    cast-write-head-3
-    write-head-requires
+    cast-write-four
+    cast-write-four-2
+    cast-write-four-3
+    write-four-requires
     add-write-u32
     write-u32-requires
     add-write-u32-2

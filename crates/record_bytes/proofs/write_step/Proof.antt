@@ -3,8 +3,8 @@ use Rattle.record_bytes.proofs.Laws.{step-stored}
 use Rattle.record_bytes.proofs.write_step.Statement.{statement}
 use Rattle.record_bytes.proofs.write_step.Tie as tie
 
-write-head-requires : tie.Need-write-head-requires
-write-head-requires c κs = search needs
+write-four-requires : tie.Need-write-four-requires
+write-four-requires c κs = search needs
 
 add-write-u32 : tie.Need-add-write-u32
 add-write-u32 c = search needs
@@ -31,7 +31,7 @@ pub write-step-spec : {M : Type 1} → statement M
 write-step-spec =
     tie.close
     (tie.spec
-    write-head-requires
+    write-four-requires
     add-write-u32
     write-u32-requires
     add-write-u64
