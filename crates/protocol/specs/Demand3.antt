@@ -26,9 +26,9 @@ leases-safe s i = record { fresh = fresh-inv s (ranges s i); kept = step-keeps s
 pub demand-3 : (s : Setup) (xs : List Step) → AgreesThroughout s xs
 demand-3 s xs = agrees-throughout s (Inv s) (leases-safe s) xs
 
--- The same of the history of a run, which tells as shown exactly what was answered "shown": "every copy shown is the value of the last write to that
--- notice completed before it, or zero"; every accepted write not cut off is complete by the end of the first accepted clock step past its latest end;
--- accepted = completed + cut off + still open
+-- The same of the history of a run, in which every read shown and every accepted clock step, write and server restart stands in its turn: "every copy
+-- shown is the value of the last write to that notice completed before it, or zero"; every accepted write not cut off is complete by the end of the
+-- first accepted clock step past its latest end; accepted = completed + cut off + still open
 pub demand-3-in-words : (s : Setup) → inRange s ≡ true → (xs : List Step) → HistoryAgrees s xs (answers s (freshWorld s) xs) (ran s (freshWorld s) xs)
 demand-3-in-words s i xs = history-agrees s (Inv s) (leases-safe s i) i xs
 

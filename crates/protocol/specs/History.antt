@@ -1,8 +1,8 @@
 -- The history of a run is the events of its steps, told newest first. Demand 3 once more, in functions of the history alone.
--- Letters: s setup, w world, x a step, a its answer, rs all answers, h a history, e an event, p a test of events, d client, o and k objects, v value, u
+-- Letters: s setup, w world, t its tables, x a step, a its answer, rs all answers, h a history, e an event, p a test of events, d client, o and k objects, v value, u
 -- latest end, T clock.
+pub mod Answered
 pub mod Lawful
-pub mod Showings
 pub mod StepsLawful
 use Prim.Native.Nat.{ℕ, _+_, _<_, _≤_}
 use mathlib.Core.Bool.{Bool, true, false, cond, _||_}
@@ -13,8 +13,11 @@ use Rattle.laws.specs.Loop.{countFrom}
 use Rattle.protocol.specs.declared.setup.Setup.{Setup}
 use Rattle.protocol.specs.declared.step.Answer.{Answer}
 use Rattle.protocol.specs.declared.step.Step.{Step}
+use Rattle.protocol.specs.declared.tables.Tables.{Tables}
 use Rattle.protocol.specs.Tables.{valueAt}
-use Rattle.protocol.specs.Answers.{answerValue, reported, isShown}
+use Rattle.protocol.specs.Writes.{latestEnd}
+use Rattle.protocol.specs.Answers.{answerValue, reported, isShown, isRefused}
+use Rattle.protocol.specs.Gate.{isClock, isWrite, isRestartServer}
 use Rattle.protocol.specs.World.{World, freshWorld, stepped}
 use Rattle.protocol.specs.Ledger.{Event, acceptance, completion, serverRestart, showing, clockStep, events, Open, none, write, isOpen}
 use Rattle.protocol.specs.Agreement.{standingWrite}
@@ -111,24 +114,27 @@ unfoldable pub reportedIn : List Answer → ℕ
 reportedIn [] = 0
 reportedIn (a ∷ rest) = reported a + reportedIn rest
 
--- what a step was answered "shown", if it was: client, object and value
-abbrev pub shownBy : Step → Answer → List (ℕ × ℕ × ℕ)
-shownBy x a = cond (isShown a) ((x .client, x .object, answerValue a) ∷ []) []
+-- what an accepted step is told as by itself: a clock step, a write with its latest end by the tables before it, a restart of the server
+abbrev pub stepTells : Setup → Tables → Step → List Event
+stepTells s t x =
+    cond (isClock x) (clockStep (x .clock) ∷ [])
+    (cond (isWrite x) (acceptance (x .object) (x .value) (latestEnd s t (x .object)) ∷ [])
+    (cond (isRestartServer x) (serverRestart ∷ []) []))
 
--- what the steps of a run were answered "shown", in their order
-unfoldable pub shownByAll : List Step → List Answer → List (ℕ × ℕ × ℕ)
-shownByAll [] _ = []
-shownByAll (_ ∷ _) [] = []
-shownByAll (x ∷ xs) (a ∷ rest) = shownBy x a ++ shownByAll xs rest
+-- what the answer to a step tells: nothing where it was refused, else what it was shown, else what it is by itself
+abbrev pub answerTells : Setup → Tables → Step → Answer → List Event
+answerTells s t x a = cond (isRefused a) [] (cond (isShown a) (showing (x .client) (x .object) (answerValue a) ∷ []) (stepTells s t x))
 
--- what a history tells as shown, oldest first
-unfoldable pub shownIn : List Event → List (ℕ × ℕ × ℕ)
-shownIn [] = []
-shownIn (acceptance _ _ _ ∷ past) = shownIn past
-shownIn (completion _ ∷ past) = shownIn past
-shownIn (serverRestart ∷ past) = shownIn past
-shownIn (showing d o v ∷ past) = shownIn past ++ ((d, o, v) ∷ [])
-shownIn (clockStep _ ∷ past) = shownIn past
+-- what the answers to the steps of a run tell, in their order
+unfoldable pub answersTell : Setup → World → List Step → List Answer → List Event
+answersTell s w [] _ = []
+answersTell s w (_ ∷ _) [] = []
+answersTell s w (x ∷ xs) (a ∷ rest) = answerTells s (w .tables) x a ++ answersTell s (stepped s w x) xs rest
+
+-- a history without its completions, oldest first
+unfoldable pub uncompleted : List Event → List Event
+uncompleted [] = []
+uncompleted (e ∷ past) = uncompleted past ++ cond (isCompletion e) [] (e ∷ [])
 
 -- ---- what demand 3 says of a history h
 
@@ -148,8 +154,9 @@ AddsUp s h = howOften isAcceptance h ≡ howOften isCompletion h + cutOffs s h +
 
 -- together, of steps from fresh tables on, the answers to them and the world left after them
 pub record HistoryAgrees (s : Setup) (xs : List Step) (rs : List Answer) (last : World) : Type 0 where
-  -- each answer "shown" is told, and nothing else is told as shown
-  pub showings : shownByAll xs rs ≡ shownIn (history s xs)
+  -- each read that was shown, and each clock step, write and restart of the server that was not refused, is told in its turn; besides these only
+  -- completions are
+  pub answered : answersTell s (freshWorld s) xs rs ≡ uncompleted (history s xs)
   pub shows : ShowsLast (history s xs)
   pub ends : EndsInTime (history s xs)
   pub tallies : AddsUp s (history s xs)

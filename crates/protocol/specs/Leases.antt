@@ -1,5 +1,6 @@
 -- The tests of time. Whoever proves something about leases uses these names and their laws alone.
 use Prim.Native.Nat.{ℕ, _<_, _≤_}
+use native.Mathlib.Omega.{arith}
 use mathlib.Core.Bool.{Bool, true, false, not}
 use mathlib.Core.Path.{_≡_}
 use borrow.Author.Tests.{ltb-true, ltb-false}
@@ -30,8 +31,8 @@ endOver clock end = ltb end clock
 -- its two laws: over is what is past its latest end, and nothing that is past it is not over
 pub over-past : (clock end : ℕ) → endOver clock end ≡ true → end < clock
 unfolding endOver
-over-past clock end e = ltb-true end clock e
+over-past clock end e = omega (arith, ltb-true)
 
 pub not-over : (clock end : ℕ) → endOver clock end ≡ false → clock ≤ end
 unfolding endOver
-not-over clock end e = ltb-false end clock e
+not-over clock end e = omega (arith, ltb-false)

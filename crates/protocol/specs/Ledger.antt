@@ -55,12 +55,18 @@ deliveryStaged s t i = receiptStaged s (taken t i) (messageAt (t .queue) i .clie
 abbrev pub readEvents : Setup → Tables → Copy → ℕ → ℕ → List Event
 readEvents s t c d o = cond (showable s t c d o) (showing d o (c .value) ∷ []) []
 
+abbrev pub clockEvents : Setup → Tables → ℕ → List Event
+clockEvents s t T = completions s (clockStaged s t T) ++ (clockStep T ∷ [])
+
+abbrev pub writeEvents : Setup → Tables → ℕ → ℕ → List Event
+writeEvents s t o v = acceptance o v (latestEnd s t o) ∷ completions s (writeStaged s t o v)
+
 -- the events of an accepted step, by its kind
 unfoldable pub happening : Setup → Tables → Copy → Step → List Event
 happening s t c x =
-    cond (isClock x) (completions s (clockStaged s t (x .clock)) ++ (clockStep (x .clock) ∷ []))
+    cond (isClock x) (clockEvents s t (x .clock))
     (cond (isRead x) (readEvents s t c (x .client) (x .object))
-    (cond (isWrite x) (acceptance (x .object) (x .value) (latestEnd s t (x .object)) ∷ completions s (writeStaged s t (x .object) (x .value)))
+    (cond (isWrite x) (writeEvents s t (x .object) (x .value))
     (cond (isDeliver x) (completions s (deliveryStaged s t (x .place)))
     (cond (isRestartServer x) (serverRestart ∷ []) []))))
 

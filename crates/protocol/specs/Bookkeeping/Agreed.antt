@@ -17,6 +17,7 @@ use Rattle.protocol.specs.declared.step.Step.{Step}
 use Rattle.protocol.specs.declared.tables.Tables.{Tables}
 use Rattle.protocol.specs.Setup.{inRange}
 use Rattle.protocol.specs.Tables.{valueAt, standingAt, pendingAt, endAt}
+use Rattle.protocol.specs.Leases.{not-over}
 use Rattle.protocol.specs.Writes.{settled, clockStaged}
 use Rattle.protocol.specs.Client.{showable}
 use Rattle.protocol.specs.Answers.{answerValue, reported, isShown, isRefused}
@@ -79,7 +80,7 @@ module _ (s : Setup) (w : World) (x : Step) (l : Ledger) where
       let q = tables-after s w x a ∙ ap (λ (g : Decision). g .outcome .tables) (clock-performed s (w .tables) (copyOf s w x) (requestOf s w x) x (eqb-true _ 1 e)) in
       let t = settled s (clockStaged s (w .tables) (x .clock)) .tables in
       let j = open-stands (standingAt t o) (pendingAt t o) (endAt t o) y u (sym (ap (λ (z : Tables). standingWrite z o) q) ∙ i) in
-      omega (arith, clock-ended s (x .clock) (w .tables) .ends o p (j .0), j .1)
+      omega (arith, not-over (x .clock) (endAt t o) (clock-ended s (x .clock) (w .tables) .ends o p (j .0)), j .1)
 
   -- ---- what a read shows
   read-leaves : x .kind ≡ 2 → accepts s w x ≡ true → stepped s w x .tables ≡ w .tables

@@ -1,16 +1,15 @@
 -- The events of an accepted step, by its kind.
 -- Letters: s setup, t tables, c a copy, x a step, e what its kind is.
-use mathlib.Core.List.{[], _∷_, _++_}
+use mathlib.Core.List.{[], _∷_}
 use mathlib.Core.Path.{_≡_}
 use Rattle.protocol.specs.declared.records.Copy.{Copy}
 use Rattle.protocol.specs.declared.setup.Setup.{Setup}
 use Rattle.protocol.specs.declared.step.Step.{Step}
 use Rattle.protocol.specs.declared.tables.Tables.{Tables}
-use Rattle.protocol.specs.Writes.{latestEnd, writeStaged, clockStaged}
-use Rattle.protocol.specs.Ledger.{acceptance, serverRestart, clockStep, completions, deliveryStaged, readEvents, happening}
+use Rattle.protocol.specs.Ledger.{serverRestart, completions, deliveryStaged, readEvents, clockEvents, writeEvents, happening}
 
 module _ (s : Setup) (t : Tables) (c : Copy) (x : Step) where
-  pub clock-happening : x .kind ≡ 1 → happening s t c x ≡ completions s (clockStaged s t (x .clock)) ++ (clockStep (x .clock) ∷ [])
+  pub clock-happening : x .kind ≡ 1 → happening s t c x ≡ clockEvents s t (x .clock)
   unfolding happening
   clock-happening e = rw e
 
@@ -22,8 +21,7 @@ module _ (s : Setup) (t : Tables) (c : Copy) (x : Step) where
   unfolding happening
   ask-happening e = rw e
 
-  pub write-happening : x .kind ≡ 4
-      → happening s t c x ≡ acceptance (x .object) (x .value) (latestEnd s t (x .object)) ∷ completions s (writeStaged s t (x .object) (x .value))
+  pub write-happening : x .kind ≡ 4 → happening s t c x ≡ writeEvents s t (x .object) (x .value)
   unfolding happening
   write-happening e = rw e
 

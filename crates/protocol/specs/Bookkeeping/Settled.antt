@@ -17,7 +17,7 @@ use Rattle.protocol.specs.declared.setup.Setup.{Setup}
 use Rattle.protocol.specs.declared.tables.Tables.{Tables}
 use Rattle.protocol.specs.Setup.{volumeOf}
 use Rattle.protocol.specs.Tables.{standingAt, endAt}
-use Rattle.protocol.specs.Leases.{guardPassed, endOver, not-over}
+use Rattle.protocol.specs.Leases.{guardPassed, endOver}
 use Rattle.protocol.specs.Writes.{Counted, waited, ready, due, posted, completed, Staged, completeIf, settled, settling, clockStaged}
 use Rattle.protocol.specs.Ledger.{completion, settlingOf, isOpen, Ledger, book, bookAll}
 use Rattle.protocol.specs.Soundness.Shape.{Shape}
@@ -92,7 +92,7 @@ completions-counted s l (o ∷ os) = completions-counted s (book s l (completion
 -- ---- after a clock step
 pub record Ended (T j : ℕ) (c : Counted) : Type 0 where
   pub clock : c .tables .clock ≡ T
-  pub ends : (o : ℕ) → o < j → standingAt (c .tables) o ≡ true → T ≤ endAt (c .tables) o
+  pub ends : (o : ℕ) → o < j → standingAt (c .tables) o ≡ true → endOver T (endAt (c .tables) o) ≡ false
 
 module _ (s : Setup) (T : ℕ) where
   -- a write that completes stands no longer, and no other changes
@@ -108,13 +108,13 @@ module _ (s : Setup) (T : ℕ) where
         (same? o j);
   }
 
-  not-due : (c : Counted) (j : ℕ) → c .tables .clock ≡ T → due s (c .tables) j ≡ false → standingAt (c .tables) j ≡ true → T ≤ endAt (c .tables) j
+  not-due : (c : Counted) (j : ℕ) → c .tables .clock ≡ T → due s (c .tables) j ≡ false → standingAt (c .tables) j ≡ true → endOver T (endAt (c .tables) j) ≡ false
   unfolding due
   not-due c j e f p = go (standingAt (c .tables) j) (not (waited s (c .tables) j) && guardPassed (c .tables) (volumeOf s j)) p f
     where
-      go : (stands b : Bool) → stands ≡ true → (stands && (b || endOver (c .tables .clock) (endAt (c .tables) j))) ≡ false → T ≤ endAt (c .tables) j
+      go : (stands b : Bool) → stands ≡ true → (stands && (b || endOver (c .tables .clock) (endAt (c .tables) j))) ≡ false → endOver T (endAt (c .tables) j) ≡ false
       go true true p f = not-both refl f
-      go true false p f = omega (arith, not-over (c .tables .clock) (endAt (c .tables) j) f, e)
+      go true false p f = rw e at f
       go false b p f = not-both p refl
 
   kept-ended : (c : Counted) (j : ℕ) → due s (c .tables) j ≡ false → Ended T j c → Ended T (j + 1) c
@@ -127,7 +127,7 @@ module _ (s : Setup) (T : ℕ) where
   turn-ended c j p h =
       cond-keeps (Ended T (j + 1)) (due s (c .tables) j) (λ e. completed-ended c j (c .count + 1) h) (λ e. kept-ended c j e h)
 
-  -- "after an accepted clock step to T no open write has a latest end below T"
+  -- after a clock step to T no standing write is past its latest end
   pub clock-ended : (t : Tables) → Ended T (s .objects) (settled s (clockStaged s t T))
   unfolding settled
   clock-ended t =

@@ -31,7 +31,7 @@ use Rattle.protocol.specs.Sound.{kindSound}
 use Rattle.protocol.specs.SoundLaws.{named}
 use Rattle.protocol.specs.Answers.{reported, completedAnswer}
 use Rattle.protocol.specs.Decide.{Received, uncounted, kept, answered, counting, received, grantReceived, invalidateReceived, offerReceived, taken, performed, readDecided, askDecided, deliverDecided, restartDecided}
-use Rattle.protocol.specs.Ledger.{Event, acceptance, serverRestart, clockStep, settlingOf, completions, receiptStaged, deliveryStaged, readEvents, happening, Ledger, book, bookAll}
+use Rattle.protocol.specs.Ledger.{Event, acceptance, serverRestart, settlingOf, completions, receiptStaged, deliveryStaged, readEvents, clockEvents, writeEvents, happening, Ledger, book, bookAll}
 use Rattle.protocol.specs.Soundness.StepCases.{Accepted, by-kind, object-exists, place-exists, queue-fits, none-stands, clock-performed, read-performed, ask-performed, write-performed, deliver-performed, lose-performed, double-performed, server-performed, client-performed}
 use Rattle.protocol.specs.Soundness.Shape.{Shape, clock-shape, taken-shape}
 use Rattle.protocol.specs.Soundness.Bounds.{Bounded, named-at}
@@ -149,16 +149,16 @@ acceptance-completes s l o y end = refl
 
 -- ---- an accepted step
 module _ (s : Setup) (rs : Ranges s) (t : Tables) (k : Shape t) (b : Bounded s t) (c : Copy) (r : Request) (l : Ledger) (h : Booked s t l) where
-  clock-recorded : (T : ℕ) → Recorded s l (counting (settled s (clockStaged s t T))) (bookAll s l (completions s (clockStaged s t T) ++ (clockStep T ∷ [])))
+  clock-recorded : (T : ℕ) → Recorded s l (counting (settled s (clockStaged s t T))) (bookAll s l (clockEvents s t T))
   unfolding bookAll book
   clock-recorded T =
       let g = clockStaged s t T in
       let q = settle s rs t g l (clock-on s t T k) h in
-      rw (book-append s l (completions s g) (clockStep T ∷ []))
+      rw book-append
       (record { booked = q .booked; reports = completions-counted s l (settlingOf s g) ∙ omega (arith, q .counts, reported-completed (settled s g .count)) })
 
   write-recorded : (o y : ℕ) → o < s .objects → standingAt t o ≡ false
-      → Recorded s l (counting (settled s (writeStaged s t o y))) (bookAll s l (acceptance o y (latestEnd s t o) ∷ completions s (writeStaged s t o y)))
+      → Recorded s l (counting (settled s (writeStaged s t o y))) (bookAll s l (writeEvents s t o y))
   unfolding bookAll
   write-recorded o y p v =
       let g = writeStaged s t o y in

@@ -11,6 +11,7 @@ use borrow.Author.Tests.{eqb-true, eq-eqb}
 use Rattle.laws.specs.Choice.{not-both, or-false}
 use Rattle.laws.specs.Count.{count-same}
 use Rattle.protocol.specs.declared.setup.Setup.{Setup}
+use Rattle.protocol.specs.Leases.{endOver, not-over}
 use Rattle.protocol.specs.Ledger.{Event, acceptance, completion, serverRestart, showing, clockStep, Open, none, write, isOpen, openOr, Ledger, emptyLedger, openCount, book, bookAll}
 use Rattle.protocol.specs.Bookkeeping.Settled.{OpenEach}
 use Rattle.protocol.specs.History.{told, lastAccepted, lastCompleted, openIn, stillOpen, cutOffs, howOften, isAcceptance, isCompletion, isCompletionOf, isCutOff, ShowsLast, EndsInTime}
@@ -21,7 +22,7 @@ Lawful s past (acceptance o v u) = (o < s .objects) × (openIn o past ≡ none)
 Lawful s past (completion o) = isOpen (openIn o past) ≡ true
 Lawful s past serverRestart = Unit {0}
 Lawful s past (showing d o v) = v ≡ lastCompleted o past
-Lawful s past (clockStep T) = (o v u : ℕ) → o < s .objects → openIn o past ≡ write v u → T ≤ u
+Lawful s past (clockStep T) = (o v u : ℕ) → o < s .objects → openIn o past ≡ write v u → endOver T u ≡ false
 
 unfoldable pub LawfulAll : Setup → List Event → Type 0
 LawfulAll s [] = Unit {0}
@@ -76,7 +77,7 @@ ends-in-time s h a later between older T o v u q p f = go (howOften (isCompletio
     go : (n : ℕ) → howOften (isCompletionOf o) between ≡ n → 1 ≤ n
     go zero i =
         let first = lawful-at s between (acceptance o v u) older (at .1) in
-        let below = at .0 o v u (first .0 .0) (stays-open s o v u between older (at .1) i f) in
+        let below = not-over T u (at .0 o v u (first .0 .0) (stays-open s o v u between older (at .1) i f)) in
         absurd (omega arith)
     go (suc n) i = omega arith
 

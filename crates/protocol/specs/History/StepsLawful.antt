@@ -20,7 +20,7 @@ use Rattle.protocol.specs.Writes.{latestEnd, begun, settled, writeStaged
 use Rattle.protocol.specs.Client.{showable}
 use Rattle.protocol.specs.Answers.{reported}
 use Rattle.protocol.specs.World.{World, freshWorld, stepped, answerOf, ran, answers}
-use Rattle.protocol.specs.Ledger.{Event, acceptance, clockStep, settlingOf, completions, deliveryStaged, readEvents, happening, accepts, events, none, Ledger}
+use Rattle.protocol.specs.Ledger.{Event, acceptance, clockStep, settlingOf, completions, deliveryStaged, readEvents, clockEvents, writeEvents, happening, accepts, events, none, Ledger}
 use Rattle.protocol.specs.Agreement.{standingWrite}
 use Rattle.protocol.specs.Soundness.StepCases.{accepted, setup-in-range, copyOf, requestOf, by-kind, client-exists, object-exists, place-exists, queue-fits, none-stands}
 use Rattle.protocol.specs.Soundness.Shape.{Shape}
@@ -33,12 +33,12 @@ use Rattle.protocol.specs.Bookkeeping.StepsBooked.{clock-on, write-on, d
 use Rattle.protocol.specs.Bookkeeping.Shown.{copy-read}
 use Rattle.protocol.specs.Bookkeeping.Agreed.{Invariant, ReadsCurrent, open-stands, step-booked}
 use Rattle.protocol.specs.History.{told, historyFrom, history, lastCompleted, openIn, howOften, isCompletion, reportedIn, AddsUp, HistoryAgrees}
-use Rattle.protocol.specs.History.Showings.{showings-told}
+use Rattle.protocol.specs.History.Answered.{answers-told}
 use Rattle.protocol.specs.History.Lawful.{LawfulAll, ledgerOf, ledger-told, told-append, ledger-open, ledger-posted, ledger-tallies, open-counted, completions-lawful, shows-last, ends-in-time}
 use Rattle.protocol.specs.Ranges.{Ranges, ranges}
 
 module _ (s : Setup) (rs : Ranges s) (t : Tables) (k : Shape t) (b : Bounded s t) (past : List Event) (h : Booked s t (ledgerOf s past)) (a : LawfulAll s past) where
-  clock-lawful : (T : ℕ) → LawfulAll s (told (completions s (clockStaged s t T) ++ (clockStep T ∷ [])) past)
+  clock-lawful : (T : ℕ) → LawfulAll s (told (clockEvents s t T) past)
   unfolding LawfulAll told
   clock-lawful T =
       let g = clockStaged s t T in
@@ -49,12 +49,12 @@ module _ (s : Setup) (rs : Ranges s) (t : Tables) (k : Shape t) (b : Bounded s t
             let left = settled s g .tables in
             let j = open-stands (standingAt left o) (pendingAt left o) (endAt left o) y u
             (q .booked .writes o p ∙ ap (λ (l : Ledger). l .openWrite o) (ledger-told s (completions s g) past) ∙ ledger-open s after o ∙ i) in
-            omega (arith, clock-ended s T t .ends o p (j .0), j .1),
+            rw (j .1) at (clock-ended s T t .ends o p (j .0)),
         completions-lawful s (settlingOf s g) past (q .opens) a,
       )
 
   write-lawful : (o y : ℕ) → o < s .objects → standingAt t o ≡ false
-      → LawfulAll s (told (acceptance o y (latestEnd s t o) ∷ completions s (writeStaged s t o y)) past)
+      → LawfulAll s (told (writeEvents s t o y) past)
   unfolding LawfulAll told ledgerOf
   write-lawful o y p f =
       let g = writeStaged s t o y in
@@ -162,7 +162,7 @@ history-agrees s P v i xs =
     let w = ran s (freshWorld s) xs in
     let h = history s xs in
     record {
-      showings = showings-told s xs;
+      answered = answers-told s xs;
       shows = shows-last s h (r .lawful);
       ends = ends-in-time s h (r .lawful);
       tallies = adds-up s w h r;
