@@ -1,13 +1,15 @@
 -- What each way through a function found, put together.
 use Prim.Native.Nat.{ℕ}
+use mathlib.Core.Bool.{Bool}
 use mathlib.Core.Path.{_≡_}
 use borrow.Author.Tests.{ne-eqb}
+use Rattle.protocol.specs.declared.message.Message.{Message}
 use Rattle.protocol.specs.declared.message.Kind.{Kind}
 use Rattle.protocol.specs.declared.message.Kind.the-variants.{Renew, Grant, Invalidate, Ack, Offer, Dropped}
 use Rattle.protocol.specs.declared.message.Payload.{Payload}
 use Rattle.protocol.specs.declared.message.Payload.the-variants.{Same, Value}
 use Rattle.fields.specs.declared.Fields.{Fields}
-use Rattle.fields.specs.Fields.{row, kindFields, payloadIn, kindIn}
+use Rattle.fields.specs.Fields.{row, kindFields, fieldsOf, payloadIn, kindIn, messageIn, same, sound}
 
 module _ (d : ℕ) (k : Kind) (r : Fields) where
   pub by-renew : (o n e w : ℕ) → k ≡ Renew o n e w → r ≡ row 1 d o 0 n 0 e w 0 0 → r ≡ kindFields d k
@@ -77,3 +79,7 @@ module _ (f : Fields) where
       → Renew (f .object) (f .number) (f .epoch) (f .version) ≡ kindIn f
   unfolding kindIn
   kind-else a b c d e = rw (ne-eqb _ _ a, ne-eqb _ _ b, ne-eqb _ _ c, ne-eqb _ _ d, ne-eqb _ _ e)
+
+-- the test of fields, made of its parts
+pub right-is : (f : Fields) (m : Message) (g : Fields) (r : Bool) → m ≡ messageIn f → g ≡ fieldsOf m → r ≡ same g f → r ≡ sound f
+right-is f m g r h i j = rw (j, i, h)

@@ -1,7 +1,7 @@
 -- A message's fields are those of no other message.
 use Prim.Native.Nat.{ℕ}
 use mathlib.Core.Bool.{true}
-use mathlib.Core.Path.{_≡_, refl}
+use mathlib.Core.Path.{_≡_, refl, ap, _∙_}
 use borrow.Author.Tests.{eq-eqb, eqb-true}
 use Rattle.laws.specs.Choice.{and-true}
 use Rattle.protocol.specs.declared.message.Message.{Message}
@@ -9,7 +9,7 @@ use Rattle.protocol.specs.declared.message.Kind.{Kind}
 use Rattle.protocol.specs.declared.message.Kind.the-variants.{Renew, Grant, Invalidate, Ack, Offer, Dropped}
 use Rattle.protocol.specs.declared.message.Payload.the-variants.{Same, Value}
 use Rattle.fields.specs.declared.Fields.{Fields}
-use Rattle.fields.specs.Fields.{row, kindFields, fieldsOf, kindIn, messageIn, same}
+use Rattle.fields.specs.Fields.{row, kindFields, fieldsOf, kindIn, messageIn, same, sound}
 
 kind-back : (d : ℕ) (k : Kind) → kindIn (kindFields d k) ≡ k
 unfolding kindFields kindIn
@@ -38,6 +38,10 @@ pub same-self : (f : Fields) → same f f ≡ true
 unfolding same
 same-self f =
     rw (eq-eqb (f .kind) _ refl, eq-eqb (f .client) _ refl, eq-eqb (f .object) _ refl, eq-eqb (f .present) _ refl, eq-eqb (f .number) _ refl, eq-eqb (f .«volume_expiry») _ refl, eq-eqb (f .epoch) _ refl, eq-eqb (f .version) _ refl, eq-eqb (f .«object_expiry») _ refl, eq-eqb (f .value) _ refl)
+
+-- so a message's fields are right
+pub message-sound : (m : Message) → sound (fieldsOf m) ≡ true
+message-sound m = ap (λ (n : Message). same (fieldsOf n) (fieldsOf m)) (message-back m) ∙ same-self (fieldsOf m)
 
 -- fields that pass the test of sameness are the same
 pub same-true : (f g : Fields) → same f g ≡ true → f ≡ g

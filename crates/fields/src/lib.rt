@@ -1,7 +1,7 @@
 // A message's fields as numbers, by its kind, and the message that they are.
 ghost use mathlib.Core.Path.{_≡_};
 ghost use Rattle.protocol.specs.declared.message.Kind.the-variants.{Grant};
-ghost use Rattle.fields.specs.Fields.{row, kindFields, fieldsOf, payloadIn, kindIn, messageIn, same};
+ghost use Rattle.fields.specs.Fields.{row, kindFields, fieldsOf, payloadIn, kindIn, messageIn, same, sound};
 use protocol::message::Kind;
 use protocol::message::Message;
 use protocol::message::Payload;
@@ -199,7 +199,7 @@ pub fn message_in(f: Fields) -> Message
     }
 }
 
-pub fn same(a: Fields, b: Fields) -> bool
+fn same(a: Fields, b: Fields) -> bool
     ensures { λ r. ⌜ r ≡ same a b ⌝ }
 {
     let head = (a.kind == b.kind)
@@ -211,4 +211,11 @@ pub fn same(a: Fields, b: Fields) -> bool
         & (a.volume_expiry == b.volume_expiry)
         & (a.epoch == b.epoch);
     times & (a.version == b.version) & (a.object_expiry == b.object_expiry) & (a.value == b.value)
+}
+
+// Whether these are the fields of a message: of the one that they would be. That covers the kind, the mark of a value and the fields that the kind lacks.
+pub fn sound(f: Fields) -> bool
+    ensures { λ r. ⌜ r ≡ sound f ⌝ }
+{
+    same(fields_of(message_in(f)), f)
 }

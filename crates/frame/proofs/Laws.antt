@@ -2,13 +2,13 @@
 use Prim.Native.Nat.{ℕ, _≤_, _<_}
 use mathlib.Core.Bool.{Bool, true, false}
 use mathlib.Core.List.{List}
-use mathlib.Core.Path.{_≡_, refl, sym, ap, _∙_}
+use mathlib.Core.Path.{_≡_, refl, _∙_}
 use lib.ListN.{length}
 use lib.Seq.{sets-eq}
 use borrow.Author.Tests.{eq-eqb, ne-eqb, le-leb, lt-leb}
 use Rattle.protocol.specs.declared.message.Message.{Message}
 use Rattle.fields.specs.declared.Fields.{Fields}
-use Rattle.fields.specs.Fields.{fieldsOf, messageIn, same, sound}
+use Rattle.fields.specs.Fields.{fieldsOf, messageIn, sound}
 use Rattle.frame_places.specs.Places.{numbers, laid, fieldsIn}
 use Rattle.frame.specs.declared.Decoded.{Decoded}
 use Rattle.frame.specs.declared.Decoded.the-variants as decoded
@@ -16,17 +16,14 @@ use Rattle.frame.specs.declared.Encoded.the-variants as encoded
 use Rattle.layout.specs.Number.{bytesOf, Stored}
 use Rattle.frame.specs.Frame.{accepted, isFrame, messageOf, framed, decodedNumber, refusal, Decodes, Encodes}
 
-module _ (f : Fields) (m : Message) (g : Fields) (r : Bool) (h : m ≡ messageIn f) (i : g ≡ fieldsOf m) (j : r ≡ same g f) where
-  agreed : same (fieldsOf (messageIn f)) f ≡ r
-  agreed = ap (λ (x : Message). same (fieldsOf x) f) (sym h) ∙ (ap (λ (x : Fields). same x f) (sym i) ∙ sym j)
-
-  pub accept-yes : r ≡ true → decoded.Accepted m ≡ accepted f
+module _ (f : Fields) (r : Bool) (j : r ≡ sound f) where
+  pub accept-yes : (m : Message) → r ≡ true → m ≡ messageIn f → decoded.Accepted m ≡ accepted f
   unfolding accepted
-  accept-yes e = rw (agreed, e) (ap decoded.Accepted h)
+  accept-yes m e h = rw (← j, e, h)
 
   pub accept-no : r ≡ false → decoded.Refused ≡ accepted f
   unfolding accepted
-  accept-no e = rw (agreed, e)
+  accept-no e = rw (← j, e)
 
 module _ (l : List ℕ) where
   number-yes : (f : Fields) (b : Bool) → sound f ≡ b → decodedNumber (accepted f) ≡ refusal b

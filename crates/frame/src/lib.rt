@@ -16,13 +16,11 @@ pub enum Encoded {
     Refused,
 }
 
-// A frame is right where it is the one of the message that it holds: so no field that the kind lacks, no kind and no mark of a value is left unasked.
 fn accept(f: Fields) -> Decoded
     ensures { λ r. ⌜ r ≡ accepted f ⌝ }
 {
-    let message = fields::message_in(f);
-    if fields::same(fields::fields_of(message), f) {
-        return Decoded::Accepted(message);
+    if fields::sound(f) {
+        return Decoded::Accepted(fields::message_in(f));
     }
     Decoded::Refused
 }

@@ -17,14 +17,14 @@ use Rattle.frame.specs.Frame.{framed, decodedNumber, encodedNumber, Decodes, En
 use Rattle.numbers.specs.Numbers.{numbersOf}
 use Rattle.frame_numbers.specs.Calls.{EncodesFields, DecodesFields}
 
-module _ (f h g : Fields) (m : Message) (b : Bool) (eh : h ≡ f) (em : m ≡ messageIn h) (eg : g ≡ fieldsOf m) (eb : b ≡ same g h) where
+module _ (f h : Fields) (b : Bool) (eh : h ≡ f) (eb : b ≡ sound h) where
   right : sound f ≡ b
-  right = rw (eb, eg, em, eh)
+  right = rw (eb, eh)
 
   pub encode-wrong : (before : List ℕ) → b ≡ false → EncodesFields f before before 8
   encode-wrong before n = record { number = rw (right, n); bytes = rw (right, n) }
 
-  module _ (before after : List ℕ) (r : Encoded) (y : b ≡ true) (w : Encodes m before after r) where
+  module _ (m : Message) (before after : List ℕ) (r : Encoded) (y : b ≡ true) (em : m ≡ messageIn h) (w : Encodes m before after r) where
     in-place : after ≡ cond (sound f) (framed (messageIn f) before) before
     in-place = rw (right, y, ← eh, ← em) (w .bytes)
 

@@ -9,9 +9,8 @@ pub fn encode(head: &[u8; 4], numbers: &[u32; 5], value: u64, out: &mut [u8]) ->
     ensures { λ r. ⌜ EncodesFields (fieldsFrom (now (head .entry)) (now (numbers .entry)) value) (now (out .entry)) (now (out .exit)) r ⌝ }
 {
     let f = numbers::fields_from(head, numbers, value);
-    let m = fields::message_in(f);
-    if fields::same(fields::fields_of(m), f) {
-        return match frame::encode(m, out) {
+    if fields::sound(f) {
+        return match frame::encode(fields::message_in(f), out) {
             Encoded::Written => 0,
             Encoded::Refused => 8,
         };

@@ -1,5 +1,10 @@
 ghost use mathlib.Core.Path.{_≡_};
-ghost use Rattle.protocol.specs.Messages.{blank, messageAt};
+ghost use Prim.Native.Nat.{_<_};
+ghost use Rattle.laws.specs.Parts.{parts};
+ghost use Rattle.protocol.specs.declared.message.Kind.the-variants.{Renew};
+ghost use Rattle.protocol.specs.Messages.{blank, message, messageAt};
+ghost use Rattle.words.specs.Fields.{wordLengths, valueLengths, MESSAGES, MESSAGE-VALUE};
+ghost use Rattle.words.specs.Rows.{stray, messageOf};
 ghost use Rattle.words.specs.View.{tablesOf};
 use protocol::message::Kind;
 use protocol::message::Message;
@@ -7,12 +12,11 @@ use words::Values;
 use words::Words;
 use words::network;
 
-// What an unused place holds.
-fn blank() -> Message
-    ensures { λ r. ⌜ r ≡ blank ⌝ }
+fn empty_renewal(client: u8) -> Message
+    ensures { λ r. ⌜ r ≡ message client (Renew 0 0 0 0) ⌝ }
 {
     Message {
-        client: 0,
+        client,
         kind: Kind::Renew {
             object: 0,
             number: 0,
@@ -20,6 +24,32 @@ fn blank() -> Message
             version: 0,
         },
     }
+}
+
+// What an unused place holds.
+fn blank() -> Message
+    ensures { λ r. ⌜ r ≡ blank ⌝ }
+{
+    empty_renewal(0)
+}
+
+// What a row that is no message reads as: no setup has this client.
+fn stray() -> Message
+    ensures { λ r. ⌜ r ≡ stray ⌝ }
+{
+    empty_renewal(255)
+}
+
+// The message in a row.
+fn message_of(words: &Words, values: &Values, place: usize) -> Message
+    requires { ⌜ place < 64 ⌝ }
+    ensures { λ r. ⌜ r ≡ messageOf (parts wordLengths (now (words .entry)) MESSAGES) (parts valueLengths (now (values .entry)) MESSAGE-VALUE) place ⌝ }
+{
+    let found = row::load(words, values, place);
+    if row::narrow(words, place) & fields::sound(found) {
+        return fields::message_in(found);
+    }
+    stray()
 }
 
 // The message at a place; past the last there is a blank one.
@@ -32,5 +62,5 @@ pub fn message_at(words: &Words, values: &Values, place: usize) -> Message
     if words[network::LENGTH] <= place as u32 {
         return blank();
     }
-    fields::message_in(row::load(words, values, place))
+    message_of(words, values, place)
 }

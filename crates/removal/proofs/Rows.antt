@@ -14,9 +14,8 @@ use Rattle.laws.specs.Shift.{shifted, shifted-before, shifted-in}
 use Rattle.laws.specs.Tabulate.{tabulate, tabulate-remove}
 use Rattle.protocol.specs.declared.message.Message.{Message}
 use Rattle.protocol.specs.Messages.{blank}
-use Rattle.fields.specs.Fields.{messageIn}
 use Rattle.words.specs.Rows.{messageFrom}
-use Rattle.row.proofs.Places.{row-same, at-in, at-past}
+use Rattle.row.proofs.Places.{message-same, at-in, at-past}
 
 -- a row taken out of the first n
 module _ (n : ℕ) (l v : List ℕ) (i : ℕ) (h : i < n) (g : n ≤ 64) (a : length l ≡ 576) (b : length v ≡ 64) where
@@ -32,16 +31,16 @@ module _ (n : ℕ) (l v : List ℕ) (i : ℕ) (h : i < n) (g : n ≤ 64) (a : le
   below : (j : ℕ) → j < i → messageFrom (n - 1) rows-left values-left j ≡ messageFrom n l v j
   below j p =
       at-in (n - 1) rows-left values-left j (omega arith)
-      ∙ ap messageIn (row-same _ _ _ _ j j (λ k c. shifted-before (i * 9) ((n - (i + 1)) * 9) 9 l (j * 9 + k) (omega arith)) (shifted-before i (n - (i + 1)) 1 v j p))
+      ∙ message-same _ _ _ _ j j (λ k c. shifted-before (i * 9) ((n - (i + 1)) * 9) 9 l (j * 9 + k) (omega arith)) (shifted-before i (n - (i + 1)) 1 v j p)
       ∙ sym (at-in n l v j (omega arith))
 
   above : (j : ℕ) → i ≤ j → (ltb j (n - 1) ≡ true) ⊎ (ltb j (n - 1) ≡ false) → messageFrom (n - 1) rows-left values-left j ≡ messageFrom n l v (j + 1)
   above j p (inl t) =
       let u = ltb-true j (n - 1) t in
       at-in (n - 1) rows-left values-left j u
-      ∙ ap messageIn (row-same _ _ _ _ j (j + 1)
+      ∙ message-same _ _ _ _ j (j + 1)
       (λ k c. shifted-in (i * 9) ((n - (i + 1)) * 9) 9 l (j * 9 + k) (omega arith) (omega arith) (omega arith) ∙ ap (λ (q : ℕ). getD l q 0) (next j k))
-      (shifted-in i (n - (i + 1)) 1 v j p (omega arith) (omega arith)))
+      (shifted-in i (n - (i + 1)) 1 v j p (omega arith) (omega arith))
       ∙ sym (at-in n l v (j + 1) (omega arith))
   above j p (inr t) =
       let u = ltb-false j (n - 1) t in

@@ -5,7 +5,7 @@ ghost use lib.ListN.{getD};
 ghost use Rattle.laws.specs.Parts.{parts};
 ghost use Rattle.laws.specs.Store.{storeEach, always};
 ghost use Rattle.words.specs.Fields.{wordLengths, valueLengths, at, MESSAGES, MESSAGE-VALUE};
-ghost use Rattle.words.specs.Rows.{wordsOf, Narrow, fieldsAt};
+ghost use Rattle.words.specs.Rows.{wordsOf, Narrow, fieldsAt, narrowAt};
 use fields::Fields;
 use words::Values;
 use words::Words;
@@ -54,6 +54,16 @@ fn word(words: &Words, place: usize, k: usize) -> u32
     words[network::MESSAGES + (place * 9 + k)]
 }
 
+// Whether the first four words of a row are bytes.
+pub fn narrow(words: &Words, place: usize) -> bool
+    requires { ⌜ place < 64 ⌝ }
+    ensures { λ r. ⌜ r ≡ narrowAt (parts wordLengths (now (words .entry)) MESSAGES) place ⌝ }
+{
+    let head = (word(words, place, 0) < 256) & (word(words, place, 1) < 256);
+    head & (word(words, place, 2) < 256) & (word(words, place, 3) < 256)
+}
+
+// The fields in a row: of the first four words the lowest byte.
 pub fn load(words: &Words, values: &Values, place: usize) -> Fields
     requires { ⌜ place < 64 ⌝ }
     ensures { λ r. ⌜ r ≡ fieldsAt (parts wordLengths (now (words .entry)) MESSAGES) (parts valueLengths (now (values .entry)) MESSAGE-VALUE) place ⌝ }

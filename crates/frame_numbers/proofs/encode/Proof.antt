@@ -6,14 +6,11 @@ use Rattle.frame_numbers.proofs.encode.Tie as tie
 fields-from-requires : tie.Need-fields-from-requires
 fields-from-requires c κs = search needs
 
+sound-requires : tie.Need-sound-requires
+sound-requires c κs = search needs
+
 message-in-requires : tie.Need-message-in-requires
 message-in-requires c κs = search needs
-
-fields-of-requires : tie.Need-fields-of-requires
-fields-of-requires c κs = search needs
-
-same-requires : tie.Need-same-requires
-same-requires c κs = search needs
 
 encode-requires : tie.Need-encode-requires
 encode-requires c κs = search needs
@@ -44,9 +41,8 @@ encode-spec =
     tie.close
     (tie.spec
     fields-from-requires
+    sound-requires
     message-in-requires
-    fields-of-requires
-    same-requires
     encode-requires
     enum-told
     enum-told-2

@@ -21,11 +21,8 @@ blank-requires-2 c κs = search needs
 returns-2 : tie.Need-returns-2
 returns-2 c = search past-last
 
-load-requires : tie.Need-load-requires
-load-requires c κs = search needs
-
-message-in-requires : tie.Need-message-in-requires
-message-in-requires c κs = search needs
+message-of-requires : tie.Need-message-of-requires
+message-of-requires c κs = search needs
 
 returns-3 : tie.Need-returns-3
 returns-3 c = search at-place
@@ -40,6 +37,5 @@ message-at-spec =
     cast-if2
     blank-requires-2
     returns-2
-    load-requires
-    message-in-requires
+    message-of-requires
     returns-3)
