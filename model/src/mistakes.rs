@@ -218,4 +218,47 @@ mistakes! {
     no_value_keeps_version,
     /// Keeps the known epoch.
     no_value_keeps_epoch,
+
+    // A row of the message list that is in use and is no message. Only tables
+    // that are handed over have one.
+    /// Reads one of kind 0 as a RENEW.
+    row_of_kind_0,
+    /// Reads one of a kind above 6 as a RENEW.
+    row_of_kind_above_6,
+    /// Reads the low byte of a row's kind alone.
+    row_kind_low_byte,
+    /// Reads the low byte of a row's client alone.
+    row_client_low_byte,
+    /// Reads the low byte of a row's object or volume alone.
+    row_object_low_byte,
+    /// Reads the low byte of a row's presence alone.
+    row_presence_low_byte,
+    /// Takes a GRANT's presence above 1 for a 1.
+    row_any_presence,
+    /// Lets a GRANT without a value carry one.
+    row_value_without_presence,
+    /// Lets a kind that has no presence carry one.
+    row_stray_presence,
+    /// The same of a number.
+    row_stray_number,
+    /// The same of a volume expiry.
+    row_stray_volume_expiry,
+    /// The same of a version.
+    row_stray_version,
+    /// The same of an object expiry.
+    row_stray_object_expiry,
+    /// The same of a value.
+    row_stray_value,
+    /// Does not ask about the first row.
+    rows_without_first,
+    /// Does not ask about the last row in use.
+    rows_without_last,
+    /// Asks about the row after the last one too.
+    rows_past_length,
+    /// Asks only about the row that a step delivers, loses or doubles.
+    rows_when_used,
+    /// Asks whether the kind of the step is known first.
+    rows_after_kind,
+    /// Answers 1 and makes the row a blank one.
+    row_blanked,
 }

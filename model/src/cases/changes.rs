@@ -1,6 +1,7 @@
 //! One change, by the number of its field. Places go as in the product's
 //! tables: client * 8 + volume, client * 32 + object.
 
+use crate::cases::rows::VALUE;
 use crate::cases::tables::CaseTables;
 use crate::requests::{Request, Standing};
 use crate::setup::Setup;
@@ -19,10 +20,8 @@ impl CaseTables {
             30 => self.tables.clients.epoch[place / 8][place % 8] = word(value),
             31 => self.tables.clients.expiry[place / 8][place % 8] = word(value),
             40 => self.tables.queue.len = value as usize,
-            41..=50 => {
-                self.rows[place].fields[field as usize - 41] = value;
-                self.tables.queue.places[place] = self.rows[place].message();
-            }
+            41..=49 => self.rows[place].fields[field as usize - 41] = word(value).into(),
+            50 => self.rows[place].fields[VALUE] = value,
             60 => self.copies[place].version = word(value),
             61 => self.copies[place].value = value,
             62 => self.copies[place].expiry = word(value),

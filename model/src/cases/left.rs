@@ -6,8 +6,7 @@ use std::fmt::Display;
 use crate::cases::rows::Row;
 use crate::cases::tables::CaseTables;
 use crate::limits::{CLIENTS, OBJECTS, QUEUE, VOLUMES};
-use crate::queue::Queue;
-use crate::tables::{ClientVolumes, Server, Tables};
+use crate::tables::{ClientVolumes, Server};
 
 /// What was before a step, and what after it.
 type Both<'a, T> = [&'a T; 2];
@@ -19,7 +18,8 @@ pub fn left(before: &CaseTables, after: &CaseTables) -> Vec<String> {
     by_volume(&mut lines, tables.map(|tables| &tables.server));
     by_object(&mut lines, tables.map(|tables| &tables.server));
     known(&mut lines, tables.map(|tables| &tables.clients));
-    messages(&mut lines, tables);
+    one(&mut lines, tables, "messages", |tables| tables.queue.len);
+    each(&mut lines, [before, after], "message", QUEUE, shown);
     records(&mut lines, [before, after]);
     lines
 }
@@ -58,15 +58,10 @@ fn known(lines: &mut Vec<String>, both: Both<ClientVolumes>) {
     by_client(lines, both, "known expiry", VOLUMES, |clients, client, volume| clients.expiry[client][volume]);
 }
 
-fn messages(lines: &mut Vec<String>, both: Both<Tables>) {
-    one(lines, both, "messages", |tables| tables.queue.len);
-    each(lines, both, "message", QUEUE, |tables, place| shown(&tables.queue, place));
-}
-
 /// A place past the list's length is blank, whatever it holds.
-fn shown(queue: &Queue, place: usize) -> Row {
-    if place < queue.len {
-        Row::of(&queue.places[place])
+fn shown(case: &CaseTables, place: usize) -> Row {
+    if place < case.tables.queue.len {
+        case.rows[place]
     } else {
         Row::BLANK
     }

@@ -5,7 +5,9 @@
 mod changes;
 mod free;
 mod left;
+mod list;
 mod numbers;
+mod row_messages;
 mod rows;
 mod tables;
 

@@ -1,16 +1,29 @@
-//! A message as a row of ten numbers, in the frame's order.
+//! A row of the message list: ten numbers in the frame's order, nine words and
+//! a value.
 
 use std::fmt::{Display, Formatter, Result};
 
 use crate::message::{Grant, Kind, Message};
 
+/// Where a field stands in a row.
+pub const PRESENT: usize = 3;
+pub const NUMBER: usize = 4;
+pub const VOLUME_EXPIRY: usize = 5;
+pub const VERSION: usize = 7;
+pub const OBJECT_EXPIRY: usize = 8;
+pub const VALUE: usize = 9;
+
+/// Any numbers: a row in use may be no message.
 #[derive(Clone, Copy, Debug, PartialEq, Eq)]
 pub struct Row {
     pub fields: [u64; 10],
 }
 
 impl Row {
-    /// What every place of the list holds at first: a RENEW of zeros.
+    /// What a place holds at first, which is no message.
+    pub const FRESH: Row = Row { fields: [0; 10] };
+
+    /// What a place past the list's length shows: a RENEW of zeros.
     pub const BLANK: Row = Row { fields: [1, 0, 0, 0, 0, 0, 0, 0, 0, 0] };
 
     pub fn of(message: &Message) -> Row {
@@ -54,32 +67,6 @@ impl Row {
                 value,
             ],
         }
-    }
-
-    pub fn message(&self) -> Message {
-        let [kind, client, item, present, number, volume_expiry, epoch, version, object_expiry, value] =
-            self.fields;
-        let item = item as u8;
-        let [number, volume_expiry, epoch, version, object_expiry] =
-            [number, volume_expiry, epoch, version, object_expiry].map(|number| number as u32);
-        let kind = match kind {
-            1 => Kind::Renew { object: item, number, epoch, version },
-            2 => Kind::Grant(Grant {
-                object: item,
-                number,
-                volume_expiry,
-                epoch,
-                version,
-                object_expiry,
-                value: (present != 0).then_some(value),
-            }),
-            3 => Kind::Invalidate { object: item, epoch, version },
-            4 => Kind::Ack { object: item, epoch, version },
-            5 => Kind::Offer { volume: item, number, epoch },
-            6 => Kind::Dropped { volume: item, number, epoch },
-            _ => panic!("message kind {kind}"),
-        };
-        Message { client: client as u8, kind }
     }
 }
 

@@ -16,8 +16,8 @@ use crate::world::World;
 #[derive(Clone, Debug)]
 pub struct CaseTables {
     pub(super) setup: Setup,
+    /// Of the message list the length alone counts; its messages are the rows.
     pub(super) tables: Tables,
-    /// The list's messages, a place a row.
     pub(super) rows: [Row; QUEUE],
     pub(super) copies: Vec<ObjectCopy>,
     pub(super) requests: Vec<Request>,
@@ -40,12 +40,10 @@ impl CaseTables {
             timeout: 0,
             volume_of: [0; 32],
         };
-        let mut tables = Tables::fresh();
-        tables.queue.places = [Row::BLANK.message(); QUEUE];
         CaseTables {
             setup,
-            tables,
-            rows: [Row::BLANK; QUEUE],
+            tables: Tables::fresh(),
+            rows: [Row::FRESH; QUEUE],
             copies: NO_COPIES.to_vec(),
             requests: NO_REQUESTS.to_vec(),
             asked: [Standing { number: 0, object: 0 }; CLIENTS],
@@ -67,11 +65,18 @@ impl CaseTables {
         let answer = self.asked_and_taken(rules, record);
         if !matches!(answer, Answer::Refused(_)) {
             settle(&before, self, record);
+            self.keep_list();
+        } else if rules.mistakes().row_blanked {
+            self.blank_rows(rules.mistakes());
         }
         answer
     }
 
     fn asked_and_taken(&mut self, rules: impl Rules, record: &Step) -> Answer {
+        match self.list(rules.mistakes(), record) {
+            Ok(queue) => self.tables.queue = queue,
+            Err(number) => return Answer::Refused(number),
+        }
         let copies = self.copies_lent.min(self.copies.len());
         let requests = self.requests_lent.min(self.requests.len());
         let (setup, tables) = (&self.setup, &mut self.tables);
