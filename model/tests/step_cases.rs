@@ -25,3 +25,31 @@ fn every_mistake_changes_the_lines() {
     let missed: Vec<_> = missed.map(|(name, _)| name).collect();
     assert!(missed.is_empty(), "not found: {missed:?}");
 }
+
+/// A row in use that is no message, at the first, the last and other places.
+fn has_wrong_row(case: u32) -> bool {
+    (1501..=1536).contains(&case) || (1601..=1653).contains(&case)
+}
+
+/// Such a row past the list's length.
+fn has_wrong_free_row(case: u32) -> bool {
+    (1541..=1556).contains(&case) || (1654..=1657).contains(&case)
+}
+
+#[test]
+fn a_row_that_is_no_message_is_unsound_where_it_is_in_use() {
+    let (mut case, mut refused, mut free) = (0, 0, 0);
+    for line in stored("stdout").lines() {
+        case = line.split(' ').next().and_then(|word| word.parse().ok()).unwrap_or(case);
+        let unsound = format!("{case} 4 1");
+        if has_wrong_row(case) {
+            assert_eq!(line, unsound, "nothing else is answered, and nothing changed");
+            refused += 1;
+        }
+        if has_wrong_free_row(case) {
+            assert_ne!(line, unsound);
+            free += 1;
+        }
+    }
+    assert!(refused > 150 && free > 50, "{refused} {free}");
+}

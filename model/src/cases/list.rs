@@ -9,13 +9,13 @@ use crate::mistakes::Mistakes;
 use crate::queue::Queue;
 use crate::step_record::{Step, CLOCK, DELIVER, DOUBLE, LOSE, RESTART_CLIENT};
 
-/// What a row that is no message reads as where a mistake lets it pass.
+/// Stands for a row that is no message where a mistake lets it pass.
 const SOME_RENEW: Message =
     Message { client: 0, kind: Kind::Renew { object: 0, number: 0, epoch: 0, version: 0 } };
 
 impl CaseTables {
-    /// The list that the rows are, or the refusal where one in use is no
-    /// message. That is part of question 1, so it comes before all others.
+    /// Reads the rows as messages. Gives the refusal where one in use is no
+    /// message: that is part of question 1, so it comes before all others.
     pub(super) fn list(&self, mistakes: Mistakes, step: &Step) -> Result<Queue, u8> {
         let len = self.tables.queue.len;
         let mut places = [SOME_RENEW; QUEUE];
@@ -29,21 +29,22 @@ impl CaseTables {
         Ok(Queue { len, places })
     }
 
-    /// What an accepted step left of the list, as rows.
+    /// Stores the list that an accepted step left as rows.
     pub(super) fn keep_list(&mut self) {
         for (row, message) in self.rows.iter_mut().zip(self.tables.queue.messages()) {
             *row = Row::of(message);
         }
     }
 
-    /// For a mistake only: a refused step leaves every row as it was.
+    /// Clears the rows that are no message, for a mistake only: a refused step
+    /// leaves every row as it was.
     pub(super) fn blank_rows(&mut self, mistakes: Mistakes) {
         let wrong = self.rows.iter_mut().filter(|row| row.message(mistakes).is_none());
         wrong.for_each(|row| *row = Row::BLANK);
     }
 }
 
-/// Every row in use is asked about, whatever the step does.
+/// Tells whether a row is asked about: every one in use is, whatever the step.
 fn asked(mistakes: Mistakes, len: usize, place: usize, step: &Step) -> bool {
     let used = [DELIVER, LOSE, DOUBLE].contains(&step.kind) && usize::from(step.place) == place;
     let passed = mistakes.rows_without_first && place == 0
@@ -52,6 +53,7 @@ fn asked(mistakes: Mistakes, len: usize, place: usize, step: &Step) -> bool {
     place < len && !passed || mistakes.rows_past_length && place == len
 }
 
+/// Gives the number for a row that is no message.
 fn refusal(mistakes: Mistakes, step: &Step) -> u8 {
     let known = (CLOCK..=RESTART_CLIENT).contains(&step.kind);
     if mistakes.rows_after_kind && !known {

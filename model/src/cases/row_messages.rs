@@ -7,27 +7,32 @@ use crate::mistakes::Mistakes;
 
 const RENEW: u64 = 1;
 const GRANT: u64 = 2;
+const INVALIDATE: u64 = 3;
+const ACK: u64 = 4;
+const OFFER: u64 = 5;
+const DROPPED: u64 = 6;
 
 /// The fields that not every kind has, and the kinds that have them
 /// (01, Frame, run file and listing).
 const FIELDS_OF_SOME: [(usize, &[u64]); 6] = [
     (PRESENT, &[GRANT]),
-    (NUMBER, &[RENEW, GRANT, 5, 6]),
+    (NUMBER, &[RENEW, GRANT, OFFER, DROPPED]),
     (VOLUME_EXPIRY, &[GRANT]),
-    (VERSION, &[RENEW, GRANT, 3, 4]),
+    (VERSION, &[RENEW, GRANT, INVALIDATE, ACK]),
     (OBJECT_EXPIRY, &[GRANT]),
     (VALUE, &[GRANT]),
 ];
 
 impl Row {
-    /// The message; none where a word is too large, the kind is unknown or the
-    /// fields are not right for it.
+    /// Reads the row as a message. Gives none where a word is too large, the
+    /// kind is unknown or the fields are not right for it.
     pub fn message(&self, mistakes: Mistakes) -> Option<Message> {
         let row = self.with_bytes(mistakes)?.of_known_kind(mistakes)?;
         (!row.has_stray(mistakes) && row.presence_right(mistakes)).then(|| row.read())
     }
 
-    /// The first four words are bytes in a frame, so above 255 they are none.
+    /// Refuses a word above 255 among the first four, which are bytes in a
+    /// frame.
     fn with_bytes(mut self, mistakes: Mistakes) -> Option<Row> {
         let cut = [
             mistakes.row_kind_low_byte,
@@ -44,10 +49,11 @@ impl Row {
         Some(self)
     }
 
+    /// Refuses a kind that is not 1 to 6.
     fn of_known_kind(mut self, mistakes: Mistakes) -> Option<Row> {
         let kind = &mut self.fields[0];
         match *kind {
-            1..=6 => (),
+            RENEW..=DROPPED => (),
             0 if mistakes.row_of_kind_0 => *kind = RENEW,
             7.. if mistakes.row_of_kind_above_6 => *kind = RENEW,
             _ => return None,
@@ -55,7 +61,7 @@ impl Row {
         Some(self)
     }
 
-    /// Whether a field that the kind lacks is not 0.
+    /// Tells whether a field that the kind lacks is not 0.
     fn has_stray(&self, mistakes: Mistakes) -> bool {
         let unasked = [
             mistakes.row_stray_presence,
@@ -70,7 +76,8 @@ impl Row {
         })
     }
 
-    /// Of a GRANT: value present is 0 or 1, and without a value it is 0.
+    /// Asks of a GRANT that its presence is 0 or 1, and that its value is 0
+    /// where it has none.
     fn presence_right(&self, mistakes: Mistakes) -> bool {
         self.fields[0] != GRANT
             || match self.fields[PRESENT] {
@@ -80,6 +87,7 @@ impl Row {
             }
     }
 
+    /// Reads the fields that the kind has.
     fn read(&self) -> Message {
         let [kind, client, item, present, number, volume_expiry, epoch, version, object_expiry, value] =
             self.fields;
@@ -87,8 +95,8 @@ impl Row {
         let [number, volume_expiry, epoch, version, object_expiry] =
             [number, volume_expiry, epoch, version, object_expiry].map(|number| number as u32);
         let kind = match kind {
-            1 => Kind::Renew { object: item, number, epoch, version },
-            2 => Kind::Grant(Grant {
+            RENEW => Kind::Renew { object: item, number, epoch, version },
+            GRANT => Kind::Grant(Grant {
                 object: item,
                 number,
                 volume_expiry,
@@ -97,10 +105,10 @@ impl Row {
                 object_expiry,
                 value: (present != 0).then_some(value),
             }),
-            3 => Kind::Invalidate { object: item, epoch, version },
-            4 => Kind::Ack { object: item, epoch, version },
-            5 => Kind::Offer { volume: item, number, epoch },
-            6 => Kind::Dropped { volume: item, number, epoch },
+            INVALIDATE => Kind::Invalidate { object: item, epoch, version },
+            ACK => Kind::Ack { object: item, epoch, version },
+            OFFER => Kind::Offer { volume: item, number, epoch },
+            DROPPED => Kind::Dropped { volume: item, number, epoch },
             _ => unreachable!("message kind {kind}"),
         };
         Message { client: client as u8, kind }
@@ -114,7 +122,7 @@ mod tests {
 
     const NUMBERS: [u64; 7] = [0, 1, 2, 255, 256, 257, u32::MAX as u64];
 
-    /// The row as a frame, where its first four words are bytes.
+    /// Writes the row as a frame, where its first four words are bytes.
     fn frame(row: &Row) -> Option<Vec<u8>> {
         let (head, words) = row.fields[..VALUE].split_at(4);
         let head = head.iter().map(|&word| word.try_into().ok()).collect::<Option<Vec<u8>>>()?;
@@ -122,7 +130,7 @@ mod tests {
         Some(head.into_iter().chain(words).chain(row.fields[VALUE].to_le_bytes()).collect())
     }
 
-    /// Rows of each kind, with one or two fields that are not 0.
+    /// Makes rows of each kind, with up to two fields that are not 0.
     fn rows() -> impl Iterator<Item = Row> {
         let fields = || (1..10).flat_map(|field| NUMBERS.map(|number| (field, number)));
         let pairs = move || fields().flat_map(move |first| fields().map(move |second| [first, second]));
