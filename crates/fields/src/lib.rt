@@ -199,7 +199,7 @@ pub fn message_in(f: Fields) -> Message
     }
 }
 
-fn same(a: Fields, b: Fields) -> bool
+pub fn same(a: Fields, b: Fields) -> bool
     ensures { λ r. ⌜ r ≡ same a b ⌝ }
 {
     let head = (a.kind == b.kind)
