@@ -38,5 +38,6 @@ module _ (p : ℕ) where
     setup-next : q ≡ p + 48
     setup-next = omega (arith, w .next, e)
 
-    pub setup-stored : (Written l r p (setupBytes s) q) × (q ≡ p + 48)
-    setup-stored = (record { next = rw (length-setup s (sym e)) setup-next; bytes = stored-then l m r p (p + 16) _ _ a (w .bytes) (rw (length-front s)) }, setup-next)
+    pub setup-stored : (Written l r p (setupBytes s) q) × ((q ≡ p + 48) × (length (s .volume) ≡ 32))
+    setup-stored =
+        (record { next = rw (length-setup s (sym e)) setup-next; bytes = stored-then l m r p (p + 16) _ _ a (w .bytes) (rw (length-front s)) }, (setup-next, sym e))

@@ -8,6 +8,7 @@ ghost use Rattle.protocol.specs.Setup.{inRange};
 ghost use Rattle.layout.specs.Number.{Stored};
 ghost use Rattle.output.specs.Written.{Written};
 ghost use Rattle.record_bytes.specs.Bytes.{setupFront, setupBytes, stepBytes, trailerBytes};
+ghost use Rattle.record_bytes.specs.Round.{Widths};
 use protocol::setup::Setup;
 use protocol::step::Step;
 
@@ -30,21 +31,24 @@ fn write_front(out: &mut [u8], at: usize, setup: Setup)
     layout::write_u32(out, at + 12, setup.m);
 }
 
-// The second clause is for callers, who do not see that a setup has 32 volume bytes.
+// The last two clauses are for callers, who do not see that a setup has 32 volume bytes.
 pub fn write_setup(out: &mut [u8], at: usize, setup: Setup) -> usize
     requires { ⌜ at + 48 ≤ length (now out) ⌝ }
     requires { ⌜ inRange setup ≡ true ⌝ }
     ensures written { λ r. ⌜ Written (now (out .entry)) (now (out .exit)) at (setupBytes setup) r ⌝ }
     ensures place { λ r. ⌜ r ≡ at + 48 ⌝ }
+    ensures volumes { λ _. ⌜ length (setup .volume) ≡ 32 ⌝ }
 {
     write_front(out, at, setup);
     let volume = setup.volume;
     output::write_bytes(out, at + 16, &volume)
 }
 
+// The second clause is for callers too: the numbers of a step have their width.
 pub fn write_step(out: &mut [u8], at: usize, step: Step) -> usize
     requires { ⌜ at + 16 ≤ length (now out) ⌝ }
-    ensures { λ r. ⌜ Written (now (out .entry)) (now (out .exit)) at (stepBytes step) r ⌝ }
+    ensures written { λ r. ⌜ Written (now (out .entry)) (now (out .exit)) at (stepBytes step) r ⌝ }
+    ensures widths { λ _. ⌜ Widths step ⌝ }
 {
     layout::write_four(out, at, step.kind, step.client, step.object, step.place);
     layout::write_u32(out, at + 4, step.clock);

@@ -6,6 +6,7 @@ use mathlib.Core.List.{List}
 use mathlib.Core.Path.{_≡_, refl, sym, ap, _∙_}
 use lib.ListN.{length}
 use borrow.Author.Tests.{le-leb, lt-leb}
+use Rattle.laws.specs.Lists.{All, all-snoc}
 use Rattle.laws.specs.Loop.{Scanning, all-by, all-end}
 use Rattle.laws.specs.Tabulate.{tabulate, length-tabulate}
 use Rattle.protocol.specs.declared.setup.Setup.{Setup}
@@ -16,9 +17,11 @@ use Rattle.output.specs.declared.Report.the-variants as report
 use Rattle.output.specs.Report.{Reports, all-written, none-written}
 use Rattle.output.specs.Written.{Written, written-then}
 use Rattle.record_bytes.specs.Bytes.{setupBytes, stepBytes, stepsBytes, trailerBytes, fileBytes, fileLength, steps-more, length-steps}
+use Rattle.record_bytes.specs.Round.{Widths}
 use Rattle.step_list.specs.declared.Steps.{Steps}
 use Rattle.step_list.specs.Held.{itemOf, firstOf, held, held-at, length-held, first-more, first-all}
 use Rattle.writer.specs.File.{fitsAt, allFit, sizesFit, fileFits, writeRefusal, fitting}
+use Rattle.writer.specs.ReadBack.{ReadAs, not-refused}
 
 -- ---- the steps asked about one after the other
 module _ (x : Steps) (k : ℕ) (ok : Bool) (a : Scanning (fitsAt (held x)) (x .len) ok k) where
@@ -33,6 +36,19 @@ module _ (x : Steps) (k : ℕ) (ok : Bool) (a : Scanning (fitsAt (held x)) (x .l
 pub steps-none : (x : Steps) (out : List ℕ) (at : ℕ) → Written out out at (stepsBytes (firstOf x 0)) at
 unfolding stepsBytes tabulate
 steps-none x out at = record { next = omega arith; bytes = record { stored = refl; long = refl } }
+
+-- each has numbers of their width
+pub widths-none : (x : Steps) → All Widths (firstOf x 0)
+unfolding All tabulate
+widths-none x = tt
+
+pub widths-again : (x : Steps) (k : ℕ) → All Widths (firstOf x k) → Widths (itemOf x k) → All Widths (firstOf x (k + 1))
+widths-again x k w v = rw (first-more x k) (all-snoc Widths (firstOf x k) (itemOf x k) w v)
+
+pub widths-end : (x : Steps) (k : ℕ) → k ≤ x .len → x .len ≤ k → All Widths (firstOf x k) → All Widths (held x)
+widths-end x k g h w =
+    let e : k ≡ x .len = omega arith in
+    rw (← first-all x, ← e) w
 
 module _ (x : Steps) (before out : List ℕ) (at place k : ℕ) (w : Written before out at (stepsBytes (firstOf x k)) place) where
   pub place-is : place ≡ at + 16 * k
@@ -108,8 +124,15 @@ module _ (note out : List ℕ) (s : Setup) (x : Steps) (r : Bool) (e : r ≡ inR
     unfolding writeRefusal
     not-fitting g = none-written _ _ out 10 (rw (← e, h, ← f, g)) refl
 
-    pub file-reported : t ≡ true → (after : List ℕ) (n : ℕ) → Written out after 0 (fileBytes note s (held x)) n → Does after (report.Written n)
-    unfolding writeRefusal
-    file-reported g after n w =
-        let i : n ≡ length (fileBytes note s (held x)) = omega (arith, w .next) in
-        rw i (all-written _ _ out after (rw (← e, h, ← f, g)) (w .bytes .stored))
+    module _ (g : t ≡ true) where
+      unrefused : writeRefusal (length note) s x (length out) ≡ 0
+      unfolding writeRefusal
+      unrefused = rw (← e, h, ← f, g)
+
+      pub file-reported : (after : List ℕ) (n : ℕ) → Written out after 0 (fileBytes note s (held x)) n → Does after (report.Written n)
+      file-reported after n w =
+          let i : n ≡ length (fileBytes note s (held x)) = omega (arith, w .next) in
+          rw i (all-written _ _ out after unrefused (w .bytes .stored))
+
+      pub file-read : length (s .volume) ≡ 32 → All Widths (held x) → ReadAs (fileBytes note s (held x)) note s (held x)
+      file-read v w = not-refused note s x (length out) v w unrefused

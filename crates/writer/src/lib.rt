@@ -4,11 +4,14 @@ ghost use mathlib.Core.Bool.{true};
 ghost use mathlib.Core.Path.{_≡_};
 ghost use lib.ListN.{length};
 ghost use Rattle.output.specs.Written.{Written};
-ghost use Rattle.output.specs.Report.{Reports};
+ghost use Rattle.laws.specs.Lists.{All};
+ghost use Rattle.output.specs.Report.{reportNumber, Reports};
 ghost use Rattle.protocol.specs.Setup.{inRange};
 ghost use Rattle.record_bytes.specs.Bytes.{stepsBytes, fileBytes};
+ghost use Rattle.record_bytes.specs.Round.{Widths};
 ghost use Rattle.step_list.specs.Held.{held};
 ghost use Rattle.writer.specs.File.{allFit, fileFits, writeRefusal};
+ghost use Rattle.writer.specs.ReadBack.{ReadAs};
 use output::Report;
 use protocol::setup::Setup;
 use step_list::Steps;
@@ -51,7 +54,8 @@ fn file_fits(note_len: usize, steps: Steps, room: usize) -> bool
 fn write_steps(out: &mut [u8], at: usize, steps: Steps) -> usize
     requires { ⌜ steps .len ≤ 4000 ⌝ }
     requires { ⌜ at + 16 * steps .len ≤ length (now out) ⌝ }
-    ensures { λ r. ⌜ Written (now (out .entry)) (now (out .exit)) at (stepsBytes (held steps)) r ⌝ }
+    ensures written { λ r. ⌜ Written (now (out .entry)) (now (out .exit)) at (stepsBytes (held steps)) r ⌝ }
+    ensures widths { λ _. ⌜ All Widths (held steps) ⌝ }
 {
     let n = steps.len as usize;
     let mut place = at;
@@ -67,7 +71,8 @@ fn write_steps(out: &mut [u8], at: usize, steps: Steps) -> usize
 fn write_file(note: &[u8], setup: Setup, steps: Steps, out: &mut [u8]) -> usize
     requires { ⌜ inRange setup ≡ true ⌝ }
     requires { ⌜ fileFits (length (now note)) steps (length (now out)) ≡ true ⌝ }
-    ensures { λ r. ⌜ Written (now (out .entry)) (now (out .exit)) 0 (fileBytes (now (note .entry)) setup (held steps)) r ⌝ }
+    ensures written { λ r. ⌜ Written (now (out .entry)) (now (out .exit)) 0 (fileBytes (now (note .entry)) setup (held steps)) r ⌝ }
+    ensures widths { λ _. ⌜ (length (setup .volume) ≡ 32) × All Widths (held steps) ⌝ }
 {
     let at = output::write_bytes(out, 0, note);
     let first = record_bytes::write_setup(out, at, setup);
@@ -77,8 +82,10 @@ fn write_file(note: &[u8], setup: Setup, steps: Steps, out: &mut [u8]) -> usize
 
 // The run file of a note, a setup and steps, at the start of the output. All is asked before the first byte is written: a setup out of range is 7; then 10
 // for more than 4,000 steps, a step of a known kind with an unused field that is not 0, a file of more than 65,536 bytes, or an output too short for it.
+// What is written the reader takes apart into the same note, setup and steps.
 pub fn write(note: &[u8], setup: Setup, steps: Steps, out: &mut [u8]) -> Report
-    ensures { λ r. ⌜ Reports (writeRefusal (length (now (note .entry))) setup steps (length (now (out .entry)))) (fileBytes (now (note .entry)) setup (held steps)) (now (out .entry)) (now (out .exit)) r ⌝ }
+    ensures reports { λ r. ⌜ Reports (writeRefusal (length (now (note .entry))) setup steps (length (now (out .entry)))) (fileBytes (now (note .entry)) setup (held steps)) (now (out .entry)) (now (out .exit)) r ⌝ }
+    ensures reads { λ r. ⌜ (reportNumber r ≡ 0 → ReadAs (fileBytes (now (note .entry)) setup (held steps)) (now (note .entry)) setup (held steps)) ⌝ }
 {
     if setup::in_range(setup) {
         if file_fits(note.len(), steps, out.len()) {

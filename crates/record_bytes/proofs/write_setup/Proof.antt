@@ -23,7 +23,8 @@ same-length c = search needs
 returns : tie.Need-returns
 returns c =
     let call = c .before .before .before in
-    setup-stored _ _ _ _ _ _ (slice-aggregate-write-bytes call) (call .before .before .before .before .before .write-front .ensures) (c .before .before .write-bytes .ensures)
+    let entry = call .before .before .before .before .before .before .before .before in
+    setup-stored _ (entry .args .setup) _ _ _ _ (slice-aggregate-write-bytes call) (call .before .before .before .before .before .write-front .ensures) (c .before .before .write-bytes .ensures)
 
 pub write-setup-spec : {M : Type 1} → statement M
 write-setup-spec =

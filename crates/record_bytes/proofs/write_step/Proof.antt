@@ -1,4 +1,5 @@
 use borrow.Author.Needs.{needs}
+use Rattle.layout.specs.Number.{limit}
 use Rattle.record_bytes.proofs.Laws.{step-stored}
 use Rattle.record_bytes.proofs.write_step.Statement.{statement}
 use Rattle.record_bytes.proofs.write_step.Tie as tie
@@ -25,6 +26,7 @@ same-length : tie.Need-same-length
 same-length c = search needs
 
 returns : tie.Need-returns
+unfolding limit
 returns c = search step-stored
 
 pub write-step-spec : {M : Type 1} → statement M

@@ -1,6 +1,7 @@
+use native.Mathlib.Omega.{arith}
 use mathlib.Core.Path.{sym, _∙_}
 use borrow.Author.Needs.{needs}
-use Rattle.writer.proofs.Laws.{file-reported, not-fitting, out-of-range}
+use Rattle.writer.proofs.Laws.{file-reported, file-read, not-fitting, out-of-range}
 use Rattle.writer.proofs.write.Statement.{statement}
 use Rattle.writer.proofs.write.Tie as tie
 
@@ -20,13 +21,13 @@ same-length : tie.Need-same-length
 same-length c = search needs
 
 returns : tie.Need-returns
-returns c = search file-reported
+returns c = (search file-reported, λ z. search file-read)
 
 returns-2 : tie.Need-returns-2
-returns-2 c = search not-fitting
+returns-2 c = (search not-fitting, λ z. absurd (omega arith))
 
 returns-3 : tie.Need-returns-3
-returns-3 c = search out-of-range
+returns-3 c = (search out-of-range, λ z. absurd (omega arith))
 
 pub write-spec : {M : Type 1} → statement M
 write-spec =

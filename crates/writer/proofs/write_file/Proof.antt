@@ -19,7 +19,7 @@ same-length : tie.Need-same-length
 same-length c = search needs
 
 returns : tie.Need-returns
-returns c = search file-written
+returns c = (search file-written, (search needs, search needs))
 
 pub write-file-spec : {M : Type 1} → statement M
 write-file-spec =
