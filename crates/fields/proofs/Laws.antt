@@ -1,15 +1,16 @@
 -- What each way through a function found, put together.
 use Prim.Native.Nat.{ℕ}
-use mathlib.Core.Bool.{Bool}
+use mathlib.Core.Bool.{Bool, true, false, _&&_, _||_}
 use mathlib.Core.Path.{_≡_}
+use lib.Dec.{eqb}
 use borrow.Author.Tests.{ne-eqb}
-use Rattle.protocol.specs.declared.message.Message.{Message}
 use Rattle.protocol.specs.declared.message.Kind.{Kind}
 use Rattle.protocol.specs.declared.message.Kind.the-variants.{Renew, Grant, Invalidate, Ack, Offer, Dropped}
 use Rattle.protocol.specs.declared.message.Payload.{Payload}
 use Rattle.protocol.specs.declared.message.Payload.the-variants.{Same, Value}
 use Rattle.fields.specs.declared.Fields.{Fields}
-use Rattle.fields.specs.Fields.{row, kindFields, fieldsOf, payloadIn, kindIn, messageIn, same, sound}
+use Rattle.fields.specs.Fields.{row, kindFields, payloadIn, kindIn, sound}
+use Rattle.fields.specs.Questions.{none, payloadRight, noLease, right, asked}
 
 module _ (d : ℕ) (k : Kind) (r : Fields) where
   pub by-renew : (o n e w : ℕ) → k ≡ Renew o n e w → r ≡ row 1 d o 0 n 0 e w 0 0 → r ≡ kindFields d k
@@ -80,6 +81,33 @@ module _ (f : Fields) where
   unfolding kindIn
   kind-else a b c d e = rw (ne-eqb _ _ a, ne-eqb _ _ b, ne-eqb _ _ c, ne-eqb _ _ d, ne-eqb _ _ e)
 
--- the test of fields, made of its parts
-pub right-is : (f : Fields) (m : Message) (g : Fields) (r : Bool) → m ≡ messageIn f → g ≡ fieldsOf m → r ≡ same g f → r ≡ sound f
-right-is f m g r h i j = rw (j, i, h)
+-- ---- the test of fields, kind by kind
+module _ (f : Fields) (r : Bool) where
+  pub payload-same : f .present ≡ 0 → r ≡ none (f .value) → r ≡ payloadRight f
+  payload-same h e = rw h e
+
+  pub payload-value : (f .present ≡ 0 → ⊥) → r ≡ eqb 1 (f .present) → r ≡ payloadRight f
+  payload-value h e = rw (ne-eqb (f .present) 0 h) e
+
+  pub renew-right : f .kind ≡ 1 → r ≡ noLease f → r ≡ sound f
+  unfolding right
+  renew-right h e = rw (asked f, h) e
+
+  module _ (a : f .kind ≡ 1 → ⊥) where
+    pub grant-right : f .kind ≡ 2 → r ≡ payloadRight f → r ≡ sound f
+    unfolding right
+    grant-right h e = rw (asked f, h) e
+
+    module _ (b : f .kind ≡ 2 → ⊥) where
+      pub object-right : (q : Bool) → (eqb (f .kind) 3 || eqb (f .kind) 4) ≡ true → q ≡ noLease f → r ≡ (q && none (f .number)) → r ≡ sound f
+      unfolding right
+      object-right q h g e = rw (asked f, ne-eqb (f .kind) 1 a, ne-eqb (f .kind) 2 b, h, ← g) e
+
+      module _ (c : (eqb (f .kind) 3 || eqb (f .kind) 4) ≡ false) where
+        pub volume-right : (q : Bool) → (eqb (f .kind) 5 || eqb (f .kind) 6) ≡ true → q ≡ noLease f → r ≡ (q && none (f .version)) → r ≡ sound f
+        unfolding right
+        volume-right q h g e = rw (asked f, ne-eqb (f .kind) 1 a, ne-eqb (f .kind) 2 b, c, h, ← g) e
+
+        pub none-right : (eqb (f .kind) 5 || eqb (f .kind) 6) ≡ false → r ≡ false → r ≡ sound f
+        unfolding right
+        none-right h e = rw (asked f, ne-eqb (f .kind) 1 a, ne-eqb (f .kind) 2 b, c, h) e

@@ -1,8 +1,8 @@
 -- The test of a frame's fields is 01's, written out: "kind, value present and zero fields right?"
 use Prim.Native.Nat.{ℕ}
 use native.Mathlib.Decide.{ℕ-discrete}
-use mathlib.Core.Bool.{Bool, true, false, cond, _&&_, _||_, and-true}
-use mathlib.Core.Path.{_≡_, refl, sym, subst, _∙_}
+use mathlib.Core.Bool.{Bool, true, false, cond, _&&_, _||_, and-true, and-false}
+use mathlib.Core.Path.{_≡_, refl, sym, ap, subst, _∙_}
 use lib.Dec.{eqb}
 use borrow.Author.Tests.{eq-eqb, ne-eqb}
 use Rattle.protocol.specs.declared.message.Kind.the-variants.{Grant}
@@ -14,16 +14,36 @@ use Rattle.fields.specs.Fields.{row, kindFields, kindIn, same, sound}
 abbrev pub none : ℕ → Bool
 none n = eqb 0 n
 
--- what each kind lacks is 0; a GRANT's value is marked by 1, or it is 0 and the mark too; there is no other kind
+-- a GRANT's value is marked by 1, or it is 0 and the mark too
+abbrev pub payloadRight : Fields → Bool
+payloadRight f = cond (eqb (f .present) 0) (none (f .value)) (eqb 1 (f .present))
+
+-- the fields that a GRANT alone has are 0
+abbrev pub noLease : Fields → Bool
+noLease f = none (f .present) && none (f .«volume_expiry») && none (f .«object_expiry») && none (f .value)
+
+-- what each kind lacks is 0; there is no other kind
 unfoldable pub right : Fields → Bool
 right f =
-    cond (eqb (f .kind) 1) (none (f .present) && none (f .«volume_expiry») && none (f .«object_expiry») && none (f .value))
-    (cond (eqb (f .kind) 2) (cond (eqb (f .present) 0) (none (f .value)) (eqb 1 (f .present)))
-    (cond (eqb (f .kind) 3 || eqb (f .kind) 4) (none (f .present) && none (f .number) && none (f .«volume_expiry») && none (f .«object_expiry») && none (f .value))
-    (cond (eqb (f .kind) 5 || eqb (f .kind) 6) (none (f .present) && none (f .«volume_expiry») && none (f .version) && none (f .«object_expiry») && none (f .value)) false)))
+    cond (eqb (f .kind) 1) (noLease f)
+    (cond (eqb (f .kind) 2) (payloadRight f)
+    (cond (eqb (f .kind) 3 || eqb (f .kind) 4) (noLease f && none (f .number))
+    (cond (eqb (f .kind) 5 || eqb (f .kind) 6) (noLease f && none (f .version)) false)))
 
 self : (n : ℕ) → eqb n n ≡ true
 self n = eq-eqb n n refl
+
+-- a test may be asked after the next one, two or three
+past-one : (a b c : Bool) → (a && b && c) ≡ (a && c && b)
+past-one true true c = sym (and-true c)
+past-one true false c = sym (and-false c)
+past-one false b c = refl
+
+past-two : (a b c d : Bool) → (a && b && c && d) ≡ (a && c && d && b)
+past-two a b c d = ap (λ (z : Bool). z && d) (past-one a b c) ∙ past-one (a && c) b d
+
+past-three : (a b c d e : Bool) → (a && b && c && d && e) ≡ (a && c && d && e && b)
+past-three a b c d e = ap (λ (z : Bool). z && e) (past-two a b c d) ∙ past-one (a && c && d) b e
 
 module _ (d o p n x e w y v : ℕ) where
   renew : sound (row 1 d o p n x e w y v) ≡ right (row 1 d o p n x e w y v)
@@ -32,19 +52,19 @@ module _ (d o p n x e w y v : ℕ) where
 
   invalidate : sound (row 3 d o p n x e w y v) ≡ right (row 3 d o p n x e w y v)
   unfolding right same kindFields kindIn
-  invalidate = simp (self, and-true)
+  invalidate = simp (self, and-true) (past-three (none p) (none n) (none x) (none y) (none v))
 
   ack : sound (row 4 d o p n x e w y v) ≡ right (row 4 d o p n x e w y v)
   unfolding right same kindFields kindIn
-  ack = simp (self, and-true)
+  ack = simp (self, and-true) (past-three (none p) (none n) (none x) (none y) (none v))
 
   offer : sound (row 5 d o p n x e w y v) ≡ right (row 5 d o p n x e w y v)
   unfolding right same kindFields kindIn
-  offer = simp (self, and-true)
+  offer = simp (self, and-true) (past-two (none p && none x) (none w) (none y) (none v))
 
   dropped : sound (row 6 d o p n x e w y v) ≡ right (row 6 d o p n x e w y v)
   unfolding right same kindFields kindIn
-  dropped = simp (self, and-true)
+  dropped = simp (self, and-true) (past-two (none p && none x) (none w) (none y) (none v))
 
   grant-with : Payload → Bool
   grant-with q = same (kindFields d (Grant o n x e w y q)) (row 2 d o p n x e w y v)

@@ -2,6 +2,7 @@
 ghost use mathlib.Core.Path.{_≡_};
 ghost use Rattle.protocol.specs.declared.message.Kind.the-variants.{Grant};
 ghost use Rattle.fields.specs.Fields.{row, kindFields, fieldsOf, payloadIn, kindIn, messageIn, same, sound};
+ghost use Rattle.fields.specs.Questions.{payloadRight, noLease};
 use protocol::message::Kind;
 use protocol::message::Message;
 use protocol::message::Payload;
@@ -213,9 +214,37 @@ pub fn same(a: Fields, b: Fields) -> bool
     times & (a.version == b.version) & (a.object_expiry == b.object_expiry) & (a.value == b.value)
 }
 
-// Whether these are the fields of a message: of the one that they would be. That covers the kind, the mark of a value and the fields that the kind lacks.
+fn payload_right(f: Fields) -> bool
+    ensures { λ r. ⌜ r ≡ payloadRight f ⌝ }
+{
+    if f.present == 0 {
+        return 0 == f.value;
+    }
+    1 == f.present
+}
+
+// Whether the fields that a GRANT alone has are 0.
+fn no_lease(f: Fields) -> bool
+    ensures { λ r. ⌜ r ≡ noLease f ⌝ }
+{
+    (0 == f.present) & (0 == f.volume_expiry) & (0 == f.object_expiry) & (0 == f.value)
+}
+
+// Whether these are the fields of a message: the kind is one, and what it lacks is 0.
 pub fn sound(f: Fields) -> bool
     ensures { λ r. ⌜ r ≡ sound f ⌝ }
 {
-    same(fields_of(message_in(f)), f)
+    if f.kind == 1 {
+        return no_lease(f);
+    }
+    if f.kind == 2 {
+        return payload_right(f);
+    }
+    if (f.kind == 3) | (f.kind == 4) {
+        return no_lease(f) & (0 == f.number);
+    }
+    if (f.kind == 5) | (f.kind == 6) {
+        return no_lease(f) & (0 == f.version);
+    }
+    false
 }
