@@ -1,5 +1,7 @@
 //! The run files that are timed, the same in every run of the program.
 
+use std::fmt;
+
 use gevtsomi::FILE_BYTES;
 use model::gen::builder::Builder;
 use model::gen::random_steps;
@@ -26,12 +28,20 @@ pub struct Timed {
     pub waited: usize,
 }
 
+impl fmt::Display for Timed {
+    fn fmt(&self, out: &mut fmt::Formatter) -> fmt::Result {
+        let Timed { name, queue, shown, waited, .. } = self;
+        write!(out, "{name}; {queue:.0} messages under way on the average, ")?;
+        write!(out, "{shown} reads shown, {waited} writes that waited")
+    }
+}
+
 /// The largest setup, with a list of messages that is mostly full and with one
 /// that is worked off, the smallest, and a workload; each with the most steps.
 pub fn runs() -> Vec<Timed> {
     vec![
-        timed("16 clients, 8 volumes, 32 objects, by chance", spread(sized(16, 8, 32)), by_chance),
-        timed("16 clients, 8 volumes, 32 objects, delivered in time", spread(sized(16, 8, 32)), in_time),
+        timed("16 clients, 8 volumes, 32 objects, by chance", largest(), by_chance),
+        timed("16 clients, 8 volumes, 32 objects, delivered in time", largest(), in_time),
         timed("1 client, 1 volume, 1 object, by chance", sized(1, 1, 1), by_chance),
         load("3 clients, 2 volumes, 4 objects, a workload"),
     ]
@@ -49,6 +59,11 @@ pub fn load_file() -> Vec<u8> {
     let len = gevtsomi::workload(SEED, &[], &setup, STEPS as u32, &mut file).expect("room for any file");
     file.truncate(len);
     file
+}
+
+/// The most clients, volumes and objects.
+pub fn largest() -> Setup {
+    spread(sized(16, 8, 32))
 }
 
 /// Objects evenly over the volumes.
@@ -114,29 +129,6 @@ fn in_time(builder: &mut Builder) {
     builder.push(step);
 }
 
-/// Runs of one kind of step in the largest setup; a message is asked for
-/// before each that is lost or delivered, and before the first that is doubled.
-pub fn kinds() -> Vec<(&'static str, Vec<u8>)> {
-    let setup = spread(sized(16, 8, 32));
-    let run = |name, start: &[Step], turn: &[Step]| {
-        let steps: Vec<Step> = start.iter().chain(turn.iter().cycle()).copied().take(STEPS).collect();
-        (name, write(&[], &setup, &steps))
-    };
-    let ask = Step::ask(0, 0);
-    vec![
-        run("unknown kind", &[], &[Step::default()]),
-        run("clock", &[], &[Step::clock(0)]),
-        run("read", &[], &[Step::read(0, 0)]),
-        run("ask, list full", &[], &[ask]),
-        run("write", &[], &[Step::write(0, 7)]),
-        run("ask, deliver", &[], &[ask, Step::deliver(0)]),
-        run("ask, lose", &[], &[ask, Step::lose(0)]),
-        run("double, list full", &[ask], &[Step::double(0)]),
-        run("restart server", &[], &[Step::restart_server()]),
-        run("restart client", &[], &[Step::restart_client(0)]),
-    ]
-}
-
 /// What a run grows by, its sizes, and a run of each size: messages that are
 /// delivered in time between more and more clients, and about more and more
 /// objects; and an ask and a loss at the front in turn, with more and more
@@ -153,7 +145,7 @@ fn under_way(messages: usize) -> Vec<u8> {
     let ask = Step::ask(0, 0);
     let turns = [ask, Step::lose(0)].into_iter().cycle();
     let steps: Vec<Step> = std::iter::repeat(ask).take(messages).chain(turns).take(STEPS).collect();
-    write(&[], &spread(sized(16, 8, 32)), &steps)
+    write(&[], &largest(), &steps)
 }
 
 /// The same file but for its last step, where a field that the kind does not
@@ -169,29 +161,20 @@ pub fn refused_at_its_end(file: &[u8]) -> Vec<u8> {
 #[cfg(test)]
 mod tests {
     use super::*;
+    use crate::kinds::kinds;
+    use crate::subjects::same;
     use model::runfile::read;
 
-    fn refused(file: &[u8]) -> usize {
-        let lines = String::from_utf8(listing(file)).expect("a listing is text");
-        lines.lines().filter(|line| line.split(' ').nth(1) == Some("4")).count()
-    }
-
     #[test]
-    fn every_file_is_accepted_and_has_the_most_steps() {
+    fn every_file_has_the_most_steps_and_one_listing() {
         let grown = growing()
             .into_iter()
             .flat_map(|(name, sizes)| sizes.into_iter().map(move |(_, file)| (name, file)));
-        let files = runs().into_iter().map(|run| (run.name, run.file)).chain(kinds()).chain(grown);
-        for (name, file) in files {
+        let runs = runs().into_iter().map(|run| (run.name, run.file));
+        let kinds = kinds().into_iter().map(|kind| (kind.name, kind.file));
+        for (name, file) in runs.chain(kinds).chain(grown) {
             assert_eq!(read(&file).map(|run| run.len()), Ok(STEPS), "{name}");
-        }
-    }
-
-    #[test]
-    fn steps_of_a_known_kind_are_taken() {
-        for (name, file) in kinds() {
-            let expected = if name == "unknown kind" { STEPS } else { 0 };
-            assert_eq!(refused(&file), expected, "{name}");
+            same(&file);
         }
     }
 

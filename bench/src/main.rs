@@ -1,47 +1,48 @@
 //! The proved library beside the model, on the same files in one process:
 //! time per step, how it grows, time to read and to write a file, peak memory
-//! and stack. With `--brief` it prints the same tables of a few repetitions.
+//! and stack. With `--brief` it prints the same tables of a few repetitions,
+//! with `--instructions` instructions a step, which are the same every time.
 
 mod file_times;
 mod files;
+mod instructions;
+mod kinds;
 mod memory;
+mod subjects;
 mod timing;
 
+use std::process::ExitCode;
 use std::{env, io};
 
 use file_times::{reading, stack_of_writing, writing};
-use files::{growing, kinds, runs};
+use files::{growing, runs};
 use gevtsomi::LISTING_BYTES;
+use kinds::{kinds, Kind};
 use model::limits::STEPS;
-use model::listing::{listing, listing_trusting};
+use subjects::{asking, proved, same, trusting};
 use timing::{medians, Effort, BRIEF, FULL};
 
-fn proved(file: &[u8]) -> usize {
-    let mut output = [0; LISTING_BYTES];
-    gevtsomi::list(file, &mut output).expect("room for any listing")
-}
+const USAGE: &str = "usage: bench [--brief | --instructions]";
 
-fn asking(file: &[u8]) -> usize {
-    listing(file).len()
-}
-
-fn trusting(file: &[u8]) -> usize {
-    listing_trusting(file).len()
-}
-
-fn main() -> io::Result<()> {
-    match env::args().nth(1).as_deref() {
-        None => report(FULL),
-        Some("--brief") => report(BRIEF),
-        Some(subject) => {
-            let run = &runs()[0];
-            match subject {
-                "proved" => drop(proved(&run.file)),
-                "asking" => drop(asking(&run.file)),
-                _ => (),
-            }
-            println!("{}", memory::peak()?);
-            Ok(())
+fn main() -> ExitCode {
+    let words: Vec<String> = env::args().skip(1).collect();
+    let done = match words.iter().map(String::as_str).collect::<Vec<_>>()[..] {
+        [] => report(FULL),
+        ["--brief"] => report(BRIEF),
+        ["--instructions"] => instructions::report(),
+        // What this program asks of a process of its own:
+        ["peak", subject] => memory::print_peak(subject),
+        ["repeat", subject, times] => instructions::repeat(subject, times),
+        _ => {
+            eprintln!("{USAGE}");
+            return ExitCode::from(2);
+        }
+    };
+    match done {
+        Ok(()) => ExitCode::SUCCESS,
+        Err(error) => {
+            eprintln!("bench: {error}");
+            ExitCode::FAILURE
         }
     }
 }
@@ -49,10 +50,7 @@ fn main() -> io::Result<()> {
 fn report(effort: Effort) -> io::Result<()> {
     for run in runs() {
         same(&run.file);
-        println!(
-            "{}; {STEPS} steps, {:.0} messages under way on the average, {} reads shown, {} writes that waited",
-            run.name, run.queue, run.shown, run.waited
-        );
+        println!("{STEPS} steps of {run}");
         let times = medians(effort, &run.file, &[&proved, &asking, &trusting]);
         let [proved, asking, trusting] = times[..] else { unreachable!() };
         let per_step = |time: f64| time / STEPS as f64;
@@ -74,7 +72,7 @@ fn report(effort: Effort) -> io::Result<()> {
     writing(effort);
     println!("peak memory of a process that lists the first file once");
     for subject in ["nothing", "proved", "asking"] {
-        println!("  {subject:10} {:6} KiB", memory::of(&[subject])?);
+        println!("  {subject:10} {:6} KiB", memory::of(subject)?);
     }
     println!("stack that a listing of the first file takes: {} KiB", stack_of_a_listing()?);
     let [seed, steps] = stack_of_writing()?;
@@ -94,7 +92,7 @@ fn stack_of_a_listing() -> io::Result<u64> {
 
 fn by_kind(effort: Effort) {
     println!("by kind, 16 clients, 8 volumes, 32 objects: ns a step of library, asking model, other model");
-    for (name, file) in kinds() {
+    for Kind { name, file, .. } in kinds() {
         same(&file);
         let times = medians(effort, &file, &[&proved, &asking, &trusting]);
         let [proved, asking, trusting] = times[..] else { unreachable!() };
@@ -113,12 +111,4 @@ fn growth(effort: Effort) {
             println!("  {name:18} {size:3} {:6.0} {:6.0}", per_step(times[0]), per_step(times[1]));
         }
     }
-}
-
-/// What is timed is the same work.
-fn same(file: &[u8]) {
-    let mut output = [0; LISTING_BYTES];
-    let len = gevtsomi::list(file, &mut output).expect("room for any listing");
-    assert_eq!(output[..len], listing(file)[..]);
-    assert_eq!(output[..len], listing_trusting(file)[..]);
 }

@@ -5,20 +5,30 @@ use std::process::Command;
 use std::sync::atomic::{AtomicUsize, Ordering};
 use std::{env, fs, io, thread};
 
+use crate::files::runs;
+use crate::subjects::named;
+
 /// Of the next thread that is measured. A thread may be given the stack of one
 /// that has ended, some of it in memory still, but not where it wants more.
 static STACK: AtomicUsize = AtomicUsize::new(4 << 20);
 
-/// Runs this program again with these words and gives the peak that it
-/// reports of itself, in KiB.
-pub fn of(words: &[&str]) -> io::Result<u64> {
-    let output = Command::new(env::current_exe()?).args(words).output()?;
+/// The peak of a process of this program that lists the first file, in KiB.
+pub fn of(subject: &str) -> io::Result<u64> {
+    let output = Command::new(env::current_exe()?).args(["peak", subject]).output()?;
     let text = String::from_utf8_lossy(&output.stdout).trim().to_owned();
-    text.parse().map_err(|_| io::Error::other(format!("{words:?} printed {text:?}")))
+    text.parse().map_err(|_| io::Error::other(format!("peak {subject} printed {text:?}")))
+}
+
+/// Lists the first file once and prints what `of` reads.
+pub fn print_peak(subject: &str) -> io::Result<()> {
+    let file = &runs()[0].file;
+    named(subject).map(|list| list(file));
+    println!("{}", peak()?);
+    Ok(())
 }
 
 /// VmHWM, the most memory that this process has had, in KiB.
-pub fn peak() -> io::Result<u64> {
+fn peak() -> io::Result<u64> {
     let status = fs::read_to_string("/proc/self/status")?;
     let line = status.lines().find_map(|line| line.strip_prefix("VmHWM:"));
     let number = line.and_then(|rest| rest.split_whitespace().next()).and_then(|number| number.parse().ok());

@@ -3,6 +3,8 @@
 use std::hint::black_box;
 use std::time::{Duration, Instant};
 
+use crate::subjects::Subject;
+
 /// How much is measured. A round of each subject comes after the other, so
 /// that whatever else the machine does meets them alike.
 #[derive(Clone, Copy)]
@@ -17,8 +19,6 @@ pub const FULL: Effort = Effort { rounds: 41, round: Duration::from_millis(20) }
 
 /// Enough to see that everything runs.
 pub const BRIEF: Effort = Effort { rounds: 3, round: Duration::from_millis(2) };
-
-pub type Subject<'a> = &'a dyn Fn(&[u8]) -> usize;
 
 /// Nanoseconds that each subject takes for the file, median over the rounds.
 pub fn medians(effort: Effort, file: &[u8], subjects: &[Subject]) -> Vec<f64> {

@@ -1,0 +1,137 @@
+//! Instructions a step, counted by callgrind. Times differ from run to run;
+//! these counts do not, so that two states of the code can be compared.
+
+use std::fs::File;
+use std::hint::black_box;
+use std::io::{self, ErrorKind, Read};
+use std::path::{Path, PathBuf};
+use std::process::{self, Command};
+use std::{env, fs};
+
+use model::limits::STEPS;
+
+use crate::files::runs;
+use crate::kinds::kinds;
+use crate::subjects::{named, same};
+
+const VALGRIND: &str = "valgrind";
+
+/// How often a file is listed in the two processes whose counts are
+/// subtracted. What a process does before it lists, and what its first
+/// listing costs more than the others, is in both and drops out.
+const REPEATS: [usize; 2] = [2, 4];
+
+/// Where the processor has it, glibc clears and copies large pieces of memory
+/// by one instruction with a repeat prefix, which callgrind counts once a byte.
+/// From these sizes on alone, so that it takes the usual 32 bytes at a time.
+const NO_REPEAT_PREFIX: &str =
+    "glibc.cpu.x86_rep_stosb_threshold=1000000000:glibc.cpu.x86_rep_movsb_threshold=1000000000";
+
+pub fn report() -> io::Result<()> {
+    installed(VALGRIND)?;
+    let [fewer, more] = REPEATS;
+    println!(
+        "Instructions a step, from a file's bytes to its listing's, by the library and by the model that"
+    );
+    println!("does not ask question 1. Counted by callgrind: those of {more} listings less those of {fewer}. Answers");
+    println!("are as in a listing, answer and value. One kind of step is in the setup of the first run.\n");
+    println!("| run of {STEPS} steps | library | model | ratio |\n|---|---|---|---|");
+    let runs = runs().into_iter().map(|run| (run.to_string(), run.file));
+    let kinds = kinds().into_iter().map(|kind| (kind.to_string(), kind.file));
+    for (made, file) in runs.chain(kinds) {
+        same(&file);
+        let stored = Stored::new(&file)?;
+        let library = per_step(&stored.0, "proved")?;
+        let model = per_step(&stored.0, "trusting")?;
+        println!("| {made} | {library:.1} | {model:.1} | {:.2} |", library / model);
+    }
+    Ok(())
+}
+
+/// A run file for other processes to read, until it is dropped.
+struct Stored(PathBuf);
+
+impl Stored {
+    fn new(file: &[u8]) -> io::Result<Stored> {
+        let stored = Stored(env::temp_dir().join(format!("bench-{}.run", process::id())));
+        fs::write(&stored.0, file)?;
+        Ok(stored)
+    }
+}
+
+impl Drop for Stored {
+    fn drop(&mut self) {
+        // What cannot be removed is left to whoever clears that folder.
+        let _ = fs::remove_file(&self.0);
+    }
+}
+
+fn per_step(file: &Path, subject: &str) -> io::Result<f64> {
+    let [fewer, more] = REPEATS;
+    let difference = counted(file, subject, more)? - counted(file, subject, fewer)?;
+    Ok(difference as f64 / ((more - fewer) * STEPS) as f64)
+}
+
+/// The instructions of a process of this program that does `repeat`.
+fn counted(file: &Path, subject: &str, times: usize) -> io::Result<u64> {
+    let mut command = Command::new(VALGRIND);
+    command.args(["--tool=callgrind", "--callgrind-out-file=/dev/null"]).arg(env::current_exe()?);
+    command.args(["repeat", subject, &times.to_string()]).stdin(File::open(file)?);
+    let output = command.env("GLIBC_TUNABLES", NO_REPEAT_PREFIX).output()?;
+    let said = String::from_utf8_lossy(&output.stderr);
+    let count = if output.status.success() { collected(&said) } else { None };
+    count.ok_or_else(|| io::Error::other(format!("{VALGRIND} counted nothing:\n{said}")))
+}
+
+/// Tells what to install where it is missing.
+fn installed(valgrind: &str) -> io::Result<()> {
+    let started = Command::new(valgrind).arg("--version").output();
+    let missing = "valgrind is not installed; on Debian: apt-get install valgrind";
+    started.map(drop).map_err(|error| match error.kind() {
+        ErrorKind::NotFound => io::Error::other(missing),
+        _ => error,
+    })
+}
+
+/// The count in what callgrind says at the end.
+fn collected(said: &str) -> Option<u64> {
+    said.lines().find_map(|line| line.split_once("Collected : ")?.1.trim().parse().ok())
+}
+
+/// Lists the file on standard input again and again.
+pub fn repeat(subject: &str, times: &str) -> io::Result<()> {
+    let (Some(subject), Ok(times)) = (named(subject), times.parse::<usize>()) else {
+        return Err(io::Error::other("expected a subject and a number"));
+    };
+    let mut file = Vec::new();
+    io::stdin().read_to_end(&mut file)?;
+    let mut page = Page(0);
+    for _ in 0..times {
+        black_box(&mut page).0 = subject(black_box(&file));
+    }
+    Ok(())
+}
+
+/// Aligns the frame that has it. How memory is cleared depends on where in a
+/// page it begins, and where a stack begins on the environment; from here on
+/// all frames are at the same places of their pages.
+#[repr(align(4096))]
+struct Page(usize);
+
+#[cfg(test)]
+mod tests {
+    use super::*;
+
+    #[test]
+    fn the_count_is_found_in_what_callgrind_says() {
+        let said = "==7== Events    : Ir\n==7== Collected : 122430\n==7== \n==7== I   refs:      122,430\n";
+        assert_eq!(collected(said), Some(122_430));
+        assert_eq!(collected("==7== Events    : Ir\n"), None);
+    }
+
+    #[test]
+    fn what_to_install_is_told() {
+        let error = installed("no-such-valgrind").unwrap_err();
+        assert!(error.to_string().contains("apt-get install valgrind"), "{error}");
+    }
+}
