@@ -100,9 +100,7 @@ fn collected(said: &str) -> Option<u64> {
 
 /// Lists the file on standard input again and again.
 pub fn repeat(subject: &str, times: &str) -> io::Result<()> {
-    let (Some(subject), Ok(times)) = (named(subject), times.parse::<usize>()) else {
-        return Err(io::Error::other("expected a subject and a number"));
-    };
+    let (subject, times) = (named(subject)?, times.parse::<usize>().map_err(io::Error::other)?);
     let mut file = Vec::new();
     io::stdin().read_to_end(&mut file)?;
     let mut page = Page(0);

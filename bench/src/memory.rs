@@ -21,8 +21,7 @@ pub fn of(subject: &str) -> io::Result<u64> {
 
 /// Lists the first file once and prints what `of` reads.
 pub fn print_peak(subject: &str) -> io::Result<()> {
-    let file = &runs()[0].file;
-    named(subject).map(|list| list(file));
+    named(subject)?(&runs()[0].file);
     println!("{}", peak()?);
     Ok(())
 }

@@ -1,6 +1,8 @@
 //! What is measured: a file's bytes to its listing's, by the library and by
 //! two models.
 
+use std::io;
+
 use gevtsomi::LISTING_BYTES;
 use model::listing::{listing, listing_trusting};
 
@@ -22,13 +24,13 @@ pub fn trusting(file: &[u8]) -> usize {
 }
 
 /// The subject by the word that a second process of this program is given.
-pub fn named(word: &str) -> Option<Subject<'static>> {
+pub fn named(word: &str) -> io::Result<Subject<'static>> {
     match word {
-        "nothing" => Some(&|_| 0),
-        "proved" => Some(&proved),
-        "asking" => Some(&asking),
-        "trusting" => Some(&trusting),
-        _ => None,
+        "nothing" => Ok(&|_| 0),
+        "proved" => Ok(&proved),
+        "asking" => Ok(&asking),
+        "trusting" => Ok(&trusting),
+        _ => Err(io::Error::other(format!("nothing is measured by the name {word}"))),
     }
 }
 
@@ -38,4 +40,19 @@ pub fn same(file: &[u8]) {
     let len = gevtsomi::list(file, &mut output).expect("room for any listing");
     assert_eq!(output[..len], listing(file)[..]);
     assert_eq!(output[..len], listing_trusting(file)[..]);
+}
+
+#[cfg(test)]
+mod tests {
+    use super::*;
+    use crate::files::runs;
+
+    #[test]
+    fn each_name_lists_the_whole_file() {
+        let file = &runs()[0].file;
+        for word in ["proved", "asking", "trusting"] {
+            assert_eq!(named(word).unwrap()(file), listing(file).len(), "{word}");
+        }
+        assert!(named("proven").is_err());
+    }
 }
