@@ -2,9 +2,11 @@
 //! aim at the next edges.
 
 use crate::gen::builder::Builder;
+use crate::gen::rng::Rng;
 use crate::gen::scenes::Scene;
 use crate::limits::CLOCK_MAX;
 use crate::step_record::Step;
+use crate::tables::Tables;
 
 pub const SCENES: &[Scene] = &[a_few];
 
@@ -33,7 +35,7 @@ fn any(b: &mut Builder) -> Step {
         70..=74 => Step::lose(place),
         75..=79 => Step::double(place),
         80..=87 => Step::write(object, b.rng.draw() >> 48),
-        88..=95 => Step::clock(time(b)),
+        88..=95 => Step::clock(time(&mut b.rng, &b.state.tables)),
         96 => Step::restart_server(),
         97 => Step::restart_client(client),
         98 => Step { kind: b.rng.draw() as u8, ..Step::default() },
@@ -54,22 +56,21 @@ fn place(b: &mut Builder) -> u8 {
 
 /// An edge ahead of the clock, or a few ticks. At VE and OE the leases end
 /// that were given last.
-fn time(b: &mut Builder) -> u32 {
-    let clock = b.tables().clock;
-    let server = b.server();
+pub fn time(rng: &mut Rng, tables: &Tables) -> u32 {
+    let (clock, server) = (tables.clock, &tables.server);
     let ends = server.write.iter().map(|write| write.latest_end);
     let guards = server.guard.iter().copied();
     let volumes = server.volume_latest.iter().copied();
     let objects = server.object_latest.iter().copied();
     let ahead: Vec<u32> =
         ends.chain(guards).chain(volumes).chain(objects).filter(|&edge| edge >= clock && edge > 0).collect();
-    match b.rng.below(10) {
+    match rng.below(10) {
         0..=4 if !ahead.is_empty() => {
-            let edge = b.rng.pick(&ahead);
-            (edge + b.rng.range(0, 2)).saturating_sub(1).min(CLOCK_MAX)
+            let edge = rng.pick(&ahead);
+            (edge + rng.range(0, 2)).saturating_sub(1).min(CLOCK_MAX)
         }
         5 => clock,
         6 => clock.saturating_sub(1),
-        _ => clock.saturating_add(b.rng.range(0, 5)),
+        _ => clock.saturating_add(rng.range(0, 5)),
     }
 }

@@ -1,0 +1,120 @@
+//! The wrong rules are found, and the right ones break nothing in the same
+//! runs.
+
+use model::mistakes::Mistakes;
+
+use crate::ledger::Breach;
+use crate::random_runs::plain;
+use crate::scenes::{all, Scene};
+use crate::watched::Watched;
+
+/// A scene is played so often, and has to show a wrong value in most of them.
+const SEEDS: u64 = 400;
+const FLOOR: usize = 300;
+
+/// What has to be found: 01's four traps, and a client that takes a GRANT
+/// without its number, keeps its request at an INVALIDATE, or forgets its
+/// numbers at a restart. The scenes find two more.
+const AIMED_AT: [&str; 7] = [
+    "renew_while_waiting",
+    "skip_unreachable",
+    "ack_any_epoch",
+    "old_renew_offers",
+    "grant_any_number",
+    "invalidate_keeps_request",
+    "client_restart_resets_number",
+];
+
+/// Wrong rules that moves by chance find often enough: what a client may show
+/// and take, whom a write waits for, and what the server keeps at a restart.
+const BY_CHANCE: [&str; 21] = [
+    "read_without_volume_lease",
+    "read_without_object_lease",
+    "read_alive_at_expiry",
+    "grant_same_object",
+    "no_value_stores_0",
+    "offer_keeps_leases",
+    "offer_keeps_object_expiries",
+    "client_restart_keeps_request",
+    "latest_end_without_guard",
+    "latest_end_without_clients",
+    "write_before_guard",
+    "complete_without_marking",
+    "offer_without_marking",
+    "grant_during_write",
+    "ack_any_version",
+    "dropped_keeps_offer",
+    "restart_keeps_epochs",
+    "restart_without_guard",
+    "restart_forgets_latest",
+    "restart_keeps_writes",
+    "time_goes_back",
+];
+
+/// The very moves that led a wrong rule astray break nothing under the right
+/// ones, nor does the scene as the right rules play it.
+fn right_rules_hold(scene: &Scene, seed: u64, mistaken: &Watched) {
+    for run in [mistaken.again(Mistakes::NONE), scene.run(Mistakes::NONE, seed)] {
+        assert_eq!(run.breach, None, "{}, seed {seed}: {:?}", scene.mistake, run.moves);
+    }
+}
+
+#[test]
+fn each_scene_finds_its_wrong_rule() {
+    for scene in all() {
+        let (rules, mut found, mut moves) = (Mistakes::named(scene.mistake), 0, 0);
+        for seed in 0..SEEDS {
+            let run = scene.run(rules, seed);
+            right_rules_hold(scene, seed, &run);
+            found += usize::from(run.shows_wrong());
+            moves += run.moves.len();
+        }
+        println!("{}: {found} of {SEEDS} runs, {moves} moves", scene.mistake);
+        assert!(found >= FLOOR, "{}: {found}", scene.mistake);
+    }
+}
+
+#[test]
+fn there_is_a_scene_for_each() {
+    for mistake in AIMED_AT {
+        assert!(all().any(|scene| scene.mistake == mistake), "{mistake}");
+    }
+}
+
+/// The first random run that breaks such a promise under the wrong rule.
+fn found_by_chance(mistake: &str, such: fn(Breach) -> bool) -> Option<u64> {
+    let rules = Mistakes::named(mistake);
+    (0..300).find(|&seed| plain(rules, seed).breach.is_some_and(|(_, breach)| such(breach)))
+}
+
+#[test]
+fn random_moves_find_more_wrong_rules() {
+    for mistake in BY_CHANCE {
+        let seed = found_by_chance(mistake, |breach| matches!(breach, Breach::Shown { .. }));
+        println!("{mistake}: {seed:?}");
+        assert!(seed.is_some(), "{mistake}");
+    }
+}
+
+/// Writes that last too long, get lost, or are another than was accepted.
+#[test]
+fn random_moves_find_what_breaks_other_promises() {
+    let late = found_by_chance("waits_forever", |breach| matches!(breach, Breach::Late { .. }));
+    let sum = found_by_chance("second_write_replaces", |breach| matches!(breach, Breach::Sum { .. }));
+    let other = found_by_chance("latest_end_by_greater", |breach| matches!(breach, Breach::Standing { .. }));
+    assert!(late.is_some() && sum.is_some() && other.is_some(), "{late:?} {sum:?} {other:?}");
+}
+
+/// Where a mistake changes nothing in any run of the list, it changes nothing
+/// here either.
+#[test]
+fn what_no_run_shows_is_not_shown_here() {
+    for seed in 0..20 {
+        let right = plain(Mistakes::NONE, seed);
+        for (name, rules) in Mistakes::NOT_IN_RUNS {
+            let run = right.again(*rules);
+            let same = run.network.sent == right.network.sent && run.network.state == right.network.state;
+            assert!(same && run.ledger == right.ledger && run.breach.is_none(), "{name}, seed {seed}");
+        }
+    }
+}

@@ -1,0 +1,89 @@
+//! Runs of the list of 64, replayed on the network: the same answers. What is
+//! delivered arrives, what is lost never does, and what is doubled may come
+//! once more.
+
+use model::answer::Answer;
+use model::gen::runs::run;
+use model::limits::QUEUE;
+use model::mistakes::Mistakes;
+use model::run::State;
+use model::setup::Setup;
+use model::step::step;
+use model::step_record::{Step, DELIVER, DOUBLE, LOSE};
+
+use crate::network::Move;
+use crate::watched::Watched;
+
+/// The same run in both worlds.
+struct Both {
+    setup: Setup,
+    listed: State,
+    watched: Watched,
+    /// For each place of the list, where its message stands among all sent.
+    places: Vec<usize>,
+}
+
+impl Both {
+    fn fresh(setup: Setup) -> Both {
+        let watched = Watched::fresh(Mistakes::NONE, setup);
+        Both { setup, listed: State::fresh(), watched, places: Vec::new() }
+    }
+
+    fn step(&mut self, record: &Step) -> (Answer, Answer) {
+        let (tables, copies, requests) = self.listed.parts(&self.setup);
+        let listed = step(&self.setup, tables, copies, requests, record);
+        (listed, self.replay(record))
+    }
+
+    /// A step that finds its message is an arrival, or no move at all.
+    fn replay(&mut self, record: &Step) -> Answer {
+        let (place, sent) = (usize::from(record.place), self.watched.network.sent.len());
+        let found = self.places.get(place).copied();
+        let answer = match (record.kind, found) {
+            (DELIVER, Some(at)) => {
+                self.places.remove(place);
+                self.watched.make(Move::Arrival(at))
+            }
+            (LOSE, Some(_)) => {
+                self.places.remove(place);
+                Answer::Done
+            }
+            (DOUBLE, Some(at)) => {
+                self.places.push(at);
+                Answer::Done
+            }
+            _ => self.watched.make(Move::Own(*record)),
+        };
+        self.places.extend(sent..self.watched.network.sent.len());
+        self.places.truncate(QUEUE);
+        answer
+    }
+
+    /// Everything but the list is the same, and the list has the same messages.
+    fn same(&self) -> bool {
+        let mut replayed = self.watched.network.state;
+        replayed.tables.queue = self.listed.tables.queue;
+        let messages = self.listed.tables.queue.messages();
+        let sent = &self.watched.network.sent;
+        replayed == self.listed && self.places.iter().map(|&at| &sent[at]).eq(messages)
+    }
+}
+
+#[test]
+fn runs_of_the_list_give_the_same_answers() {
+    let (mut steps, mut moves, mut full) = (0, 0, 0);
+    for number in 0..1_000 {
+        let run = run(1, number);
+        let mut both = Both::fresh(run.setup);
+        for record in &run.steps {
+            let (listed, replayed) = both.step(record);
+            assert_eq!(listed, replayed, "run {number}, {record:?}");
+            assert!(both.same(), "run {number}, {record:?}");
+            full += usize::from(both.places.len() == QUEUE);
+        }
+        assert_eq!(both.watched.breach, None, "run {number}");
+        (steps, moves) = (steps + run.steps.len(), moves + both.watched.moves.len());
+    }
+    println!("{steps} steps, {moves} moves, {full} with a full list");
+    assert!(steps > moves && full > 1_000, "{steps} {moves} {full}");
+}
