@@ -127,7 +127,7 @@ pub fn deliver(
     ensures { λ v. ⌜ answered (v .change) (tablesOf (now (words .exit)) (now (values .exit))) (v .answer) ≡ deliverDecided s (tablesOf (now (words .entry)) (now (values .entry))) c r place ⌝ }
     ensures { λ _. ⌜ recordsOf (now (words .exit)) (now (values .exit)) ≡ recordsOf (now (words .entry)) (now (values .entry)) ⌝ }
 {
-    let m = list::message_at(&*words, &*values, place);
+    let m = list::live_message(&*words, &*values, place);
     remove(&mut *words, &mut *values, place);
     let k = m.kind;
     let count = by_server(s, &mut *words, &mut *values, m.client as usize, k);

@@ -2,17 +2,19 @@
 ghost use mathlib.Core.Path.{_≡_};
 ghost use Rattle.protocol.specs.Messages.{doubled};
 ghost use Rattle.protocol.specs.Tables.{withQueue};
+ghost use Rattle.words.specs.LiveRows.{Live};
 ghost use Rattle.words.specs.View.{tablesOf, recordsOf};
-use queue::list::message_at;
+use queue::list::live_message;
 use sending::push;
 use words::Values;
 use words::Words;
 
 // "send a copy, to the end"
 pub fn double(words: &mut Words, values: &mut Values, place: usize)
+    requires { ⌜ Live (now words) (now values) place ⌝ }
     ensures { λ _. ⌜ tablesOf (now (words .exit)) (now (values .exit)) ≡ withQueue (tablesOf (now (words .entry)) (now (values .entry))) (doubled (tablesOf (now (words .entry)) (now (values .entry)) .queue) place) ⌝ }
     ensures { λ _. ⌜ recordsOf (now (words .exit)) (now (values .exit)) ≡ recordsOf (now (words .entry)) (now (values .entry)) ⌝ }
 {
-    let message = message_at(&*words, &*values, place);
+    let message = live_message(&*words, &*values, place);
     push(words, values, message);
 }

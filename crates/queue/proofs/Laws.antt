@@ -14,6 +14,8 @@ use Rattle.fields.specs.Fields.{messageIn, sound}
 use Rattle.words.specs.Fields.{wordLengths, valueLengths, LENGTH, MESSAGES, MESSAGE-VALUE}
 use Rattle.words.specs.Rows.{fieldsAt, narrowAt, stray, messageOf, messageFrom}
 use Rattle.words.specs.View.{tablesOf}
+use Rattle.words.specs.LiveRows.{Live}
+use Rattle.words.specs.Reads.{length-word}
 use Rattle.row.proofs.Places.{at-in, at-past}
 
 module _ (rows values : List ℕ) (i : ℕ) (f : Fields) (n y : Bool) (m : Message) (e : f ≡ fieldsAt rows values i) (g : n ≡ narrowAt rows i) (k : y ≡ sound f) where
@@ -43,3 +45,7 @@ module _ (w x : List ℕ) (i : ℕ) where
   pub past-place : (m : Message) → 64 ≤ i → m ≡ blank → m ≡ messageAt (tablesOf w x .queue) i
   unfolding tablesOf
   past-place m h g = g ∙ sym (tabulate-past (messageFrom count (parts wordLengths w MESSAGES) (parts valueLengths x MESSAGE-VALUE)) 0 64 i blank h)
+
+  pub live-place : (f : Fields) (m : Message) → Live w x i → f ≡ fieldsAt (parts wordLengths w MESSAGES) (parts valueLengths x MESSAGE-VALUE) i → m ≡ messageIn f → m ≡ messageAt (tablesOf w x .queue) i
+  unfolding messageOf
+  live-place f m h e g = at-place m (h .inside) (rw (length-word w x) at (h .below)) (rw (h .message, ← e) g)

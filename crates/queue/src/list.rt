@@ -4,6 +4,7 @@ ghost use Rattle.laws.specs.Parts.{parts};
 ghost use Rattle.protocol.specs.declared.message.Kind.the-variants.{Renew};
 ghost use Rattle.protocol.specs.Messages.{blank, message, messageAt};
 ghost use Rattle.words.specs.Fields.{wordLengths, valueLengths, MESSAGES, MESSAGE-VALUE};
+ghost use Rattle.words.specs.LiveRows.{Live};
 ghost use Rattle.words.specs.Rows.{stray, messageOf};
 ghost use Rattle.words.specs.View.{tablesOf};
 use protocol::message::Kind;
@@ -63,4 +64,12 @@ pub fn message_at(words: &Words, values: &Values, place: usize) -> Message
         return blank();
     }
     message_of(words, values, place)
+}
+
+// The message at a live place of sound tables: question 1 found that its row is one, so that is not asked again.
+pub fn live_message(words: &Words, values: &Values, place: usize) -> Message
+    requires { ⌜ Live (now words) (now values) place ⌝ }
+    ensures { λ r. ⌜ r ≡ messageAt (tablesOf (now (words .entry)) (now (values .entry)) .queue) place ⌝ }
+{
+    fields::message_in(row::load(words, values, place))
 }

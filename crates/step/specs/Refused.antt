@@ -6,7 +6,6 @@ use mathlib.Core.Logic.{⊎-elim}
 use mathlib.Core.Path.{_≡_, ap, _∙_}
 use borrow.Author.Tests.{eq-eqb}
 use Rattle.laws.specs.Choice.{true-or-false, not-both}
-use Rattle.laws.specs.Parts.{parts}
 use Rattle.protocol.specs.declared.records.Copy.{Copy}
 use Rattle.protocol.specs.declared.records.Request.{Request}
 use Rattle.protocol.specs.declared.setup.Setup.{Setup}
@@ -18,10 +17,8 @@ use Rattle.protocol.specs.Ledger.{accepts}
 use Rattle.protocol.specs.Sound.{recordsSound}
 use Rattle.protocol.specs.Soundness.StepCases.{requestOf, refused-answer, refused-keeps}
 use Rattle.protocol.specs.Soundness.Answered.{accepted-not-refused}
-use Rattle.words.specs.Fields.{wordLengths, valueLengths, MESSAGES, MESSAGE-VALUE}
-use Rattle.words.specs.Rows.{isMessage}
 use Rattle.words.specs.View.{tablesOf}
-use Rattle.words.specs.NoMessage.{no-message-refused}
+use Rattle.words.specs.LiveRows.{messageThere, no-message-refused}
 use Rattle.step.specs.Lent.{world}
 
 -- a step whose answer has the number 4 leaves tables and lent records as they were
@@ -30,7 +27,7 @@ refused-same s w x e = ⊎-elim (λ a. not-both (eq-eqb _ 4 e) (accepted-not-ref
 
 -- a live row that is no message: every step is refused with 1
 pub no-message : (s : Setup) (w x : List ℕ) (l : List Copy) (k : List Request) (y : Step) (i : ℕ) → i < tablesOf w x .queue .len
-    → isMessage (parts wordLengths w MESSAGES) (parts valueLengths x MESSAGE-VALUE) i ≡ false → answerOf s (world w x l k) y ≡ Refused 1
+    → messageThere w x i ≡ false → answerOf s (world w x l k) y ≡ Refused 1
 no-message s w x l k y i h n =
     let e = no-message-refused s w x i h n (recordsSound s l k) (requestOf s (world w x l k) y) y in
     refused-answer s (world w x l k) y (rw e) ∙ ap Refused e

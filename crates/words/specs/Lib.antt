@@ -3,4 +3,4 @@ pub mod Rows
 pub mod View
 pub mod Reads
 pub mod Worlds
-pub mod NoMessage
+pub mod LiveRows

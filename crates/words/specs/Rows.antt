@@ -36,7 +36,7 @@ narrowAt rows i =
 abbrev pub isMessage : List ℕ → List ℕ → ℕ → Bool
 isMessage rows values i = narrowAt rows i && sound (fieldsAt rows values i)
 
--- what a row that is no message reads as: no setup has client 255, so question 1 refuses the tables (`NoMessage`)
+-- what a row that is no message reads as: no setup has client 255, so question 1 refuses the tables (`LiveRows`)
 abbrev pub stray : Message
 stray = message 255 (Renew 0 0 0 0)
 

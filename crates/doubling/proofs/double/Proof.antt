@@ -2,14 +2,14 @@ use borrow.Author.Needs.{needs}
 use Rattle.doubling.proofs.double.Statement.{statement}
 use Rattle.doubling.proofs.double.Tie as tie
 
-message-at-requires : tie.Need-message-at-requires
-message-at-requires c κs = search needs
+live-message-requires : tie.Need-live-message-requires
+live-message-requires c κs = search needs
 
 push-requires : tie.Need-push-requires
 push-requires c κs = search needs
 
 returns : tie.Need-returns
-returns c = rw (← c .before .before .before .message-at .ensures) (c .push .ensures)
+returns c = rw (← c .before .before .before .live-message .ensures) (c .push .ensures)
 
 pub double-spec : {M : Type 1} → statement M
-double-spec = tie.close (tie.spec message-at-requires push-requires returns)
+double-spec = tie.close (tie.spec live-message-requires push-requires returns)

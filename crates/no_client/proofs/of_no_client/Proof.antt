@@ -1,6 +1,7 @@
 use Rattle.protocol.specs.SoundLaws.{sound-clock, growing, sound-length}
 use Rattle.protocol.specs.Soundness.StepCases.{passed, object-exists, place-exists, version-grows, epochs-grow}
 use Rattle.protocol.specs.Tables.{noRequest}
+use Rattle.words.specs.LiveRows.{live}
 use Rattle.no_client.proofs.Performing.{by-clock, by-write, by-lose, by-double, by-restart-server, last-of-no-client}
 use borrow.Author.Needs.{needs}
 use Rattle.no_client.proofs.of_no_client.Statement.{statement}
@@ -25,7 +26,7 @@ cast-double : tie.Need-cast-double
 cast-double c = search needs
 
 double-requires : tie.Need-double-requires
-double-requires c κs = search needs
+double-requires c κs = let a = c .before .before .before .before in let q = passed _ _ _ _ (a .pre .1 .1 .0 noRequest) in live _ _ _ _ (place-exists q (rw (c .before .before .before .match .keys4))) (a .pre .0) (a .pre .1 .0)
 
 restart-requires : tie.Need-restart-requires
 restart-requires c κs = let a = c .before .before .before in let q = passed _ _ _ _ (a .pre .1 .1 .0 noRequest) in (a .pre .0, record { below = epochs-grow q (last-of-no-client _ (a .pre .1 .1 .1 .0) (q .knows) (a .pre .1 .1 .1 .1) (c .before .before .match .rest)) })
