@@ -99,7 +99,7 @@ module _ (s : Setup) (w : World) (x : Step) (l : Ledger) where
       ∙ step-booked k h .keeps .values (x .object) (q .object)
 
 -- ---- one step, against the ledger after it
-step-agrees : (s : Setup) (w : World) (x : Step) (n : ℕ) (l : Ledger) → SoundWorld s w → Booked s (w .tables) l → n ≡ l .completedCount → ReadsCurrent s w
+pub step-agrees : (s : Setup) (w : World) (x : Step) (n : ℕ) (l : Ledger) → SoundWorld s w → Booked s (w .tables) l → n ≡ l .completedCount → ReadsCurrent s w
     → Agrees s w n x (bookAll s l (events s w x))
 step-agrees s w x n l k h e f =
     let b = step-booked s w x l k h in

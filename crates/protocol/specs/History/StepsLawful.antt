@@ -109,21 +109,21 @@ pub record Remembered (s : Setup) (w : World) (h : List Event) : Type 0 where
   pub booked : Booked s (w .tables) (ledgerOf s h)
 
 module _ (s : Setup) (w : World) (x : Step) (past : List Event) (k : SoundWorld s w) where
-  step-remembered : ReadsCurrent s w → Remembered s w past → Remembered s (stepped s w x) (told (events s w x) past)
+  pub step-remembered : ReadsCurrent s w → Remembered s w past → Remembered s (stepped s w x) (told (events s w x) past)
   step-remembered f r = record {
     lawful = step-lawful s w x past k f (r .booked) (r .lawful);
     booked = rw (ledger-told s (events s w x) past) at (step-booked s w x (ledgerOf s past) k (r .booked) .keeps);
   }
 
   -- as many completions are told as the step reports
-  step-told : Remembered s w past → howOften isCompletion (told (events s w x) past) ≡ howOften isCompletion past + reported (answerOf s w x)
+  pub step-told : Remembered s w past → howOften isCompletion (told (events s w x) past) ≡ howOften isCompletion past + reported (answerOf s w x)
   step-told r =
       sym (ledger-tallies s (told (events s w x) past) .completions)
       ∙ sym (ap (λ (l : Ledger). l .completedCount) (ledger-told s (events s w x) past))
       ∙ step-booked s w x (ledgerOf s past) k (r .booked) .reports
       ∙ omega (arith, ledger-tallies s past .completions)
 
-fresh-remembered : (s : Setup) → Remembered s (freshWorld s) []
+pub fresh-remembered : (s : Setup) → Remembered s (freshWorld s) []
 unfolding LawfulAll ledgerOf
 fresh-remembered s = record { lawful = tt; booked = fresh-booked s }
 
@@ -144,13 +144,13 @@ module _ {κ} (s : Setup) (P : World → Type κ) (v : Invariant s P) where
 
 -- ---- in the history's words
 module _ (s : Setup) (w : World) (h : List Event) (r : Remembered s w h) where
-  adds-up : AddsUp s h
+  pub adds-up : AddsUp s h
   adds-up = omega (arith, r .booked .tallies, ledger-tallies s h, open-counted s h)
 
-  values-are-last : (o : ℕ) → o < s .objects → valueAt (w .tables) o ≡ lastCompleted o h
+  pub values-are-last : (o : ℕ) → o < s .objects → valueAt (w .tables) o ≡ lastCompleted o h
   values-are-last o p = r .booked .values o p ∙ ledger-posted s h (r .lawful) o
 
-  writes-are-open : (o : ℕ) → o < s .objects → standingWrite (w .tables) o ≡ openIn o h
+  pub writes-are-open : (o : ℕ) → o < s .objects → standingWrite (w .tables) o ≡ openIn o h
   writes-are-open o p = r .booked .writes o p ∙ ledger-open s h o
 
 pub history-agrees {κ} : (s : Setup) (P : World → Type κ) → Invariant s P → inRange s ≡ true → (xs : List Step)
