@@ -38,7 +38,8 @@ use Rattle.protocol.specs.Safety.Delivering.{receiving}
 use Rattle.any_network.specs.Network.{Net, listing, one, receive, after}
 use Rattle.any_network.specs.Halves.{ServerReply, ClientHalf, copyIn, tablesFor, replyIn, clientGranted, clientOffered, quietly}
 use Rattle.any_network.specs.Fleet.{Fleet, byServer, byClient, receives}
-use Rattle.any_network.specs.Blind.{Blind, reviewed, then, settled-clock, renewed-blind, ack-blind, drop-blind}
+use Rattle.any_network.specs.Framing.{then}
+use Rattle.any_network.specs.Blind.{Blind, reviewed, settled-clock, renewed-blind, ack-blind, drop-blind}
 use Rattle.any_network.specs.Represents.{Represents, blind-reply, server-moves}
 use Rattle.any_network.specs.FleetMoves.{client-moves, grant-moves, invalidate-moves, offer-moves}
 

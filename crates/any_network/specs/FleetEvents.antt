@@ -20,8 +20,8 @@ use Rattle.protocol.specs.Setup.{inRange, volumeOf}
 use Rattle.protocol.specs.Ranges.{ranges}
 use Rattle.protocol.specs.Messages.{pushed, removed, emptyQueue}
 use Rattle.protocol.specs.Tables.{withQueue, withViews, freshViews}
-use Rattle.protocol.specs.Writes.{Staged, waits, latestEnd, opened, awaited, notified, written, settling, completed, posted, released, deserted, ready, due, clockStaged, writeStaged}
-use Rattle.protocol.specs.Server.{ackTaken, acked, ackStaged, dropTaken, dropped, disowned, readyIn, dropStaged}
+use Rattle.protocol.specs.Writes.{Staged, waits, latestEnd, opened, awaited, notified, written, settling, completed, clockStaged, writeStaged}
+use Rattle.protocol.specs.Server.{ackTaken, acked, ackStaged, dropTaken, dropped, disowned, dropStaged}
 use Rattle.protocol.specs.Client.{showable}
 use Rattle.protocol.specs.World.{World}
 use Rattle.protocol.specs.Ledger.{completion, completions, receiptStaged, readEvents, happening, accepts, events}
@@ -34,29 +34,29 @@ use Rattle.any_network.specs.Kept.{arrival-accepted}
 use Rattle.any_network.specs.Invariant.{NetOk}
 use Rattle.any_network.specs.Halves.{ServerHalf, tablesFor}
 use Rattle.any_network.specs.Fleet.{Fleet, happensBy, happensAt, fleetEvents}
-use Rattle.any_network.specs.Blind.{Unseen, ready-unseen, due-unseen, ready-in-unseen}
+use Rattle.any_network.specs.Framing.{Unread}
+use Rattle.any_network.specs.Blind.{ready-unseen, due-unseen, ready-in-unseen}
 use Rattle.any_network.specs.Represents.{Represents}
 use Rattle.any_network.specs.FleetRuns.{facts, placeless, same-gate}
 use Rattle.any_network.specs.FleetAnswers.{own-copy, none-accepted}
 
 -- ---- which writes complete does not depend on what the clients know
-module _ (s : Setup) (test : Tables → ℕ → Bool) (b : Unseen test) where
-  settling-unseen : (t : Tables) (u : Views) (j n : ℕ) → settling test s (withViews t u) j n ≡ settling test s t j n
-  unfolding settling completed posted released deserted
-  settling-unseen t u j zero = refl
-  settling-unseen t u j (suc n) =
-      rw (b t u j, settling-unseen (completed s t j) u (j + 1) n, settling-unseen t u (j + 1) n)
+settling-unseen : {s : Setup} {test : Tables → ℕ → Bool} → Unread withViews s test → (t : Tables) (u : Views) (j n : ℕ) → settling test s (withViews t u) j n ≡ settling test s t j n
+unfolding settling
+settling-unseen b t u j zero = refl
+settling-unseen {s} b t u j (suc n) =
+    rw (b .tested t u j, b .completes t u j, settling-unseen b (completed s t j) u (j + 1) n, settling-unseen b t u (j + 1) n)
 
 module _ (s : Setup) (t : Tables) (u : Views) where
   abbrev v : Tables
   v = withViews t u
 
   clock-settles : (T : ℕ) → completions s (clockStaged s v T) ≡ completions s (clockStaged s t T)
-  clock-settles T = ap (map completion) (settling-unseen s (due s) (due-unseen s) _ u 0 (s .objects))
+  clock-settles T = ap (map completion) (settling-unseen (due-unseen s) _ u 0 (s .objects))
 
   write-settles : (o a : ℕ) → completions s (writeStaged s v o a) ≡ completions s (writeStaged s t o a)
   unfolding written notified opened awaited waits latestEnd
-  write-settles o a = ap (map completion) (settling-unseen s (ready s) (ready-unseen s) (written s t o a) u o 1)
+  write-settles o a = ap (map completion) (settling-unseen (ready-unseen s) (written s t o a) u o 1)
 
   write-ends : (o : ℕ) → latestEnd s v o ≡ latestEnd s t o
   unfolding latestEnd waits
@@ -71,9 +71,9 @@ module _ (s : Setup) (t : Tables) (u : Views) where
   receipt-settles d (Renew o n e w) = refl
   receipt-settles d (Grant o n x e w y p) = refl
   receipt-settles d (Invalidate o e w) = refl
-  receipt-settles d (Ack o e w) = staged-either (ackTaken s t o e w) _ _ _ _ (ap (map completion) (settling-unseen s (ready s) (ready-unseen s) (acked t d o) u o 1)) refl
+  receipt-settles d (Ack o e w) = staged-either (ackTaken s t o e w) _ _ _ _ (ap (map completion) (settling-unseen (ready-unseen s) (acked t d o) u o 1)) refl
   receipt-settles d (Offer x n e) = refl
-  receipt-settles d (Dropped x n e) = staged-either (dropTaken t d x n e) _ _ _ _ (ap (map completion) (settling-unseen s (readyIn s x) (ready-in-unseen s x) (dropped s t d x) u 0 (s .objects))) refl
+  receipt-settles d (Dropped x n e) = staged-either (dropTaken t d x n e) _ _ _ _ (ap (map completion) (settling-unseen (ready-in-unseen s x) (dropped s t d x) u 0 (s .objects))) refl
 
 events-accepted : (s : Setup) (w : World) (x : Step) → accepts s w x ≡ true → events s w x ≡ happening s (w .tables) (copyOf s w x) x
 unfolding events

@@ -38,7 +38,8 @@ use Rattle.any_network.specs.Kept.{arrival-accepted, move-keeps, fresh-o
 use Rattle.any_network.specs.Invariant.{NetOk}
 use Rattle.any_network.specs.Halves.{ServerReply, serverClock, serverWrite, serverRestart}
 use Rattle.any_network.specs.Fleet.{Fleet, freshFleet, refusalBy, does, receives, arrives, fleetMoved, fleetMovedAll}
-use Rattle.any_network.specs.Blind.{then, settled-clock, clock-blind, write-blind, restart-blind}
+use Rattle.any_network.specs.Framing.{then}
+use Rattle.any_network.specs.Blind.{settled-clock, clock-blind, write-blind, restart-blind}
 use Rattle.any_network.specs.Represents.{Represents, blind-reply, server-moves, clock-moves, same-refusal}
 use Rattle.any_network.specs.FleetMoves.{ask-moves, restart-moves}
 use Rattle.any_network.specs.FleetArrivals.{arrival-step, arrives-at}

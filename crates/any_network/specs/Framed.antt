@@ -1,10 +1,10 @@
--- Each rule, and each step by its kind, as a function of the message list that it finds: all else that it leaves is the same, and what it sends goes to the end.
+-- No rule reads the message list: each rule, and each step by its kind, leaves the same whatever list it finds, and what it sends goes to the list's end.
 -- Letters: s setup, t tables, q a message list, c a copy, r a request, d client, o object, v volume, T clock, a a value; of a message n number, e epoch, w
 -- version, x and y volume and object expiry, p payload; of a step, x is the step.
-use Prim.Native.Nat.{ℕ, _≤_}
+use Prim.Native.Nat.{ℕ, _≤_, zero, suc, _+_}
 use native.Mathlib.Omega.{arith}
-use mathlib.Core.Bool.{false}
-use mathlib.Core.Path.{refl, ap}
+use mathlib.Core.Bool.{false, Bool, true, cond}
+use mathlib.Core.Path.{refl, ap, _≡_}
 use lib.Dec.{ltb}
 use Rattle.protocol.specs.declared.message.Kind.{Kind}
 use Rattle.protocol.specs.declared.message.Kind.the-variants.{Renew, Grant, Invalidate, Ack, Offer, Dropped}
@@ -17,17 +17,80 @@ use Rattle.protocol.specs.declared.step.Sweep.the-variants as sweep
 use Rattle.protocol.specs.declared.step.Turn.the-variants as request
 use Rattle.protocol.specs.declared.tables.Tables.{Tables}
 use Rattle.protocol.specs.Setup.{volumeOf}
-use Rattle.protocol.specs.Messages.{message}
-use Rattle.protocol.specs.Tables.{withQueue, withViews, withClock}
-use Rattle.protocol.specs.Writes.{unstaged, waits, latestEnd, opened, awaited, begun, notified, settled, written, writeStaged, clockStaged, ready, due, invalidation}
+use Rattle.protocol.specs.Messages.{message, pushed}
+use Rattle.protocol.specs.Tables.{withQueue, withViews, withClock, waitingAt}
+use Rattle.protocol.specs.Writes.{waits, latestEnd, opened, awaited, begun, notified, settled, written, writeStaged, clockStaged, ready, due, invalidation, Counted, completed, posted, released, deserted, waited, notify}
 use Rattle.protocol.specs.Server.{noted, offered, offering, lowestWaited, volumeRenewed, objectRenewed, granting, granted, mustDrop, beingWritten, renewedBy, stale, renewed, ackTaken, acked, ackStaged, dropTaken, dropped, disowned, readyIn, dropStaged, serverRestarted}
 use Rattle.protocol.specs.Client.{showable, stands, viewed, grantStored, renewal}
-use Rattle.protocol.specs.Decide.{kept, uncounted, byServer, byClient, answered, counting, grantReceived, invalidateReceived, offerReceived, received, readDecided, askDecided, restartDecided}
-use Rattle.any_network.specs.Framing.{Frames, recount, rereceive, redecide, quiet, single, either, choice, then, settles, ready-unlisted, due-unlisted, ready-in-unlisted, invalidations, notified-all, invalidations-few}
+use Rattle.protocol.specs.Decide.{kept, uncounted, byServer, byClient, answered, counting, grantReceived, invalidateReceived, offerReceived, received, readDecided, askDecided, restartDecided, Received}
+use Rattle.any_network.specs.Framing.{Frames, Unread, recounted, quiet, single, either, choice, then, settling}
+use mathlib.Core.List.{List, [], _∷_}
+use lib.ListN.{length}
+use Rattle.laws.specs.Loop.{foldFrom}
+use Rattle.protocol.specs.declared.message.Message.{Message}
+use Rattle.protocol.specs.declared.message.Queue.{Queue}
+use Rattle.protocol.specs.declared.step.Decision.{Decision}
+use Rattle.protocol.specs.Leases.{guardPassed}
+use Rattle.any_network.specs.Lists.{pushAll}
+
+abbrev pub Sends : {A : Type 0} → (A → Queue → A) → (Queue → A) → Type 0
+Sends put f = Frames put pushAll f
+
+-- the message list put into what a rule leaves
+abbrev pub recount : Counted → Queue → Counted
+recount c q = recounted withQueue c q
+
+abbrev pub rereceive : Received → Queue → Received
+rereceive g q = record { change = g .change; counted = recount (g .counted) q }
+
+abbrev pub redecide : Decision → Queue → Decision
+redecide g q = record { change = g .change; outcome = record { answer = g .outcome .answer; tables = withQueue (g .outcome .tables) q } }
+
+-- ---- completing writes
+ready-unlisted : (s : Setup) → Unread withQueue s (ready s)
+unfolding ready waited guardPassed completed posted released deserted
+ready-unlisted s = record { tested = λ t q o. refl; completes = λ t q o. refl }
+
+due-unlisted : (s : Setup) → Unread withQueue s (due s)
+unfolding due waited guardPassed completed posted released deserted
+due-unlisted s = record { tested = λ t q o. refl; completes = λ t q o. refl }
+
+ready-in-unlisted : (s : Setup) (v : ℕ) → Unread withQueue s (readyIn s v)
+unfolding ready waited guardPassed completed posted released deserted
+ready-in-unlisted s v = record { tested = λ t q o. refl; completes = λ t q o. refl }
+
+none-unlisted : (s : Setup) → Unread withQueue s (λ t o. false)
+unfolding completed posted released deserted
+none-unlisted s = record { tested = λ t q o. refl; completes = λ t q o. refl }
+
+-- ---- the INVALIDATEs of a write
+unfoldable pub invalidations : Setup → Tables → ℕ → ℕ → ℕ → List Message
+invalidations s t o j zero = []
+invalidations s t o j (suc n) = cond (waitingAt t j o) (invalidation s t o j ∷ invalidations s t o (j + 1) n) (invalidations s t o (j + 1) n)
+
+module _ (s : Setup) (t : Tables) (o : ℕ) where
+  pub notified-all : (q : Queue) (j n : ℕ) → foldFrom (notify s t o) q j n ≡ pushAll q (invalidations s t o j n)
+  unfolding foldFrom pushAll invalidations
+  notified-all q j zero = refl
+  notified-all q j (suc n) = by (waitingAt t j o) (λ k. notified-all k (j + 1) n)
+    where
+      by : (b : Bool) → ((k : Queue) → foldFrom (notify s t o) k (j + 1) n ≡ pushAll k (invalidations s t o (j + 1) n))
+          → foldFrom (notify s t o) (cond b (pushed q (invalidation s t o j)) q) (j + 1) n ≡ pushAll q (cond b (invalidation s t o j ∷ invalidations s t o (j + 1) n) (invalidations s t o (j + 1) n))
+      by true h = h (pushed q (invalidation s t o j))
+      by false h = h q
+
+  pub invalidations-few : (j n : ℕ) → length (invalidations s t o j n) ≤ n
+  unfolding invalidations
+  invalidations-few j zero = omega arith
+  invalidations-few j (suc n) = by (waitingAt t j o) (invalidations-few (j + 1) n)
+    where
+      by : (b : Bool) → length (invalidations s t o (j + 1) n) ≤ n → length (cond b (invalidation s t o j ∷ invalidations s t o (j + 1) n) (invalidations s t o (j + 1) n)) ≤ suc n
+      by true h = omega arith
+      by false h = omega arith
 
 module _ (s : Setup) (t : Tables) where
   -- ---- the server receives
-  renewed-frames : (d o n e w : ℕ) → Frames withQueue (λ q. renewed s (withQueue t q) d o n e w)
+  renewed-frames : (d o n e w : ℕ) → Sends withQueue (λ q. renewed s (withQueue t q) d o n e w)
   unfolding renewed renewedBy noted offered lowestWaited volumeRenewed objectRenewed granted mustDrop
   renewed-frames d o n e w =
       choice (stale t d n) _ _ (quiet t)
@@ -36,22 +99,22 @@ module _ (s : Setup) (t : Tables) where
       (choice (beingWritten t o) _ _ (quiet (noted t d n))
       (single (objectRenewed s (volumeRenewed s (noted t d n) d (volumeOf s o)) d o) (granting s (noted t d n) d o n w)))))
 
-  ack-frames : (d o e w : ℕ) → Frames recount (λ q. settled s (ackStaged s (withQueue t q) d o e w))
+  ack-frames : (d o e w : ℕ) → Sends recount (λ q. settled s (ackStaged s (withQueue t q) d o e w))
   unfolding ackStaged ackTaken acked
   ack-frames d o e w =
       either (settled s) (ackTaken s t o e w) _ _
-      (then (λ (u : Tables). settled s (record { tables = u; test = ready s; from = o; many = 1 })) (settles s (ready s) (ready-unlisted s) o 1) _ (quiet (acked t d o)))
-      (then (λ (u : Tables). settled s (unstaged u)) (settles s (λ u o. false) (λ u q o. refl) 0 0) _ (quiet t))
+      (settling (ready-unlisted s) o 1 _ (quiet (acked t d o)))
+      (settling (none-unlisted s) 0 0 _ (quiet t))
 
-  drop-frames : (d v n e : ℕ) → Frames recount (λ q. settled s (dropStaged s (withQueue t q) d v n e))
+  drop-frames : (d v n e : ℕ) → Sends recount (λ q. settled s (dropStaged s (withQueue t q) d v n e))
   unfolding dropStaged dropTaken dropped disowned
   drop-frames d v n e =
       either (settled s) (dropTaken t d v n e) _ _
-      (then (λ (u : Tables). settled s (record { tables = u; test = readyIn s v; from = 0; many = s .objects })) (settles s (readyIn s v) (ready-in-unlisted s v) 0 (s .objects)) _ (quiet (dropped s t d v)))
-      (then (λ (u : Tables). settled s (unstaged u)) (settles s (λ u o. false) (λ u q o. refl) 0 0) _ (quiet t))
+      (settling (ready-in-unlisted s v) 0 (s .objects) _ (quiet (dropped s t d v)))
+      (settling (none-unlisted s) 0 0 _ (quiet t))
 
   -- ---- any message received, by the server or by its client
-  pub received-frames : (c : Copy) (r : Request) (d : ℕ) (k : Kind) → Frames rereceive (λ q. received s (withQueue t q) c r d k)
+  pub received-frames : (c : Copy) (r : Request) (d : ℕ) (k : Kind) → Sends rereceive (λ q. received s (withQueue t q) c r d k)
   unfolding received grantReceived invalidateReceived offerReceived
   received-frames c r d (Renew o n e w) = then (λ (u : Tables). byServer (uncounted u)) (λ u q. refl) _ (renewed-frames d o n e w)
   received-frames c r d (Grant o n x e w y p) =
@@ -63,18 +126,18 @@ module _ (s : Setup) (t : Tables) where
   received-frames c r d (Dropped v n e) = then byServer (λ u q. refl) _ (drop-frames d v n e)
 
   -- ---- the steps of one's own
-  pub clock-frames : (T : ℕ) → Frames redecide (λ q. counting (settled s (clockStaged s (withQueue t q) T)))
-  clock-frames T = then {put = recount} counting (λ c q. refl) _ (then (λ (u : Tables). settled s (record { tables = u; test = due s; from = 0; many = s .objects })) (settles s (due s) (due-unlisted s) 0 (s .objects)) _ (quiet (withClock t T)))
+  pub clock-frames : (T : ℕ) → Sends redecide (λ q. counting (settled s (clockStaged s (withQueue t q) T)))
+  clock-frames T = then {put = recount} counting (λ c q. refl) _ (settling (due-unlisted s) 0 (s .objects) _ (quiet (withClock t T)))
 
-  pub read-frames : (c : Copy) (d o : ℕ) → Frames redecide (λ q. readDecided s (withQueue t q) c d o)
+  pub read-frames : (c : Copy) (d o : ℕ) → Sends redecide (λ q. readDecided s (withQueue t q) c d o)
   unfolding readDecided showable
   read-frames c d o = choice (showable s t c d o) _ _ (quiet (answered kept t (answer.Shown (c .value)))) (quiet (answered kept t answer.AskFirst))
 
-  pub ask-frames : (c : Copy) (r : Request) (d o : ℕ) → Frames redecide (λ q. askDecided s (withQueue t q) c r d o)
+  pub ask-frames : (c : Copy) (r : Request) (d o : ℕ) → Sends redecide (λ q. askDecided s (withQueue t q) c r d o)
   unfolding askDecided
   ask-frames c r d o = single (askDecided s t c r d o) (renewal s t c r d o)
 
-  written-frames : (o a : ℕ) → s .clients ≤ 16 → Frames withQueue (λ q. written s (withQueue t q) o a)
+  written-frames : (o a : ℕ) → s .clients ≤ 16 → Sends withQueue (λ q. written s (withQueue t q) o a)
   unfolding written notified opened awaited waits latestEnd
   written-frames o a h = record {
     rest = begun s t o a;
@@ -83,15 +146,15 @@ module _ (s : Setup) (t : Tables) where
     same = λ q. ap (withQueue (begun s t o a)) (notified-all s (begun s t o a) o q 0 (s .clients));
   }
 
-  pub write-frames : (o a : ℕ) → s .clients ≤ 16 → Frames redecide (λ q. counting (settled s (writeStaged s (withQueue t q) o a)))
+  pub write-frames : (o a : ℕ) → s .clients ≤ 16 → Sends redecide (λ q. counting (settled s (writeStaged s (withQueue t q) o a)))
   write-frames o a h =
       then {put = recount} counting (λ c q. refl) _
-      (then (λ (u : Tables). settled s (record { tables = u; test = ready s; from = o; many = 1 })) (settles s (ready s) (ready-unlisted s) o 1) _ (written-frames o a h))
+      (settling (ready-unlisted s) o 1 _ (written-frames o a h))
 
-  pub server-frames : Frames redecide (λ q. answered kept (serverRestarted s (withQueue t q)) answer.Done)
+  pub server-frames : Sends redecide (λ q. answered kept (serverRestarted s (withQueue t q)) answer.Done)
   unfolding serverRestarted
   server-frames = quiet (answered kept (serverRestarted s t) answer.Done)
 
-  pub client-frames : (d : ℕ) → Frames redecide (λ q. restartDecided s (withQueue t q) d)
+  pub client-frames : (d : ℕ) → Sends redecide (λ q. restartDecided s (withQueue t q) d)
   unfolding restartDecided
   client-frames d = quiet (restartDecided s t d)

@@ -5,7 +5,7 @@ use native.Mathlib.Omega.{arith}
 use mathlib.Core.Bool.{true, false, not, _&&_, _||_}
 use mathlib.Core.List.{List}
 use mathlib.Core.Logic.{⊎-elim}
-use mathlib.Core.Path.{_≡_, refl, _∙_}
+use mathlib.Core.Path.{_≡_, refl}
 use lib.Dec.{ltb}
 use lib.ListN.{length, getD}
 use borrow.Author.Tests.{ne-eqb, lt-ltb}
@@ -28,8 +28,8 @@ use Rattle.protocol.specs.Soundness.StepCases.{Passed, accepted, by-kind, reque
 use Rattle.protocol.specs.Soundness.Question.{SoundWorld, sounds}
 use Rattle.any_network.specs.Network.{listing, receive}
 use Rattle.any_network.specs.Lists.{pushAll}
-use Rattle.any_network.specs.Framing.{Frames, redecide}
-use Rattle.any_network.specs.Framed.{received-frames, clock-frames, read-frames, ask-frames, write-frames, server-frames, client-frames}
+use Rattle.any_network.specs.Framing.{alike}
+use Rattle.any_network.specs.Framed.{Sends, redecide, received-frames, clock-frames, read-frames, ask-frames, write-frames, server-frames, client-frames}
 
 -- what a step leaves on each list q that it is made on, where what it finds there is `seen q`
 pub record Leaves (s : Setup) (w : World) (x : Step) (seen : Queue → Queue → Type 0) : Type 0 where
@@ -37,9 +37,6 @@ pub record Leaves (s : Setup) (w : World) (x : Step) (seen : Queue → Queue →
   pub out : List Message
   pub few : length out ≤ 16
   pub same : (p q : Queue) → seen p q → accepts s (listing w p) x ≡ true → stepped s (listing w p) x ≡ listing rest (pushAll q out)
-
-alike : {A : Type 0} {put : A → Queue → A} (f g : Queue → A) → ((q : Queue) → f q ≡ g q) → Frames put g → Frames put f
-alike f g e k = record { rest = k .rest; out = k .out; few = k .few; same = λ q. e q ∙ k .same q }
 
 -- ---- a step of one's own: the list is found and left with what it sent
 module _ (s : Setup) (w : World) (x : Step) (a : accepts s (listing w emptyQueue) x ≡ true) where
@@ -61,9 +58,9 @@ module _ (s : Setup) (w : World) (x : Step) (a : accepts s (listing w emptyQueue
   abbrev request : Request
   request = getD (w .requests) (mine .client) noRequest
 
-  frames : s .clients ≤ 16 → Frames redecide (λ q. performed s (withQueue (w .tables) q) copy request x)
+  frames : s .clients ≤ 16 → Sends redecide (λ q. performed s (withQueue (w .tables) q) copy request x)
   frames h =
-      by-kind (Frames redecide (λ q. performed s (withQueue (w .tables) q) copy request x)) x (passes .knows)
+      by-kind (Sends redecide (λ q. performed s (withQueue (w .tables) q) copy request x)) x (passes .knows)
       (λ e. alike _ _ (λ q. clock-performed s (withQueue (w .tables) q) copy request x e) (clock-frames s (w .tables) (x .clock)))
       (λ e. alike _ _ (λ q. read-performed s (withQueue (w .tables) q) copy request x e) (read-frames s (w .tables) copy (x .client) (x .object)))
       (λ e. alike _ _ (λ q. ask-performed s (withQueue (w .tables) q) copy request x e) (ask-frames s (w .tables) copy request (x .client) (x .object)))
