@@ -2,8 +2,10 @@
 -- Letters: s setup, t tables, u what the clients know, A what a rule leaves, put how what they know is put into it, f a rule as a function of it; d client, o
 -- object, v volume, T clock, a a value; of a message n number, e epoch, w version.
 use Prim.Native.Nat.{ℕ}
+use native.Mathlib.Omega.{arith}
 use mathlib.Core.Bool.{false}
 use mathlib.Core.Path.{_≡_, refl}
+use mathlib.Core.List.{[]}
 use lib.Dec.{ltb}
 use Rattle.laws.specs.Loop.{fold-keeps}
 use Rattle.laws.specs.Choice.{cond-keeps}
@@ -15,8 +17,6 @@ use Rattle.protocol.specs.Tables.{withViews, withClock}
 use Rattle.protocol.specs.Leases.{guardPassed}
 use Rattle.protocol.specs.Writes.{Counted, Staged, waits, latestEnd, opened, awaited, notified, completeIf, settled, completed, posted, released, deserted, written, writeStaged, clockStaged, ready, due, waited, invalidation}
 use Rattle.protocol.specs.Server.{sent, noted, offered, offering, lowestWaited, volumeRenewed, objectRenewed, granted, mustDrop, beingWritten, renewedBy, stale, renewed, ackTaken, acked, ackStaged, dropTaken, dropped, disowned, readyIn, dropStaged, serverRestarted}
-use native.Mathlib.Omega.{arith}
-use mathlib.Core.List.{[]}
 use Rattle.any_network.specs.Framing.{Frames, Unread, recounted, either, choice, settling}
 
 abbrev pub Blind : {A : Type 0} → (A → Views → A) → (Views → A) → Type 0

@@ -6,18 +6,22 @@ use mathlib.Core.List.{List}
 use mathlib.Core.Logic.{_⊎_, ⊎-elim}
 use mathlib.Core.Path.{_≡_, refl, sym, ap, _∙_}
 use Rattle.laws.specs.Choice.{true-or-false, cond-keeps}
+use Rattle.laws.specs.Lists.{removeAt}
 use Rattle.protocol.specs.declared.message.Message.{Message}
 use Rattle.protocol.specs.declared.records.Copy.{Copy}
 use Rattle.protocol.specs.declared.setup.Setup.{Setup}
 use Rattle.protocol.specs.declared.step.Answer.the-variants as answer
 use Rattle.protocol.specs.declared.step.Step.{Step}
 use Rattle.protocol.specs.declared.tables.Tables.{Tables}
+use Rattle.protocol.specs.declared.message.Kind.{Kind}
+use Rattle.protocol.specs.declared.message.Kind.the-variants.{Renew, Grant, Invalidate, Ack, Offer, Dropped}
+use Rattle.protocol.specs.declared.records.Request.{Request}
 use Rattle.protocol.specs.Setup.{inRange, volumeOf}
 use Rattle.protocol.specs.Ranges.{ranges}
 use Rattle.protocol.specs.Messages.{emptyQueue, pushed, removed}
 use Rattle.protocol.specs.Tables.{withQueue, withViews}
 use Rattle.protocol.specs.Writes.{settled, clockStaged, writeStaged, Counted}
-use Rattle.protocol.specs.Server.{sent, ackStaged, dropStaged}
+use Rattle.protocol.specs.Server.{ackStaged, dropStaged}
 use Rattle.protocol.specs.Client.{showable, stands}
 use Rattle.protocol.specs.Answers.{completedAnswer}
 use Rattle.protocol.specs.Gate.{known, exists, refusalOfStep, refusal}
@@ -26,6 +30,7 @@ use Rattle.protocol.specs.World.{World, target, answerOf}
 use Rattle.protocol.specs.Ledger.{accepts}
 use Rattle.protocol.specs.Soundness.StepCases.{by-kind, copyOf, requestOf, performedOf, accepted-answer, refused-answer, client-exists, object-exists, clock-performed, read-performed, ask-performed, write-performed, server-performed, client-performed, deliver-performed}
 use Rattle.protocol.specs.Safety.View.{copyAt}
+use Rattle.protocol.specs.Soundness.Question.{sounds}
 use Rattle.any_network.specs.Network.{Net, Move, own, arrival, listing, one, arriving, sentAt, receive, answerTo}
 use Rattle.any_network.specs.Lists.{In, sent-in}
 use Rattle.any_network.specs.Kept.{arrival-accepted}
@@ -34,12 +39,6 @@ use Rattle.any_network.specs.Halves.{ServerReply, copyIn, serverClock, s
 use Rattle.any_network.specs.Fleet.{Fleet, doneAnswer, readAnswer, ownAnswer, arrivalAnswer, fleetAnswer}
 use Rattle.any_network.specs.Blind.{clock-blind, write-blind, Blind, reviewed, ack-blind, drop-blind}
 use Rattle.any_network.specs.Represents.{Represents, blind-reply, same-refusal}
-use Rattle.laws.specs.Lists.{removeAt}
-use Rattle.protocol.specs.declared.message.Kind.{Kind}
-use Rattle.protocol.specs.declared.message.Kind.the-variants.{Renew, Grant, Invalidate, Ack, Offer, Dropped}
-use Rattle.protocol.specs.declared.records.Request.{Request}
-use Rattle.protocol.specs.Sound.{sound}
-use Rattle.protocol.specs.Soundness.Question.{sounds}
 use Rattle.any_network.specs.FleetRuns.{own-target, facts, placeless, same-gate}
 
 module _ (s : Setup) (i : inRange s ≡ true) (n : Net) (f : Fleet) (ok : NetOk s n) (r : Represents s n f) where

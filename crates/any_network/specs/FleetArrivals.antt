@@ -41,7 +41,8 @@ use Rattle.any_network.specs.Fleet.{Fleet, byServer, byClient, receives}
 use Rattle.any_network.specs.Framing.{then}
 use Rattle.any_network.specs.Blind.{Blind, reviewed, settled-clock, renewed-blind, ack-blind, drop-blind}
 use Rattle.any_network.specs.Represents.{Represents, blind-reply, server-moves}
-use Rattle.any_network.specs.FleetMoves.{client-moves, grant-moves, invalidate-moves, offer-moves}
+use Rattle.any_network.specs.ClientMoves.{client-moves}
+use Rattle.any_network.specs.ClientRules.{grant-moves, invalidate-moves, offer-moves}
 
 -- 01's step 5 on the one message
 pub arrival-step : (s : Setup) (w : World) (m : Message) → accepts s (listing w (one m)) receive ≡ true

@@ -20,11 +20,11 @@ use Rattle.protocol.specs.declared.step.Decision.{Decision}
 use Rattle.protocol.specs.declared.step.Step.{Step}
 use Rattle.protocol.specs.declared.tables.Tables.{Tables}
 use Rattle.protocol.specs.Setup.{inRange}
-use Rattle.protocol.specs.Messages.{messages, emptyQueue}
+use Rattle.protocol.specs.Messages.{emptyQueue}
 use Rattle.protocol.specs.Tables.{byVolume, withQueue, withViews, noCopy, noRequest, freshRequest, freshTables}
 use Rattle.protocol.specs.Leases.{clientClock}
 use Rattle.protocol.specs.Writes.{settled, clockStaged, writeStaged, written}
-use Rattle.protocol.specs.Server.{sent, serverRestarted}
+use Rattle.protocol.specs.Server.{serverRestarted}
 use Rattle.protocol.specs.Client.{showable, sweptAll}
 use Rattle.protocol.specs.Gate.{usesPlace}
 use Rattle.protocol.specs.Decide.{kept, answered, uncounted, readDecided, askDecided, restartDecided}
@@ -41,7 +41,7 @@ use Rattle.any_network.specs.Fleet.{Fleet, freshFleet, refusalBy, does, 
 use Rattle.any_network.specs.Framing.{then}
 use Rattle.any_network.specs.Blind.{settled-clock, clock-blind, write-blind, restart-blind}
 use Rattle.any_network.specs.Represents.{Represents, blind-reply, server-moves, clock-moves, same-refusal}
-use Rattle.any_network.specs.FleetMoves.{ask-moves, restart-moves}
+use Rattle.any_network.specs.ClientRules.{ask-moves, restart-moves}
 use Rattle.any_network.specs.FleetArrivals.{arrival-step, arrives-at}
 
 module _ (s : Setup) (i : inRange s ≡ true) (n : Net) (f : Fleet) (ok : NetOk s n) (r : Represents s n f) where

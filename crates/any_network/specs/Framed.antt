@@ -5,7 +5,10 @@ use Prim.Native.Nat.{ℕ, _≤_, zero, suc, _+_}
 use native.Mathlib.Omega.{arith}
 use mathlib.Core.Bool.{false, Bool, true, cond}
 use mathlib.Core.Path.{refl, ap, _≡_}
+use mathlib.Core.List.{List, [], _∷_}
 use lib.Dec.{ltb}
+use lib.ListN.{length}
+use Rattle.laws.specs.Loop.{foldFrom}
 use Rattle.protocol.specs.declared.message.Kind.{Kind}
 use Rattle.protocol.specs.declared.message.Kind.the-variants.{Renew, Grant, Invalidate, Ack, Offer, Dropped}
 use Rattle.protocol.specs.declared.records.Copy.{Copy}
@@ -16,6 +19,9 @@ use Rattle.protocol.specs.declared.step.CopyChange.the-variants as copy
 use Rattle.protocol.specs.declared.step.Sweep.the-variants as sweep
 use Rattle.protocol.specs.declared.step.Turn.the-variants as request
 use Rattle.protocol.specs.declared.tables.Tables.{Tables}
+use Rattle.protocol.specs.declared.message.Message.{Message}
+use Rattle.protocol.specs.declared.message.Queue.{Queue}
+use Rattle.protocol.specs.declared.step.Decision.{Decision}
 use Rattle.protocol.specs.Setup.{volumeOf}
 use Rattle.protocol.specs.Messages.{message, pushed}
 use Rattle.protocol.specs.Tables.{withQueue, withViews, withClock, waitingAt}
@@ -23,14 +29,8 @@ use Rattle.protocol.specs.Writes.{waits, latestEnd, opened, awaited, begun, not
 use Rattle.protocol.specs.Server.{noted, offered, offering, lowestWaited, volumeRenewed, objectRenewed, granting, granted, mustDrop, beingWritten, renewedBy, stale, renewed, ackTaken, acked, ackStaged, dropTaken, dropped, disowned, readyIn, dropStaged, serverRestarted}
 use Rattle.protocol.specs.Client.{showable, stands, viewed, grantStored, renewal}
 use Rattle.protocol.specs.Decide.{kept, uncounted, byServer, byClient, answered, counting, grantReceived, invalidateReceived, offerReceived, received, readDecided, askDecided, restartDecided, Received}
-use Rattle.any_network.specs.Framing.{Frames, Unread, recounted, quiet, single, either, choice, then, settling}
-use mathlib.Core.List.{List, [], _∷_}
-use lib.ListN.{length}
-use Rattle.laws.specs.Loop.{foldFrom}
-use Rattle.protocol.specs.declared.message.Message.{Message}
-use Rattle.protocol.specs.declared.message.Queue.{Queue}
-use Rattle.protocol.specs.declared.step.Decision.{Decision}
 use Rattle.protocol.specs.Leases.{guardPassed}
+use Rattle.any_network.specs.Framing.{Frames, Unread, recounted, quiet, single, either, choice, then, settling}
 use Rattle.any_network.specs.Lists.{pushAll}
 
 abbrev pub Sends : {A : Type 0} → (A → Queue → A) → (Queue → A) → Type 0

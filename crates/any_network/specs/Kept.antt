@@ -15,7 +15,7 @@ use Rattle.protocol.specs.declared.setup.Setup.{Setup}
 use Rattle.protocol.specs.declared.step.Step.{Step}
 use Rattle.protocol.specs.Setup.{inRange}
 use Rattle.protocol.specs.Ranges.{ranges}
-use Rattle.protocol.specs.Messages.{messages, pushed, removed, emptyQueue}
+use Rattle.protocol.specs.Messages.{pushed, removed, emptyQueue}
 use Rattle.protocol.specs.World.{World, stepped}
 use Rattle.protocol.specs.Ledger.{accepts}
 use Rattle.protocol.specs.Soundness.StepCases.{refused-keeps}

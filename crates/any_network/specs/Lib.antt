@@ -13,7 +13,8 @@ pub mod NetAgreed
 pub mod StorageAgreed
 pub mod Blind
 pub mod Represents
-pub mod FleetMoves
+pub mod ClientMoves
+pub mod ClientRules
 pub mod FleetArrivals
 pub mod FleetRuns
 pub mod FleetAnswers

@@ -15,7 +15,7 @@ use Rattle.protocol.specs.Setup.{inRange}
 use Rattle.protocol.specs.Messages.{messages, emptyQueue}
 use Rattle.protocol.specs.Tables.{withQueue, withViews, viewEpochAt, viewExpiryAt, noRequest, freshViews, freshTables}
 use Rattle.protocol.specs.Leases.{clientClock}
-use Rattle.protocol.specs.Sound.{sound, canGrow}
+use Rattle.protocol.specs.Sound.{canGrow}
 use Rattle.protocol.specs.Gate.{isClock, isAsk, isWrite, isRestartServer, known, exists, timely, vacant, growable, orRefuse, refusalOfStep, refusal}
 use Rattle.protocol.specs.Writes.{Counted}
 use Rattle.protocol.specs.World.{World, target}

@@ -1,5 +1,5 @@
--- Every move of a net and of the fleet that it represents leaves a net and the fleet that it represents.
--- Letters: those of Fleet; k is another client, or a message's kind; q a request.
+-- A client's rules, in a net and in a fleet that represents it: ask, GRANT, INVALIDATE, OFFER, restart. Each leaves a net and a fleet that represents it.
+-- Letters: those of Represents; d is the client, k another, q a request, z a copy, g a sweep, l a list.
 use Prim.Native.Nat.{ℕ, zero, suc, _+_, _*_, _<_}
 use native.Mathlib.Omega.{arith}
 use mathlib.Core.Bool.{true}
@@ -8,10 +8,8 @@ use mathlib.Core.Logic.{⊎-elim}
 use mathlib.Core.Path.{_≡_, refl, sym, ap, _∙_}
 use lib.ListN.{getD, set, length, length-set, length-replicate}
 use lib.Seq.{getD-set-same, getD-set-other}
-use Rattle.laws.specs.Choice.{same?}
 use Rattle.laws.specs.Each.{replicate-at}
 use Rattle.laws.specs.Store.{storeEach, always, store-hit, store-other}
-use Rattle.laws.specs.Updated.{updated, updated-same, updated-other}
 use Rattle.protocol.specs.declared.message.Kind.the-variants.{Renew, Ack, Dropped}
 use Rattle.protocol.specs.declared.records.Copy.{Copy}
 use Rattle.protocol.specs.declared.records.Request.{Request}
@@ -21,7 +19,7 @@ use Rattle.protocol.specs.declared.step.Sweep.the-variants as sweep
 use Rattle.protocol.specs.declared.tables.Tables.{Tables}
 use Rattle.protocol.specs.Setup.{inRange, volumeOf}
 use Rattle.protocol.specs.Ranges.{Ranges, ranges}
-use Rattle.protocol.specs.Messages.{message, messages, pushed, emptyQueue}
+use Rattle.protocol.specs.Messages.{message, pushed, emptyQueue}
 use Rattle.protocol.specs.Tables.{withQueue, withViews, byVolume, viewEpochAt, viewExpiryAt, noCopy, noRequest}
 use Rattle.protocol.specs.Server.{sent}
 use Rattle.protocol.specs.Client.{numbered, ended, turned, viewed, forgotten, swept, sweptAll, clientRestarted}
@@ -32,9 +30,10 @@ use Rattle.protocol.specs.Safety.Stores.{After, off-place, volume-fits, volume-
 use Rattle.protocol.specs.Safety.Sweeping.{swept-own, swept-other}
 use Rattle.protocol.specs.Safety.Requests.{has-record}
 use Rattle.any_network.specs.Network.{Net, listing, after}
-use Rattle.any_network.specs.Halves.{ServerHalf, ClientHalf, ClientReply, copyIn, sweptFrom, serverIn, clientAsk, clientRestart, clientGranted, clientInvalidated, clientOffered, quietly}
+use Rattle.any_network.specs.Halves.{ClientHalf, copyIn, sweptFrom, clientAsk, clientRestart, clientGranted, clientInvalidated, clientOffered, quietly}
 use Rattle.any_network.specs.Fleet.{Fleet, byClient}
 use Rattle.any_network.specs.Represents.{IsClient, ClientShape, Represents}
+use Rattle.any_network.specs.ClientMoves.{client-moves}
 
 -- a row of a table after a store into it, and the same row by itself
 after-stored : {A : Type 0} (l : List A) (y : A) {d v u : ℕ} {got new old : A} → v < length l → After d v d u got new old → old ≡ getD l u y → got ≡ getD (set l v new) u y
@@ -53,51 +52,6 @@ unfolding sweptFrom
 swept-length s g [] j = refl
 swept-length s g (z ∷ l) j = ap suc (swept-length s g l (suc j))
 
--- ---- what a move of client d leaves
-module _ (s : Setup) (n : Net) (f : Fleet) (r : Represents s n f) (d : ℕ) where
-  -- of another client nothing that it knows or holds, and no request
-  pub record Others (w : World) : Type 0 where
-    pub epoch : (k v : ℕ) → v < s .volumes → (k ≡ d → ⊥) → viewEpochAt (w .tables) k v ≡ viewEpochAt (n .world .tables) k v
-    pub expiry : (k v : ℕ) → v < s .volumes → (k ≡ d → ⊥) → viewExpiryAt (w .tables) k v ≡ viewExpiryAt (n .world .tables) k v
-    pub copy : (k o : ℕ) → o < s .objects → (k ≡ d → ⊥) → copyAt s (w .copies) k o ≡ copyAt s (n .world .copies) k o
-    pub request : (k : ℕ) → (k ≡ d → ⊥) → requestAt (w .requests) k ≡ requestAt (n .world .requests) k
-
-  pub client-moves : (w : World) (g : ClientReply) → serverIn (w .tables) ≡ serverIn (n .world .tables) → messages (w .tables .queue) ≡ g .out
-      → IsClient s w d (g .half) → Others w → Represents s (after n w) (byClient f d g)
-  client-moves w g e m mine o = record {
-    server = e ∙ r .server;
-    clients = λ k hk. ⊎-elim (λ a. here k a) (λ a. there k hk a) (same? k d);
-    sent = rw (m, r .sent);
-  }
-    where
-      clock-same : w .tables .clock ≡ n .world .tables .clock
-      clock-same = ap (λ (h : ServerHalf). h .clock) e
-
-      at-d : (k : ℕ) → k ≡ d → updated (f .clients) d (g .half) k ≡ g .half
-      at-d k a = rw a (updated-same (f .clients) d (g .half))
-
-      own-is : (k : ℕ) → k ≡ d → (z : ClientHalf) → z ≡ g .half → IsClient s (listing w emptyQueue) k z
-      own-is k a z b = rw (a, b) (record { clock = mine .clock; epoch = mine .epoch; expiry = mine .expiry; copy = mine .copy; request = mine .request; shape = mine .shape })
-
-      here : (k : ℕ) → k ≡ d → IsClient s (listing w emptyQueue) k (updated (f .clients) d (g .half) k)
-      here k a = own-is k a (updated (f .clients) d (g .half) k) (at-d k a)
-
-      other-is : (k : ℕ) → k < s .clients → (k ≡ d → ⊥) → (z : ClientHalf) → z ≡ f .clients k → IsClient s (listing w emptyQueue) k z
-      other-is k hk a z b =
-          let c = r .clients k hk in
-          rw b (record {
-            clock = rw clock-same (c .clock);
-            epoch = λ v h. o .epoch k v h a ∙ c .epoch v h;
-            expiry = λ v h. o .expiry k v h a ∙ c .expiry v h;
-            copy = λ i h. o .copy k i h a ∙ c .copy i h;
-            request = o .request k a ∙ c .request;
-            shape = c .shape;
-          })
-
-      there : (k : ℕ) → k < s .clients → (k ≡ d → ⊥) → IsClient s (listing w emptyQueue) k (updated (f .clients) d (g .half) k)
-      there k hk a = other-is k hk a (updated (f .clients) d (g .half) k) (updated-other (f .clients) d k (g .half) a)
-
--- ---- the client's rules
 module _ (s : Setup) (i : inRange s ≡ true) (n : Net) (f : Fleet) (r : Represents s n f) (shape : WorldShape s (listing (n .world) emptyQueue)) (d : ℕ) (hd : d < s .clients) where
   abbrev w : World
   w = n .world
