@@ -1,4 +1,4 @@
--- A move of one client: what it leaves of that client is its half, and of the others nothing changes.
+-- A move of client d: afterwards the world has of it what its half has, and nothing changes for the others. So the fleet still represents the net.
 -- Letters: those of Represents; d is the client, k another, g the reply of its half, m that the messages are those sent, e that the server's tables stay.
 use Prim.Native.Nat.{ℕ, _<_}
 use mathlib.Core.Logic.{⊎-elim}
@@ -16,7 +16,7 @@ use Rattle.any_network.specs.Fleet.{Fleet, byClient}
 use Rattle.any_network.specs.Represents.{IsClient, Represents}
 
 module _ (s : Setup) (n : Net) (f : Fleet) (r : Represents s n f) (d : ℕ) where
-  -- of another client nothing that it knows or holds, and no request
+  -- nothing changes that another client knows, holds or asks for
   pub record Others (w : World) : Type 0 where
     pub epoch : (k v : ℕ) → v < s .volumes → (k ≡ d → ⊥) → viewEpochAt (w .tables) k v ≡ viewEpochAt (n .world .tables) k v
     pub expiry : (k v : ℕ) → v < s .volumes → (k ≡ d → ⊥) → viewExpiryAt (w .tables) k v ≡ viewExpiryAt (n .world .tables) k v

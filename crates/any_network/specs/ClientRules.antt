@@ -35,12 +35,12 @@ use Rattle.any_network.specs.Fleet.{Fleet, byClient}
 use Rattle.any_network.specs.Represents.{IsClient, ClientShape, Represents}
 use Rattle.any_network.specs.ClientMoves.{client-moves}
 
--- a row of a table after a store into it, and the same row by itself
+-- a row after a store into a table of all clients is the row after a store into the client's own list
 after-stored : {A : Type 0} (l : List A) (y : A) {d v u : ℕ} {got new old : A} → v < length l → After d v d u got new old → old ≡ getD l u y → got ≡ getD (set l v new) u y
 after-stored l y {d} {v} {u} {got} {new} h a e =
     ⊎-elim (λ b. b .2 ∙ sym (rw (b .1) (getD-set-same l v new y h))) (λ b. b .1 ∙ e ∙ sym (getD-set-other l v u new y (b .0 refl))) a
 
--- a sweep over copies of one client alone
+-- a sweep over one client's own list
 swept-at : (s : Setup) (g : Sweep) (l : List Copy) (j k : ℕ) → k < length l → getD (sweptFrom s g l j) k noCopy ≡ swept s g (getD l k noCopy) (j + k)
 unfolding sweptFrom
 swept-at s g [] j k h = absurd (omega arith)

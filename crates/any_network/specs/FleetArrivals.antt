@@ -1,5 +1,5 @@
--- A message arrives: at the world as 01's step 5 has it, and at the half that it is for.
--- Letters: those of Fleet; k is a message's kind.
+-- A message arrives: in the net by 01's step 5, in the fleet at the half that it is for. The fleet still represents the net.
+-- Letters: those of Represents; d is the client, k a message's kind.
 use Prim.Native.Nat.{ℕ, _+_, _*_, _<_}
 use mathlib.Core.Bool.{Bool, true, false, cond}
 use mathlib.Core.List.{[], _∷_}
@@ -85,7 +85,7 @@ module _ (s : Setup) (i : inRange s ≡ true) (n : Net) (f : Fleet) (r : Represe
   abbrev Arrives : Kind → Received → Fleet → Type 0
   Arrives k g f′ = Represents s (after n (receiving s w d k g)) f′
 
-  -- the records stay, as a receipt writes them
+  -- a receipt that changes no record writes the old ones back
   stay : (o : ℕ) (u : Tables) (f′ : Fleet) → Represents s (after n (record { tables = u; copies = w .copies; requests = w .requests })) f′
       → Represents s (after n (record { tables = u; copies = set (w .copies) (d * s .objects + o) (copyAt s (w .copies) d o); requests = set (w .requests) d asking })) f′
   stay o u f′ h = rw (set-getD (w .copies) (d * s .objects + o) noCopy, set-getD (w .requests) d noRequest) h

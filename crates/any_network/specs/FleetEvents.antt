@@ -83,7 +83,7 @@ events-refused : (s : Setup) (w : World) (x : Step) → accepts s w x ≡ false 
 unfolding events
 events-refused s w x a = rw a
 
--- ---- a move: the same events, and the same answer
+-- ---- a step of one's own
 module _ (s : Setup) (i : inRange s ≡ true) (n : Net) (f : Fleet) (ok : NetOk s n) (r : Represents s n f) where
   abbrev w : World
   w = n .world
@@ -94,7 +94,7 @@ module _ (s : Setup) (i : inRange s ≡ true) (n : Net) (f : Fleet) (ok : NetOk 
   abbrev bare : World
   bare = listing w emptyQueue
 
-  -- what the server's half says as the world's tables do
+  -- what a rule makes of the world's tables it makes of the server's half
   on-server : {A : Type 0} (F : Tables → A) → F (withViews t freshViews) ≡ F t → F t ≡ F (tablesFor (f .server))
   on-server F e = sym e ∙ ap (λ (h : ServerHalf). F (tablesFor h)) (r .server)
 

@@ -1,4 +1,4 @@
--- Every move of a net and of the fleet that represents it leaves a net and a fleet that represents it, so that they do through every run.
+-- A fleet that represents a net still does so after every move, and so after every run.
 -- Letters: those of Represents; x is a step, y a move, ys moves, a that a step is accepted.
 use Prim.Native.Nat.{ℕ, _+_, _*_}
 use native.Mathlib.Omega.{arith}

@@ -1,5 +1,5 @@
--- Rules as functions of a part of the state that they do not read: the message list, which what is sent goes to the end of, or what the clients know, which
--- stays. All else that a rule leaves is the same whatever that part is.
+-- Rules as functions of a part of the state that they do not read. The part is the message list, at whose end a rule puts what it sends, or what the clients
+-- know, which stays as it is. Everything else that a rule leaves is the same whatever the part is.
 -- Letters: A what a rule leaves, X the part, put how it is put into what is left, adds what becomes of it when messages are sent, f and g rules as functions
 -- of the part that they find; s setup, t tables, c what a rule counted, o object, q a message list.
 use Prim.Native.Nat.{ℕ, zero, suc, _+_, _≤_}

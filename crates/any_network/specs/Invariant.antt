@@ -31,7 +31,7 @@ pub record NetOk (s : Setup) (n : Net) : Type 0 where
   pub messages : (m : Message) → In m (n .sent) → MessageOk s (listing (n .world) emptyQueue) m
   pub pairs : (m g : Message) → In m (n .sent) → In g (n .sent) → PairIn s (n .world) m g
 
--- the message list is read by no clause of a kind
+-- no clause about a kind reads the message list
 relisted : (s : Setup) (w : World) (q : Queue) (d : ℕ) (g : Kind) → KindOk s w d g → KindOk s (listing w q) d g
 relisted s w q d (Renew o n e ver) c = c
 relisted s w q d (Grant o n x e ver y p) c = c
@@ -74,7 +74,7 @@ unfolding pushAll In
 push-bounded s q [] f h = h
 push-bounded s q (m ∷ l) f h = push-bounded s (pushed q m) l (λ g a. f g (inr a)) (pushed-bounded q m (f m (inl refl)) h)
 
--- ---- a message list of messages that were sent
+-- ---- the invariant with a message list of messages that were sent
 module _ (s : Setup) (n : Net) (ok : NetOk s n) (l : List Message) (f : (m : Message) → In m l → In m (n .sent)) where
   abbrev list : Queue
   list = pushAll emptyQueue l
@@ -90,7 +90,7 @@ module _ (s : Setup) (n : Net) (ok : NetOk s n) (l : List Message) (f : (m : Mes
       sound-relisted s (listing (n .world) emptyQueue) list (ok .sound) (push-shape emptyQueue l empty-shape)
       (push-bounded s emptyQueue l (λ m a. ok .named m (f m a)) (ok .sound .bounds .tables .queue))
 
--- ---- what is left, where any two that were sent before, and all that is sent now, meet their clauses
+-- ---- the invariant after a step that left `rest` and sent `out`, if it holds with any two messages sent before in the list
 module _ (s : Setup) (n : Net) (ok : NetOk s n) (rest : World) (out : List Message) (few : length out ≤ 16) where
   abbrev left : List Message → Queue
   left ms = pushAll (pushAll emptyQueue ms) out

@@ -84,7 +84,7 @@ module _ (s : Setup) (i : inRange s ≡ true) (n : Net) (ok : NetOk s n) where
   move-keeps (own x) = own-keeps x
   move-keeps (arrival j) = ⊎-elim (λ e. rw e (own-keeps receive)) (λ a. rw (a .2) (arrival-keeps (a .0) (a .1))) (sent-in (n .sent) j)
 
-  -- .. and it is no refusal
+  -- no message that was sent is refused when it arrives
   pub arrival-accepted : (m : Message) → In m (n .sent) → accepts s (listing w (one m)) receive ≡ true
   unfolding pushAll In
   arrival-accepted m z = received-accepted s w i (one m) (first-of m [] (omega arith) .there) (listed-sound s n ok (m ∷ []) (λ g a. ⊎-elim (λ e. rw e z) (λ b. absurd b) a))

@@ -1,4 +1,5 @@
--- Messages in a list of any length, and a message list of 64 places that such a list was sent to.
+-- Lists of messages of any length, and what becomes of a message list of 64 places when such a list is sent to it.
+-- Letters: q a message list, m and g messages, l and k lists of them, i a place.
 use Prim.Native.Nat.{ℕ, zero, suc, _+_, _<_, _≤_}
 use native.Mathlib.Nat.{le-of-suc-le-suc}
 use native.Mathlib.Omega.{arith}
@@ -50,14 +51,14 @@ unfolding pushAll
 push-shape q [] h = h
 push-shape q (m ∷ l) h = push-shape (pushed q m) l (pushed-shape q m h)
 
--- what is in the list then was there or was sent
+-- whatever is in the message list then was there before or was sent
 pub sent-all : (q : Queue) (l : List Message) (m : Message) → QueueShape q → Sent (pushAll q l) m → Sent q m ⊎ In m l
 unfolding pushAll In
 sent-all q [] m h z = inl z
 sent-all q (g ∷ l) m h z =
     ⊎-elim (λ a. ⊎-elim inl (λ e. inr (inl e)) (sent-pushed q g m (h .items) a)) (λ a. inr (inr a)) (sent-all (pushed q g) l m (pushed-shape q g h) z)
 
--- where there is room
+-- ---- while there is room nothing is lost
 room-len : (q : Queue) (g : Message) → q .len < 64 → pushed q g .len ≡ q .len + 1
 unfolding pushed
 room-len q g h = rw (lt-ltb (q .len) 64 h)
@@ -96,7 +97,7 @@ push-all-new q (g ∷ l) m k h (inr a) =
     let r = room-len q g (omega arith) in
     push-all-new (pushed q g) l m (pushed-shape q g k) (omega (arith, r)) a
 
--- the messages of a message list are those that are sent in it
+-- ---- what a message list has is under way in it
 taken-at : (l : List Message) (n : ℕ) (m : Message) → n ≤ length l → In m (take n l) → (i : ℕ) × (i < n) × (getD l i blank ≡ m)
 unfolding In
 taken-at l zero m h a = absurd a

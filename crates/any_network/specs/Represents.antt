@@ -1,4 +1,4 @@
--- What it is that a fleet represents a net, that a move of the server's keeps this, and that both refuse the same steps.
+-- What it means that a fleet represents a net; that a move of the server's keeps it so; and that both refuse the same steps.
 -- Letters: those of Halves and Fleet; n is a net, w its world, t its tables, u what the clients know, q a request, r that the fleet represents the net.
 use Prim.Native.Nat.{ℕ, _<_}
 use mathlib.Core.Bool.{Bool, true, false, cond, not, _||_}
@@ -34,7 +34,7 @@ pub record ClientShape (s : Setup) (c : ClientHalf) : Type 0 where
   pub expiry : length (c .expiry) ≡ 8
   pub copies : length (c .copies) ≡ s .objects
 
--- what the world has of client d, of volumes and objects that exist, is what its half has
+-- the half has what the world has of client d, for the volumes and objects that exist
 pub record IsClient (s : Setup) (w : World) (d : ℕ) (c : ClientHalf) : Type 0 where
   pub clock : clientClock (w .tables .clock) d ≡ c .clock
   pub epoch : (v : ℕ) → v < s .volumes → viewEpochAt (w .tables) d v ≡ epochIn c v

@@ -31,14 +31,14 @@ use Rattle.any_network.specs.Lists.{pushAll}
 use Rattle.any_network.specs.Framing.{alike}
 use Rattle.any_network.specs.Framed.{Sends, redecide, received-frames, clock-frames, read-frames, ask-frames, write-frames, server-frames, client-frames}
 
--- what a step leaves on each list q that it is made on, where what it finds there is `seen q`
+-- what a step leaves whatever list p it finds: the same rest, and what it sends behind q, which is p or what p has left when a message is received
 pub record Leaves (s : Setup) (w : World) (x : Step) (seen : Queue → Queue → Type 0) : Type 0 where
   pub rest : World
   pub out : List Message
   pub few : length out ≤ 16
   pub same : (p q : Queue) → seen p q → accepts s (listing w p) x ≡ true → stepped s (listing w p) x ≡ listing rest (pushAll q out)
 
--- ---- a step of one's own: the list is found and left with what it sent
+-- ---- a step of one's own leaves the list that it finds, with what it sends behind it
 module _ (s : Setup) (w : World) (x : Step) (a : accepts s (listing w emptyQueue) x ≡ true) where
   passes : Passed s (withQueue (w .tables) emptyQueue) (requestOf s (listing w emptyQueue) x) x
   passes = accepted s (listing w emptyQueue) x a .passes
@@ -86,7 +86,7 @@ module _ (s : Setup) (w : World) (x : Step) (a : accepts s (listing w emptyQueue
         same = λ p q e b. rw (decision-accepted s (listing w p) x b, own-target p, k .same p, e);
       }
 
-  -- it is accepted on any list that leaves the tables sound
+  -- it passes the questions whatever list is there
   own-accepted-at : (q : Queue) → Passed s (withQueue (w .tables) q) (requestOf s (listing w q) x) x
   unfolding exists timely vacant growable
   own-accepted-at q =
@@ -95,7 +95,7 @@ module _ (s : Setup) (w : World) (x : Step) (a : accepts s (listing w emptyQueue
       let g : (not (usesPlace x) || ltb (x .place) (q .len)) ≡ true = rw no-place in
       record { knows = passes .knows; finds = both-true (f .0) g; times = passes .times; vacates = passes .vacates; grows = rw r (passes .grows) }
 
--- every question answered "yes"
+-- a step is accepted where every question is answered "yes"
 yes-accepts : (s : Setup) (w : World) (x : Step) → inRange s ≡ true → SoundWorld s w → Passed s (w .tables) (requestOf s w x) x → accepts s w x ≡ true
 unfolding refusal refusalOfStep
 yes-accepts s w x i h p = rw (sounds s w h i, p .knows, p .finds, p .times, p .vacates, p .grows)
@@ -103,7 +103,7 @@ yes-accepts s w x i h p = rw (sounds s w h i, p .knows, p .finds, p .times, p .v
 pub own-accepted : (s : Setup) (w : World) (x : Step) → inRange s ≡ true → accepts s (listing w emptyQueue) x ≡ true → (q : Queue) → SoundWorld s (listing w q) → accepts s (listing w q) x ≡ true
 own-accepted s w x i a q h = yes-accepts s (listing w q) x i h (own-accepted-at s w x a q)
 
--- ---- message m received: it is first in the list that is found, which without it is q
+-- ---- message m is received: it is first in the list p that is found, and the others are q
 pub record First (m : Message) (p q : Queue) : Type 0 where
   pub there : 0 < p .len
   pub first : messageAt p 0 ≡ m

@@ -67,7 +67,7 @@ pub troubled-history : fleetHistory tiny troubled
 unfolding troubled tiny fleetAnswers sentAt foldFrom anyFrom allFrom firstFrom storeEach greatest pushed freshTables serverAlive clientAlive guardPassed endOver waits latestEnd opened awaited notified waited ready due deserted posted released completed settled written noted offered lowestWaited volumeRenewed objectRenewed granted mustDrop renewedBy renewed ackTaken acked ackStaged dropTaken disowned dropped dropStaged serverRestarted stands forgotten swept sweptFrom known exists timely vacant growable refusalOfStep fleetHistoryFrom told settling
 troubled-history = refl
 
--- 70 messages are under way, and all of them arrive after the last was sent, the last one first: no run of a message list of 64 has this
+-- 70 messages are under way, and all of them arrive after the last was sent, the last one first: no run over a list of 64 has this
 unfoldable pub times : ℕ → Move → List Move
 times zero y = []
 times (suc n) y = y ∷ times n y
