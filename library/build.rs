@@ -1,11 +1,11 @@
 //! Links the proved static library: the archive that `GEVTSOMI_ARCHIVE`
-//! names, or the one that `rt staticlib exports` writes in the repository.
+//! names, or the one that `rt staticlib gevtsomi` writes in the repository.
 
 use std::path::PathBuf;
 use std::{env, process};
 
 const VARIABLE: &str = "GEVTSOMI_ARCHIVE";
-const IN_THE_REPOSITORY: &str = "../target/staticlib/libexports.a";
+const IN_THE_REPOSITORY: &str = "../target/staticlib/libgevtsomi.a";
 
 fn main() {
     let package = PathBuf::from(env::var_os("CARGO_MANIFEST_DIR").expect("set by cargo"));
@@ -16,7 +16,7 @@ fn main() {
     println!("cargo:rerun-if-changed={}", archive.display());
     let (true, Some(folder), Some(file)) = (archive.is_file(), archive.parent(), archive.file_name()) else {
         eprintln!(
-            "{} is not there: run `rt staticlib exports` at the repository's top, or name the archive in {VARIABLE}",
+            "{} is not there: run `rt staticlib gevtsomi` at the repository's top, or name the archive in {VARIABLE}",
             archive.display()
         );
         process::exit(1);

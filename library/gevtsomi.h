@@ -3,7 +3,7 @@
  * file to the bytes of its listing, run files from their parts or from a seed,
  * and messages to and from frames.
  *
- * What runs is the proved code in libexports.a. It allocates nothing, does no
+ * What runs is the proved code in libgevtsomi.a. It allocates nothing, does no
  * input or output and keeps nothing from call to call, so threads may call it
  * at the same time. It asks its host for memcpy and memset only.
  *

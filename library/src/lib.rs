@@ -2,7 +2,7 @@
 //! the bytes of its file to the bytes of its listing, run files from their
 //! parts or from a seed, and messages to and from frames.
 //!
-//! What runs is the proved code in `libexports.a`. This package only turns
+//! What runs is the proved code in `libgevtsomi.a`. This package only turns
 //! slices, messages and a file's parts into its arguments: it decides
 //! nothing, allocates nothing and does no input or output, so that firmware
 //! can link it.

@@ -8,7 +8,7 @@ use model::cases::{lines, lines_under};
 use model::mistakes::Mistakes;
 
 fn stored(name: &str) -> String {
-    let folder = Path::new(env!("CARGO_MANIFEST_DIR")).join("../crates/step_cases");
+    let folder = Path::new(env!("CARGO_MANIFEST_DIR")).join("../crates/test_step_cases");
     fs::read_to_string(folder.join(name)).unwrap_or_else(|error| panic!("{name}: {error}"))
 }
 

@@ -20,10 +20,10 @@ use Rattle.protocol.specs.Leases.{clientClock}
 use Rattle.protocol.specs.Server.{sent}
 use Rattle.protocol.specs.Client.{showable, clientRestarted}
 use Rattle.protocol.specs.Decide.{readDecided, askDecided, restartDecided}
-use Rattle.leases.specs.Parts.{Placed}
-use Rattle.words.specs.Fields.{wordLengths, at, CLOCK, VIEW-EPOCH, VIEW-EXPIRY}
-use Rattle.words.specs.View.{tablesOf, numbersOf, recordsOf}
-use Rattle.cache.specs.Shown.{shownAt}
+use Rattle.lease_tests.specs.Parts.{Placed}
+use Rattle.state_words.specs.Fields.{wordLengths, at, CLOCK, VIEW-EPOCH, VIEW-EXPIRY}
+use Rattle.state_words.specs.View.{tablesOf, numbersOf, recordsOf}
+use Rattle.client_cache.specs.Shown.{shownAt}
 
 -- ---- Step 2
 

@@ -4,21 +4,21 @@ ghost use mathlib.Core.Bool.{true};
 ghost use Prim.Native.Nat.{_<_};
 ghost use Rattle.protocol.specs.Setup.{inRange};
 ghost use Rattle.protocol.specs.Decide.{readDecided, askDecided, restartDecided};
-ghost use Rattle.words.specs.View.{tablesOf, numbersOf, recordsOf};
-use cache::copy;
-use leases::place;
+ghost use Rattle.state_words.specs.View.{tablesOf, numbersOf, recordsOf};
+use client_cache::copy;
+use lease_tests::place;
+use network_send::push;
 use protocol::message::Kind;
 use protocol::message::Message;
 use protocol::records::Copy;
 use protocol::records::Request;
 use protocol::setup::Setup;
 use protocol::step::Answer;
-use sending::push;
-use words::Values;
-use words::Words;
-use words::client;
-use words::network;
-use words::pass;
+use state_words::Values;
+use state_words::Words;
+use state_words::client;
+use state_words::network;
+use state_words::pass;
 
 // Step 2: "shown with its value; else "ask first"". No table and no record changes.
 pub fn read(s: Setup, words: &Words, c: Copy, client: u8, object: u8) -> Answer
@@ -36,7 +36,7 @@ pub fn read(s: Setup, words: &Words, c: Copy, client: u8, object: u8) -> Answer
     Answer::AskFirst
 }
 
-// Step 3: "send RENEW with number, known epoch and held version". The number is taken by `cache::request::number`.
+// Step 3: "send RENEW with number, known epoch and held version". The number is taken by `client_cache::request::number`.
 pub fn ask(
     s: Setup,
     words: &mut Words,

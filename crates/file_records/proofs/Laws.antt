@@ -6,7 +6,7 @@ use mathlib.Core.List.{List, [], _∷_, _++_}
 use mathlib.Core.Path.{_≡_, sym, ap, _∙_}
 use lib.ListN.{length, getD, set, take}
 use lib.Seq.{take-suc-set, take-length}
-use Rattle.layout.specs.Number.{bytesAt, numberAt}
+use Rattle.bytes_layout.specs.Number.{bytesAt, numberAt}
 use Rattle.protocol.specs.declared.setup.Setup.{Setup}
 use Rattle.protocol.specs.declared.step.Step.{Step}
 use Rattle.file_records.specs.Records.{setupIn, stepIn}

@@ -2,7 +2,7 @@
 use Prim.Native.Nat.{ℕ, _+_}
 use mathlib.Core.List.{List}
 use lib.ListN.{getD, replicate}
-use Rattle.layout.specs.Number.{bytesAt, numberAt}
+use Rattle.bytes_layout.specs.Number.{bytesAt, numberAt}
 use Rattle.protocol.specs.declared.setup.Setup.{Setup}
 use Rattle.protocol.specs.declared.step.Step.{Step}
 

@@ -1,8 +1,11 @@
-// What stands in the bytes of a setup and of a step of a run file.
+// The setup and the steps of a run file: what stands in their bytes, the bytes of each, and steps by value.
+pub mod bytes;
+pub mod list;
+
 ghost use Prim.Native.Nat.{_+_, _≤_};
 ghost use mathlib.Core.Path.{_≡_};
 ghost use lib.ListN.{length};
-ghost use Rattle.layout.specs.Number.{bytesAt};
+ghost use Rattle.bytes_layout.specs.Number.{bytesAt};
 ghost use Rattle.file_records.specs.Records.{setupIn, stepIn, noSetup, noStep};
 use protocol::setup::Setup;
 use protocol::step::Step;
@@ -34,9 +37,9 @@ pub fn setup_in(file: &[u8], at: usize) -> Setup
         clients: wide(file[at]),
         volumes: wide(file[at + 1]),
         objects: wide(file[at + 2]),
-        tv: layout::read_u32(file, at + 4),
-        t: layout::read_u32(file, at + 8),
-        m: layout::read_u32(file, at + 12),
+        tv: bytes_layout::read_u32(file, at + 4),
+        t: bytes_layout::read_u32(file, at + 8),
+        m: bytes_layout::read_u32(file, at + 12),
         volume: volumes_in(file, at + 16),
     }
 }
@@ -50,8 +53,8 @@ pub fn step_in(file: &[u8], at: usize) -> Step
         client: file[at + 1],
         object: file[at + 2],
         place: file[at + 3],
-        clock: layout::read_u32(file, at + 4),
-        value: layout::read_u64(file, at + 8),
+        clock: bytes_layout::read_u32(file, at + 4),
+        value: bytes_layout::read_u64(file, at + 8),
     }
 }
 

@@ -7,13 +7,13 @@ use lib.ListN.{length}
 use lib.Seq.{sets-eq}
 use borrow.Author.Tests.{eq-eqb, ne-eqb, le-leb, lt-leb}
 use Rattle.protocol.specs.declared.message.Message.{Message}
-use Rattle.fields.specs.declared.Fields.{Fields}
-use Rattle.fields.specs.Fields.{fieldsOf, messageIn, sound}
+use Rattle.message_fields.specs.declared.Fields.{Fields}
+use Rattle.message_fields.specs.Fields.{fieldsOf, messageIn, sound}
 use Rattle.frame_places.specs.Places.{numbers, laid, fieldsIn}
 use Rattle.frame.specs.declared.Decoded.{Decoded}
 use Rattle.frame.specs.declared.Decoded.the-variants as decoded
 use Rattle.frame.specs.declared.Encoded.the-variants as encoded
-use Rattle.layout.specs.Number.{bytesOf, Stored}
+use Rattle.bytes_layout.specs.Number.{bytesOf, Stored}
 use Rattle.frame.specs.Frame.{accepted, isFrame, messageOf, framed, decodedNumber, refusal, Decodes, Encodes}
 
 module _ (f : Fields) (r : Bool) (j : r ≡ sound f) where

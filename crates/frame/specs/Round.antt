@@ -9,11 +9,11 @@ use lib.Dec.{eqb}
 use lib.ListN.{length}
 use borrow.Author.Tests.{eq-eqb, eqb-true}
 use Rattle.laws.specs.Choice.{true-or-false}
-use Rattle.layout.specs.Number.{bytesOf, Bytes, number-below}
+use Rattle.bytes_layout.specs.Number.{bytesOf, Bytes, number-below}
 use Rattle.protocol.specs.declared.message.Message.{Message}
-use Rattle.fields.specs.declared.Fields.{Fields}
-use Rattle.fields.specs.Fields.{fieldsOf, messageIn, same}
-use Rattle.fields.specs.Round.{message-back, same-self, same-true}
+use Rattle.message_fields.specs.declared.Fields.{Fields}
+use Rattle.message_fields.specs.Fields.{fieldsOf, messageIn, same}
+use Rattle.message_fields.specs.Round.{message-back, same-self, same-true}
 use Rattle.frame_places.specs.Places.{numbers, laid, fieldsIn}
 use Rattle.frame_places.specs.Round.{FieldsFit, fields-back, laid-back}
 use Rattle.frame.specs.declared.Decoded.the-variants.{Accepted, Refused}

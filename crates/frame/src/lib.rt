@@ -1,7 +1,7 @@
 // A message as a frame of 32 bytes, and back (01, "Frame, run file and listing").
 ghost use mathlib.Core.Path.{_≡_};
 ghost use Rattle.frame.specs.Frame.{accepted, Decodes, Encodes};
-use fields::Fields;
+use message_fields::Fields;
 use protocol::message::Message;
 
 // What stands in bytes: a message, or no frame of one, which is 8 (`decodedNumber`).
@@ -19,8 +19,8 @@ pub enum Encoded {
 fn accept(f: Fields) -> Decoded
     ensures { λ r. ⌜ r ≡ accepted f ⌝ }
 {
-    if fields::sound(f) {
-        return Decoded::Accepted(fields::message_in(f));
+    if message_fields::sound(f) {
+        return Decoded::Accepted(message_fields::message_in(f));
     }
     Decoded::Refused
 }
@@ -40,7 +40,7 @@ pub fn encode(message: Message, out: &mut [u8]) -> Encoded
     ensures { λ r. ⌜ Encodes message (now (out .entry)) (now (out .exit)) r ⌝ }
 {
     if 32 <= out.len() {
-        frame_places::write(out, fields::fields_of(message));
+        frame_places::write(out, message_fields::fields_of(message));
         return Encoded::Written;
     }
     Encoded::Refused

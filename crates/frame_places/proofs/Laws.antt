@@ -3,9 +3,9 @@ use Prim.Native.Nat.{ℕ}
 use mathlib.Core.List.{List}
 use mathlib.Core.Path.{_≡_, refl}
 use lib.ListN.{getD}
-use Rattle.layout.specs.Number.{bytesOf, numberAt, Stored, stored-then, number-stored}
-use Rattle.fields.specs.declared.Fields.{Fields}
-use Rattle.fields.specs.Fields.{row}
+use Rattle.bytes_layout.specs.Number.{bytesOf, numberAt, Stored, stored-then, number-stored}
+use Rattle.message_fields.specs.declared.Fields.{Fields}
+use Rattle.message_fields.specs.Fields.{row}
 use Rattle.frame_places.specs.Places.{head, numbers, laid, fieldsIn}
 
 -- the fields, as the calls read them

@@ -2,9 +2,9 @@
 use Prim.Native.Nat.{ℕ}
 use mathlib.Core.List.{List, _++_}
 use lib.ListN.{getD}
-use Rattle.layout.specs.Number.{bytesOf, numberAt, fourBytes}
-use Rattle.fields.specs.declared.Fields.{Fields}
-use Rattle.fields.specs.Fields.{row}
+use Rattle.bytes_layout.specs.Number.{bytesOf, numberAt, fourBytes}
+use Rattle.message_fields.specs.declared.Fields.{Fields}
+use Rattle.message_fields.specs.Fields.{row}
 
 -- "A frame is 32 bytes, little endian: kind, dash, object, value present, one byte each;
 abbrev pub head : Fields → List ℕ

@@ -4,8 +4,8 @@ use native.Mathlib.Omega.{arith}
 use mathlib.Core.List.{List, append-assoc}
 use mathlib.Core.Path.{_≡_, sym}
 use lib.ListN.{length}
-use Rattle.layout.specs.Number.{littleEndian, bytesOf, bytesAt, limit, Bytes, read-back, four-then, number-then, number-last}
-use Rattle.fields.specs.declared.Fields.{Fields}
+use Rattle.bytes_layout.specs.Number.{littleEndian, bytesOf, bytesAt, limit, Bytes, read-back, four-then, number-then, number-last}
+use Rattle.message_fields.specs.declared.Fields.{Fields}
 use Rattle.frame_places.specs.Places.{numbers, laid, fieldsIn}
 
 -- Each field has a number of its width, as every message of a program does

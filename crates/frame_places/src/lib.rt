@@ -2,9 +2,9 @@
 ghost use Prim.Native.Nat.{_≤_};
 ghost use mathlib.Core.Path.{_≡_};
 ghost use lib.ListN.{length};
-ghost use Rattle.layout.specs.Number.{Stored};
+ghost use Rattle.bytes_layout.specs.Number.{Stored};
 ghost use Rattle.frame_places.specs.Places.{head, numbers, laid, fieldsIn};
-use fields::Fields;
+use message_fields::Fields;
 
 pub fn read(bytes: &[u8]) -> Fields
     requires { ⌜ 32 ≤ length (now bytes) ⌝ }
@@ -15,12 +15,12 @@ pub fn read(bytes: &[u8]) -> Fields
         client: bytes[1],
         object: bytes[2],
         present: bytes[3],
-        number: layout::read_u32(bytes, 4),
-        volume_expiry: layout::read_u32(bytes, 8),
-        epoch: layout::read_u32(bytes, 12),
-        version: layout::read_u32(bytes, 16),
-        object_expiry: layout::read_u32(bytes, 20),
-        value: layout::read_u64(bytes, 24),
+        number: bytes_layout::read_u32(bytes, 4),
+        volume_expiry: bytes_layout::read_u32(bytes, 8),
+        epoch: bytes_layout::read_u32(bytes, 12),
+        version: bytes_layout::read_u32(bytes, 16),
+        object_expiry: bytes_layout::read_u32(bytes, 20),
+        value: bytes_layout::read_u64(bytes, 24),
     }
 }
 
@@ -28,18 +28,18 @@ fn write_head(out: &mut [u8], f: Fields)
     requires { ⌜ 4 ≤ length (now out) ⌝ }
     ensures { λ _. ⌜ Stored (now (out .entry)) (now (out .exit)) 0 (head f) ⌝ }
 {
-    layout::write_four(out, 0, f.kind, f.client, f.object, f.present);
+    bytes_layout::write_four(out, 0, f.kind, f.client, f.object, f.present);
 }
 
 fn write_numbers(out: &mut [u8], f: Fields)
     requires { ⌜ 24 ≤ length (now out) ⌝ }
     ensures { λ _. ⌜ Stored (now (out .entry)) (now (out .exit)) 4 (numbers f) ⌝ }
 {
-    layout::write_u32(out, 4, f.number);
-    layout::write_u32(out, 8, f.volume_expiry);
-    layout::write_u32(out, 12, f.epoch);
-    layout::write_u32(out, 16, f.version);
-    layout::write_u32(out, 20, f.object_expiry);
+    bytes_layout::write_u32(out, 4, f.number);
+    bytes_layout::write_u32(out, 8, f.volume_expiry);
+    bytes_layout::write_u32(out, 12, f.epoch);
+    bytes_layout::write_u32(out, 16, f.version);
+    bytes_layout::write_u32(out, 20, f.object_expiry);
 }
 
 pub fn write(out: &mut [u8], f: Fields)
@@ -48,5 +48,5 @@ pub fn write(out: &mut [u8], f: Fields)
 {
     write_head(out, f);
     write_numbers(out, f);
-    layout::write_u64(out, 24, f.value);
+    bytes_layout::write_u64(out, 24, f.value);
 }

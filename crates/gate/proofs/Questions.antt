@@ -9,7 +9,7 @@ use Rattle.protocol.specs.declared.step.Step.{Step}
 use Rattle.protocol.specs.Setup.{inRange}
 use Rattle.protocol.specs.Sound.{tablesSound, sound}
 use Rattle.protocol.specs.Gate.{known, exists, timely, vacant, growable, orRefuse, refusalOfStep, refusal}
-use Rattle.words.specs.View.{tablesOf, numbersOf}
+use Rattle.state_words.specs.View.{tablesOf, numbersOf}
 
 module _ (s : Setup) (w : List ℕ) (r : Request) (x : Step) where
   -- the answers q to questions 2 to 6, put together

@@ -1,13 +1,13 @@
 // The questions at the gate, in order (01, "Questions at the gate"), of the tables in the words and values: the first "no" gives its number, and 0 is none.
 ghost use mathlib.Core.Path.{_≡_};
 ghost use Rattle.protocol.specs.Gate.{refusal};
-ghost use Rattle.words.specs.View.{tablesOf};
+ghost use Rattle.state_words.specs.View.{tablesOf};
+use gate_tables::tables::tables_sound;
 use protocol::records::Request;
 use protocol::setup::Setup;
 use protocol::step::Step;
-use sound::tables::tables_sound;
-use words::Values;
-use words::Words;
+use state_words::Values;
+use state_words::Words;
 
 pub mod steps;
 

@@ -3,12 +3,12 @@ ghost use mathlib.Core.Bool.{true};
 ghost use mathlib.Core.Path.{_≡_};
 ghost use Rattle.protocol.specs.Setup.{inRange};
 ghost use Rattle.protocol.specs.Gate.{orRefuse, refusalOfStep};
-ghost use Rattle.words.specs.View.{tablesOf};
+ghost use Rattle.state_words.specs.View.{tablesOf};
 use protocol::records::Request;
 use protocol::setup::Setup;
 use protocol::step::Step;
-use words::Values;
-use words::Words;
+use state_words::Values;
+use state_words::Words;
 
 // The number where the answer is "no", else what the later questions give.
 pub fn or_refuse(ok: bool, number: u8, next: u8) -> u8
@@ -25,11 +25,11 @@ pub fn refusal_of_step(s: Setup, words: &Words, values: &Values, request: Reques
     requires { ⌜ inRange s ≡ true ⌝ }
     ensures { λ r. ⌜ r ≡ refusalOfStep s (tablesOf (now (words .entry)) (now (values .entry))) request step ⌝ }
 {
-    let known = kinds::known(step);
-    let exists = questions::exists(s, words, step);
-    let timely = questions::timely(words, step);
-    let vacant = questions::vacant(words, step);
-    let growable = growth::growable(s, words, request, step);
+    let known = known_kinds::known(step);
+    let exists = gate_questions::exists(s, words, step);
+    let timely = gate_questions::timely(words, step);
+    let vacant = gate_questions::vacant(words, step);
+    let growable = gate_questions::growth::growable(s, words, request, step);
     let sixth = or_refuse(growable, 6, 0);
     let fifth = or_refuse(vacant, 5, sixth);
     let fourth = or_refuse(timely, 4, fifth);

@@ -6,8 +6,8 @@ use mathlib.Core.Path.{_≡_}
 use lib.ListN.{length, length-append}
 use Rattle.protocol.specs.declared.step.Answer.{Answer}
 use Rattle.protocol.specs.Answers.{answerNumber, answerValue}
-use Rattle.decimal.specs.Decimal.{decimal, field, decimal-short}
-use Rattle.output.specs.Written.{Written, written-then}
+use Rattle.listing_decimal.specs.Decimal.{decimal, field, decimal-short}
+use Rattle.bytes_layout.specs.Written.{Written, written-then}
 use Rattle.listing.specs.Listing.{line, lineOf, header, refusedListing, length-header}
 
 -- ---- a line

@@ -9,7 +9,7 @@ use Rattle.laws.specs.Choice.{cond-keeps}
 use Rattle.protocol.specs.declared.step.Answer.{Answer}
 use Rattle.protocol.specs.declared.step.Answer.the-variants.{Done, Shown, AskFirst, Completed, Delivered, Refused}
 use Rattle.protocol.specs.Answers.{doneOrCompleted, answerNumber, answerValue}
-use Rattle.decimal.specs.Decimal.{width, tens, field, length-field, further-most, further-below}
+use Rattle.listing_decimal.specs.Decimal.{width, tens, field, length-field, further-most, further-below}
 
 abbrev pub space : ℕ
 space = 32

@@ -1,7 +1,7 @@
 // The listing of a run in bytes (01, "Frame, run file and listing"). Each function writes at a place of a lent output, and gives the place after.
 ghost use Prim.Native.Nat.{_+_, _≤_};
 ghost use lib.ListN.{length};
-ghost use Rattle.output.specs.Written.{Written};
+ghost use Rattle.bytes_layout.specs.Written.{Written};
 ghost use Rattle.listing.specs.Listing.{header, line, lineOf, refusedListing};
 use protocol::step::Answer;
 
@@ -9,7 +9,7 @@ pub fn write_header(out: &mut [u8], at: usize) -> usize
     requires { ⌜ at + 18 ≤ length (now out) ⌝ }
     ensures { λ r. ⌜ Written (now (out .entry)) (now (out .exit)) at header r ⌝ }
 {
-    output::write_bytes(out, at, b"step answer value\n")
+    bytes_layout::output::write_bytes(out, at, b"step answer value\n")
 }
 
 // A line of three numbers.
@@ -17,9 +17,9 @@ pub fn write_numbers(out: &mut [u8], at: usize, step: u64, number: u64, value: u
     requires { ⌜ at + 63 ≤ length (now out) ⌝ }
     ensures { λ r. ⌜ Written (now (out .entry)) (now (out .exit)) at (line step number value) r ⌝ }
 {
-    let second = decimal::write_field(out, at, step, 32);
-    let third = decimal::write_field(out, second, number, 32);
-    decimal::write_field(out, third, value, 10)
+    let second = listing_decimal::write_field(out, at, step, 32);
+    let third = listing_decimal::write_field(out, second, number, 32);
+    listing_decimal::write_field(out, third, value, 10)
 }
 
 // The line of a step and its answer.
@@ -31,8 +31,8 @@ pub fn write_line(out: &mut [u8], at: usize, step: u64, answer: Answer) -> usize
         out,
         at,
         step,
-        answer_numbers::number_of(answer),
-        answer_numbers::value_of(answer),
+        listing_answers::number_of(answer),
+        listing_answers::value_of(answer),
     )
 }
 

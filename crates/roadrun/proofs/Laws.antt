@@ -9,12 +9,12 @@ use lib.Dec.{eqb}
 use lib.ListN.{length, take}
 use lib.Seq.{length-sets, length-take-le}
 use Rattle.laws.specs.Choice.{true-or-false, not-both}
-use Rattle.shape.specs.Shape.{wellFormed}
+use Rattle.file_shape.specs.Shape.{wellFormed}
 use Rattle.listing.specs.Listing.{refusedListing}
-use Rattle.output.specs.Written.{Written}
-use Rattle.output.specs.declared.Report.{Report}
-use Rattle.output.specs.declared.Report.the-variants as report
-use Rattle.output.specs.Report.{Reports, written-all, refused-none}
+use Rattle.bytes_layout.specs.Written.{Written}
+use Rattle.bytes_layout.specs.declared.output.Report.{Report}
+use Rattle.bytes_layout.specs.declared.output.Report.the-variants as report
+use Rattle.bytes_layout.specs.Report.{Reports, written-all, refused-none}
 use Rattle.run.specs.Listed.{fileListing, listRefusal, listing-fits, listed-all, listed-formed}
 use Rattle.roadrun.specs.Printed.{printed, printed-short}
 

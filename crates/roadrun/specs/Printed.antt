@@ -5,7 +5,7 @@ use mathlib.Core.Bool.{cond}
 use mathlib.Core.List.{List}
 use lib.ListN.{length, length-append}
 use Rattle.laws.specs.Choice.{cond-keeps}
-use Rattle.shape.specs.Shape.{wellFormed}
+use Rattle.file_shape.specs.Shape.{wellFormed}
 use Rattle.listing.specs.Listing.{header, line, refusedListing, length-header, line-short}
 use Rattle.run.specs.Listed.{fileListing, listing-fits}
 

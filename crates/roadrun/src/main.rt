@@ -4,11 +4,11 @@ mod input;
 
 ghost use Prim.Native.Nat.{_≤_};
 ghost use lib.ListN.{length};
-ghost use Rattle.output.specs.Written.{Written};
+ghost use Rattle.bytes_layout.specs.Written.{Written};
 ghost use Rattle.roadrun.specs.Printed.{printed};
+use bytes_layout::output::Report;
 use input::Input;
 use libc::STDOUT_FILENO;
-use output::Report;
 
 // What is printed of a file's bytes, at the start of an output that has room for any: so a call that is refused met a file that is.
 fn print(file: &[u8], out: &mut [u8]) -> usize

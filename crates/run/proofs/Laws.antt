@@ -8,16 +8,16 @@ use mathlib.Core.Path.{_≡_, refl, ap, _∙_}
 use lib.ListN.{length, take, drop}
 use lib.Seq.{sets-eq, take-append-seam, length-take-le}
 use Rattle.laws.specs.Choice.{true-or-false}
-use Rattle.shape.specs.Shape.{countOf, firstPlace, wellFormed}
-use Rattle.runfile.specs.declared.Contents.{Contents}
-use Rattle.runfile.specs.File.{contents, contentsOf}
-use Rattle.runfile.specs.Reading.{formed, contents-read, accepted}
+use Rattle.file_shape.specs.Shape.{countOf, firstPlace, wellFormed}
+use Rattle.file_reader.specs.declared.Contents.{Contents}
+use Rattle.file_reader.specs.File.{contents, contentsOf}
+use Rattle.file_reader.specs.Reading.{formed, contents-read, accepted}
 use Rattle.listing.specs.Listing.{header, length-header}
-use Rattle.output.specs.Written.{Written, written-then}
-use Rattle.run_steps.specs.Ran.{linesOf}
-use Rattle.output.specs.declared.Report.{Report}
-use Rattle.output.specs.declared.Report.the-variants as report
-use Rattle.output.specs.Report.{Reports, all-written, none-written}
+use Rattle.bytes_layout.specs.Written.{Written, written-then}
+use Rattle.run.specs.Ran.{linesOf}
+use Rattle.bytes_layout.specs.declared.output.Report.{Report}
+use Rattle.bytes_layout.specs.declared.output.Report.the-variants as report
+use Rattle.bytes_layout.specs.Report.{Reports, all-written, none-written}
 use Rattle.run.specs.Listed.{setupOf, answersOf, fileListing, listRefusal, listing-fits, listed-all, listed-short, listed-none}
 
 -- ---- a file read

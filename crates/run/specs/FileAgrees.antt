@@ -5,8 +5,8 @@ use mathlib.Core.Path.{_≡_}
 use Rattle.protocol.specs.declared.step.Answer.{Answer}
 use Rattle.protocol.specs.World.{World, freshWorld}
 use Rattle.protocol.specs.History.{HistoryAgrees}
-use Rattle.shape.specs.Parts.{formed-in-range}
-use Rattle.runfile.specs.Steps.{stepsOf}
+use Rattle.file_shape.specs.Parts.{formed-in-range}
+use Rattle.file_reader.specs.Steps.{stepsOf}
 use Rattle.listing.specs.Listing.{listingOf}
 use Rattle.promises.specs.Calls.{Calls, Kept, calls-answer, calls-there, calls-keep, calls-in-words}
 use Rattle.run.specs.Listed.{setupOf, answersOf, leftBy, fileListing, listRefusal, listed-formed}

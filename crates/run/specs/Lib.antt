@@ -1,2 +1,3 @@
+pub mod Ran
 pub mod Listed
 pub mod FileAgrees

@@ -13,9 +13,9 @@ use Rattle.protocol.specs.declared.step.Step.{Step}
 use Rattle.protocol.specs.Gate.{orRefuse, asked}
 use Rattle.protocol.specs.World.{World, freshWorld, stepped, ran, answers}
 use Rattle.file_records.specs.Records.{setupIn}
-use Rattle.shape.specs.Shape.{setupPlace, wellFormed}
-use Rattle.shape.specs.Parts.{Parts, formed-parts}
-use Rattle.runfile.specs.Steps.{stepsOf, length-steps}
+use Rattle.file_shape.specs.Shape.{setupPlace, wellFormed}
+use Rattle.file_shape.specs.Parts.{Parts, formed-parts}
+use Rattle.file_reader.specs.Steps.{stepsOf, length-steps}
 use Rattle.listing.specs.Listing.{listingOf, listing-short}
 
 abbrev pub setupOf : List ℕ → Setup

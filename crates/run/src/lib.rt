@@ -1,13 +1,15 @@
 // A run, from the bytes of its file to the bytes of its listing.
+pub mod steps;
+
 ghost use Prim.Native.Nat.{_≤_};
 ghost use mathlib.Core.Path.{_≡_};
 ghost use lib.ListN.{length};
-ghost use Rattle.runfile.specs.File.{contentsOf};
-ghost use Rattle.output.specs.Written.{Written};
-ghost use Rattle.output.specs.Report.{Reports};
+ghost use Rattle.file_reader.specs.File.{contentsOf};
+ghost use Rattle.bytes_layout.specs.Written.{Written};
+ghost use Rattle.bytes_layout.specs.Report.{Reports};
 ghost use Rattle.run.specs.Listed.{fileListing, listRefusal};
-use output::Report;
-use runfile::Contents;
+use bytes_layout::output::Report;
+use file_reader::Contents;
 
 // The listing of a run file that was read and is not refused, at the start of an output that has room for any.
 fn print(file: &[u8], c: Contents, out: &mut [u8]) -> usize
@@ -17,7 +19,7 @@ fn print(file: &[u8], c: Contents, out: &mut [u8]) -> usize
     ensures { λ r. ⌜ Written (now (out .entry)) (now (out .exit)) 0 (fileListing (now (file .entry))) r ⌝ }
 {
     let at = listing::write_header(out, 0);
-    run_steps::run_steps(file, c, out, at)
+    crate::steps::run_steps(file, c, out, at)
 }
 
 // The listing of a run file's bytes, whatever they are. What is no run file is refused, 9, and so is an output that is too short for the listing, 8; the
@@ -25,12 +27,12 @@ fn print(file: &[u8], c: Contents, out: &mut [u8]) -> usize
 pub fn list(file: &[u8], out: &mut [u8]) -> Report
     ensures { λ r. ⌜ Reports (listRefusal (now (file .entry)) (length (now (out .entry)))) (fileListing (now (file .entry))) (now (out .entry)) (now (out .exit)) r ⌝ }
 {
-    let c = runfile::read(file);
+    let c = file_reader::read(file);
     if c.refusal == 0 {
         let mut buffer = [0u8; 112640];
         let n = print(file, c, &mut buffer);
         if n <= out.len() {
-            output::write_bytes(out, 0, &buffer[..n]);
+            bytes_layout::output::write_bytes(out, 0, &buffer[..n]);
             return Report::Written(n);
         }
         return Report::Refused(8);

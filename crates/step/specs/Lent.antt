@@ -4,7 +4,7 @@ use mathlib.Core.List.{List}
 use Rattle.protocol.specs.declared.records.Copy.{Copy}
 use Rattle.protocol.specs.declared.records.Request.{Request}
 use Rattle.protocol.specs.World.{World}
-use Rattle.words.specs.View.{tablesOf}
+use Rattle.state_words.specs.View.{tablesOf}
 
 abbrev pub world : List ℕ → List ℕ → List Copy → List Request → World
 world words values l k = record { tables = tablesOf words values; copies = l; requests = k }

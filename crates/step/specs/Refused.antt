@@ -17,8 +17,8 @@ use Rattle.protocol.specs.Ledger.{accepts}
 use Rattle.protocol.specs.Sound.{recordsSound}
 use Rattle.protocol.specs.Soundness.StepCases.{requestOf, refused-answer, refused-keeps}
 use Rattle.protocol.specs.Soundness.Answered.{accepted-not-refused}
-use Rattle.words.specs.View.{tablesOf}
-use Rattle.words.specs.LiveRows.{messageThere, no-message-refused}
+use Rattle.state_words.specs.View.{tablesOf}
+use Rattle.state_words.specs.LiveRows.{messageThere, no-message-refused}
 use Rattle.step.specs.Lent.{world}
 
 -- a step whose answer has the number 4 leaves tables and lent records as they were

@@ -4,21 +4,21 @@ ghost use Rattle.protocol.specs.Answers.{answerNumber, answerValue};
 ghost use Rattle.protocol.specs.World.{answerOf, stepped};
 ghost use Rattle.step.specs.Lent.{world};
 ghost use Rattle.step_numbers.specs.Numbers.{numberOf, valueOf};
-ghost use Rattle.words.specs.View.{recordsOf};
-use decide::decide;
-use items::both;
-use lent_copies::copies;
-use lent_copies::sweep::sweep;
-use lent_requests::requests;
-use lent_requests::turn::update;
+ghost use Rattle.state_words.specs.View.{recordsOf};
+use client_lent::copies;
+use client_lent::requests;
+use client_lent::sweep::sweep;
+use client_lent::turn::update;
+use gate_records::both;
 use protocol::records::Copy;
 use protocol::records::Request;
 use protocol::setup::Setup;
 use protocol::step::Answer;
 use protocol::step::Step;
-use targets::target;
-use words::Values;
-use words::Words;
+use state_words::Values;
+use state_words::Words;
+use step_decide::decide;
+use step_target::target;
 
 // One step (01, "Steps"), on any input whatever. `copies` are all clients' copies in one list, client by client in object order; `requests` one a
 // client. The records that the words have room for are as they were.

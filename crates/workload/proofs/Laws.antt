@@ -10,15 +10,15 @@ use lib.ListN.{length, set}
 use borrow.Author.Tests.{le-leb, lt-leb, ne-eqb}
 use Rattle.protocol.specs.declared.setup.Setup.{Setup}
 use Rattle.protocol.specs.Setup.{inRange}
-use Rattle.output.specs.declared.Report.{Report}
-use Rattle.output.specs.declared.Report.the-variants as report
-use Rattle.output.specs.Report.{Reports, none-written}
-use Rattle.record_bytes.specs.Bytes.{fileBytes}
-use Rattle.step_list.specs.declared.Steps.{Steps}
-use Rattle.step_list.specs.Held.{held, blank, stepsBy, Filling, filling-none, filling-again, filling-end, held-by}
-use Rattle.writer.specs.File.{writeRefusal}
-use Rattle.draws.specs.declared.Drawn.{Drawn}
-use Rattle.draws.specs.Draws.{drawnAfter}
+use Rattle.bytes_layout.specs.declared.output.Report.{Report}
+use Rattle.bytes_layout.specs.declared.output.Report.the-variants as report
+use Rattle.bytes_layout.specs.Report.{Reports, none-written}
+use Rattle.file_records.specs.Bytes.{fileBytes}
+use Rattle.file_records.specs.declared.list.Steps.{Steps}
+use Rattle.file_records.specs.Held.{held, blank, stepsBy, Filling, filling-none, filling-again, filling-end, held-by}
+use Rattle.file_writer.specs.File.{writeRefusal}
+use Rattle.workload.specs.declared.draws.Drawn.{Drawn}
+use Rattle.workload.specs.Draws.{drawnAfter}
 use Rattle.workload.specs.declared.Workload.{Workload}
 use Rattle.workload.specs.Workload.{seedOf, totalOf, stepOf, workload, stepsRefusal, workloadOf, fileRefusal}
 use Rattle.workload.specs.Laws.{total-small, same-refusal, unrefused, refused-alike}

@@ -17,15 +17,15 @@ use Rattle.protocol.specs.declared.step.Step.{Step}
 use Rattle.protocol.specs.Setup.{inRange}
 use Rattle.protocol.specs.Gate.{asked, isClock, isWrite, usesClient, usesObject, usesPlace, known}
 use Rattle.file_records.specs.Records.{noStep}
-use Rattle.shape.specs.Shape.{stepFits}
-use Rattle.layout.specs.Number.{limit}
-use Rattle.record_bytes.specs.Bytes.{fileBytes}
-use Rattle.record_bytes.specs.Round.{Widths}
-use Rattle.step_list.specs.Held.{stepsBy, held-by}
-use Rattle.writer.specs.File.{sizesFit, fitsAt, allFit, fileFits, writeRefusal}
-use Rattle.writer.specs.ReadBack.{ReadAs, not-refused}
-use Rattle.draws.specs.Draws.{onlyUsed}
-use Rattle.draws.specs.Laws.{clock-near, value-small, total-near}
+use Rattle.file_shape.specs.Shape.{stepFits}
+use Rattle.bytes_layout.specs.Number.{limit}
+use Rattle.file_records.specs.Bytes.{fileBytes}
+use Rattle.file_records.specs.Round.{Widths}
+use Rattle.file_records.specs.Held.{stepsBy, held-by}
+use Rattle.file_writer.specs.File.{sizesFit, fitsAt, allFit, fileFits, writeRefusal}
+use Rattle.file_writer.specs.ReadBack.{ReadAs, not-refused}
+use Rattle.workload.specs.Draws.{onlyUsed}
+use Rattle.workload.specs.DrawsLaws.{clock-near, value-small, total-near}
 use Rattle.workload.specs.Workload.{seedOf, totalOf, stepOf, workload, stepsRefusal, fileRefusal}
 
 module _ (q : Setup) (s : ℕ) where

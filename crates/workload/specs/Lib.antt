@@ -1,2 +1,4 @@
+pub mod Draws
+pub mod DrawsLaws
 pub mod Workload
 pub mod Laws

@@ -8,9 +8,9 @@ use Rattle.protocol.specs.declared.setup.Setup.{Setup}
 use Rattle.protocol.specs.declared.step.Step.{Step}
 use Rattle.protocol.specs.Setup.{inRange}
 use Rattle.protocol.specs.Gate.{orRefuse}
-use Rattle.step_list.specs.Held.{blank, stepsBy}
-use Rattle.writer.specs.File.{sizesFit}
-use Rattle.draws.specs.Draws.{draw, drawnStep, totalAfter}
+use Rattle.file_records.specs.Held.{blank, stepsBy}
+use Rattle.file_writer.specs.File.{sizesFit}
+use Rattle.workload.specs.Draws.{draw, drawnStep, totalAfter}
 use Rattle.workload.specs.declared.Workload.{Workload}
 
 -- the seed of step k, counted from 0: the last draw of the step before it

@@ -1,16 +1,18 @@
 // 02, A5: a workload from a seed, as steps and as a run file.
+pub mod draws;
+
 ghost use Prim.Native.Nat.{_≤_};
 ghost use mathlib.Core.Bool.{true};
 ghost use mathlib.Core.Path.{_≡_};
 ghost use lib.ListN.{length};
 ghost use Rattle.protocol.specs.Setup.{inRange};
-ghost use Rattle.output.specs.Report.{Reports};
-ghost use Rattle.record_bytes.specs.Bytes.{fileBytes};
-ghost use Rattle.step_list.specs.Held.{stepsBy};
+ghost use Rattle.bytes_layout.specs.Report.{Reports};
+ghost use Rattle.file_records.specs.Bytes.{fileBytes};
+ghost use Rattle.file_records.specs.Held.{stepsBy};
 ghost use Rattle.workload.specs.Workload.{stepOf, workload, stepsRefusal, workloadOf, fileRefusal};
-use output::Report;
+use bytes_layout::output::Report;
+use file_records::list::Steps;
 use protocol::setup::Setup;
-use step_list::Steps;
 
 // The steps of a workload. `refusal` is 7 for a setup out of range, 10 for more than 4,000 steps, and 0 else; a refused workload has no steps.
 pub struct Workload {
@@ -36,13 +38,13 @@ fn drawn_steps(seed: u32, setup: Setup, count: u32) -> Steps
     requires { ⌜ count ≤ 4000 ⌝ }
     ensures { λ r. ⌜ r ≡ stepsBy (stepOf setup seed) count ⌝ }
 {
-    let mut steps = step_list::blank(count);
+    let mut steps = file_records::list::blank(count);
     let n = count as usize;
     let mut last = seed;
     let mut total = 0;
     let mut k = 0;
     while k < n {
-        let drawn = draws::draw_step(last, setup, total);
+        let drawn = crate::draws::draw_step(last, setup, total);
         let step = drawn.step;
         steps.items[k] = step;
         last = drawn.seed;
@@ -65,7 +67,7 @@ pub fn steps(seed: u32, setup: Setup, count: u32) -> Workload
     }
     Workload {
         refusal,
-        steps: step_list::blank(0),
+        steps: file_records::list::blank(0),
     }
 }
 
@@ -76,7 +78,7 @@ pub fn write(seed: u32, note: &[u8], setup: Setup, count: u32, out: &mut [u8]) -
 {
     let refusal = refusal(setup, count);
     if refusal == 0 {
-        return writer::write(note, setup, drawn_steps(seed, setup, count), out);
+        return file_writer::write(note, setup, drawn_steps(seed, setup, count), out);
     }
     Report::Refused(refusal)
 }

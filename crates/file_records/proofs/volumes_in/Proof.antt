@@ -2,7 +2,7 @@ use borrow.Author.Needs.{needs}
 use Prim.Native.Nat.{_-_, _≤_}
 use mathlib.Core.Path.{_≡_, refl}
 use lib.ListN.{length, take, length-set}
-use Rattle.layout.specs.Number.{bytesAt}
+use Rattle.bytes_layout.specs.Number.{bytesAt}
 use Rattle.file_records.proofs.Laws.{copy-again, copy-end}
 use Rattle.file_records.proofs.volumes_in.Statement.{statement}
 use Rattle.file_records.proofs.volumes_in.Tie as tie

@@ -60,8 +60,8 @@ use Rattle.protocol.specs.Soundness.Numbering.{decision-turns}
 use Rattle.protocol.specs.declared.tables.Tables.{Tables as TablesD}
 use Rattle.protocol.specs.declared.step.Decision.{Decision}
 use denote.Enum.Laws as EL
-use Rattle.words.specs.View.{tablesOf as viewOf, recordsOf}
-use Rattle.lent.specs.Rows.{lend-mut, back-mut, lend-shr-at, back-shr, Part}
+use Rattle.state_words.specs.View.{tablesOf as viewOf, recordsOf}
+use Rattle.client_lent.specs.Rows.{lend-mut, back-mut, lend-shr-at, back-shr, Part}
 use Rattle.step.specs.Lent.{world}
 use Rattle.step_numbers.specs.Numbers.{numberOf, valueOf, number-is, value-is}
 use Rattle.step.specs.Refused.{refused-same}
@@ -80,9 +80,9 @@ use Rattle.protocol.proofs.step.Step.Laws as U′
 use Rattle.protocol.specs.declared.step.Target.{Target}
 use Rattle.protocol.proofs.step.Target as P-
 use Rattle.protocol.proofs.step.Target.Laws as P′
-use Rattle.verdict.specs.declared.Verdict.{Verdict}
-use Rattle.verdict.proofs.Verdict as D-
-use Rattle.verdict.proofs.Verdict.Laws as D′
+use Rattle.step_verdict.specs.declared.Verdict.{Verdict}
+use Rattle.step_verdict.proofs.Verdict as D-
+use Rattle.step_verdict.proofs.Verdict.Laws as D′
 use Rattle.protocol.proofs.step.Change as C-
 use Rattle.protocol.proofs.step.Change.Laws as C′
 use Rattle.protocol.proofs.step.Answer as N-
@@ -96,46 +96,46 @@ use Rattle.protocol.proofs.step.Turn.Laws as Y′
 use Rattle.protocol.specs.declared.step.Sweep.{Sweep}
 use Rattle.protocol.proofs.step.Sweep as G-
 use Rattle.protocol.proofs.step.Sweep.Laws as G′
-use Rattle.lent_copies.proofs.copies.sound as copies-sound-c
-use Rattle.lent_copies.proofs.copies.sound.Symbol as copies-sound-def
-use Rattle.lent_copies.proofs.copies.sound.Symbol.{name as #lent-copies·copies·sound}
-use Rattle.lent_copies.proofs.copies.sound.Met as copies-sound-thm
-use Rattle.lent_requests.proofs.requests.sound as requests-sound-c
-use Rattle.lent_requests.proofs.requests.sound.Symbol as requests-sound-def
-use Rattle.lent_requests.proofs.requests.sound.Symbol.{name as #lent-requests·requests·sound}
-use Rattle.lent_requests.proofs.requests.sound.Met as requests-sound-thm
-use Rattle.items.proofs.both as both-c
-use Rattle.items.proofs.both.Symbol as both-def
-use Rattle.items.proofs.both.Symbol.{name as #items·both}
-use Rattle.items.proofs.both.Met as both-thm
-use Rattle.targets.proofs.target as target-c
-use Rattle.targets.proofs.target.Symbol as target-def
-use Rattle.targets.proofs.target.Symbol.{name as #targets·target}
-use Rattle.targets.proofs.target.Met as target-thm
-use Rattle.lent_copies.proofs.copies.look as copies-look-c
-use Rattle.lent_copies.proofs.copies.look.Symbol as copies-look-def
-use Rattle.lent_copies.proofs.copies.look.Symbol.{name as #lent-copies·copies·look}
-use Rattle.lent_copies.proofs.copies.look.Met as copies-look-thm
-use Rattle.lent_requests.proofs.requests.look as requests-look-c
-use Rattle.lent_requests.proofs.requests.look.Symbol as requests-look-def
-use Rattle.lent_requests.proofs.requests.look.Symbol.{name as #lent-requests·requests·look}
-use Rattle.lent_requests.proofs.requests.look.Met as requests-look-thm
-use Rattle.decide.proofs.decide as decide-c
-use Rattle.decide.proofs.decide.Symbol as decide-def
-use Rattle.decide.proofs.decide.Symbol.{name as #decide·decide}
-use Rattle.decide.proofs.decide.Met as decide-thm
-use Rattle.lent_copies.proofs.copies.change as change-c
-use Rattle.lent_copies.proofs.copies.change.Symbol as change-def
-use Rattle.lent_copies.proofs.copies.change.Symbol.{name as #lent-copies·copies·change}
-use Rattle.lent_copies.proofs.copies.change.Met as change-thm
-use Rattle.lent_copies.proofs.sweep.sweep as sweep-c
-use Rattle.lent_copies.proofs.sweep.sweep.Symbol as sweep-def
-use Rattle.lent_copies.proofs.sweep.sweep.Symbol.{name as #lent-copies·sweep·sweep}
-use Rattle.lent_copies.proofs.sweep.sweep.Met as sweep-thm
-use Rattle.lent_requests.proofs.turn.update as update-c
-use Rattle.lent_requests.proofs.turn.update.Symbol as update-def
-use Rattle.lent_requests.proofs.turn.update.Symbol.{name as #lent-requests·turn·update}
-use Rattle.lent_requests.proofs.turn.update.Met as update-thm
+use Rattle.client_lent.proofs.copies.sound as copies-sound-c
+use Rattle.client_lent.proofs.copies.sound.Symbol as copies-sound-def
+use Rattle.client_lent.proofs.copies.sound.Symbol.{name as #lent-copies·copies·sound}
+use Rattle.client_lent.proofs.copies.sound.Met as copies-sound-thm
+use Rattle.client_lent.proofs.requests.sound as requests-sound-c
+use Rattle.client_lent.proofs.requests.sound.Symbol as requests-sound-def
+use Rattle.client_lent.proofs.requests.sound.Symbol.{name as #lent-requests·requests·sound}
+use Rattle.client_lent.proofs.requests.sound.Met as requests-sound-thm
+use Rattle.gate_records.proofs.both as both-c
+use Rattle.gate_records.proofs.both.Symbol as both-def
+use Rattle.gate_records.proofs.both.Symbol.{name as #items·both}
+use Rattle.gate_records.proofs.both.Met as both-thm
+use Rattle.step_target.proofs.target as target-c
+use Rattle.step_target.proofs.target.Symbol as target-def
+use Rattle.step_target.proofs.target.Symbol.{name as #targets·target}
+use Rattle.step_target.proofs.target.Met as target-thm
+use Rattle.client_lent.proofs.copies.look as copies-look-c
+use Rattle.client_lent.proofs.copies.look.Symbol as copies-look-def
+use Rattle.client_lent.proofs.copies.look.Symbol.{name as #lent-copies·copies·look}
+use Rattle.client_lent.proofs.copies.look.Met as copies-look-thm
+use Rattle.client_lent.proofs.requests.look as requests-look-c
+use Rattle.client_lent.proofs.requests.look.Symbol as requests-look-def
+use Rattle.client_lent.proofs.requests.look.Symbol.{name as #lent-requests·requests·look}
+use Rattle.client_lent.proofs.requests.look.Met as requests-look-thm
+use Rattle.step_decide.proofs.decide as decide-c
+use Rattle.step_decide.proofs.decide.Symbol as decide-def
+use Rattle.step_decide.proofs.decide.Symbol.{name as #decide·decide}
+use Rattle.step_decide.proofs.decide.Met as decide-thm
+use Rattle.client_lent.proofs.copies.change as change-c
+use Rattle.client_lent.proofs.copies.change.Symbol as change-def
+use Rattle.client_lent.proofs.copies.change.Symbol.{name as #lent-copies·copies·change}
+use Rattle.client_lent.proofs.copies.change.Met as change-thm
+use Rattle.client_lent.proofs.sweep.sweep as sweep-c
+use Rattle.client_lent.proofs.sweep.sweep.Symbol as sweep-def
+use Rattle.client_lent.proofs.sweep.sweep.Symbol.{name as #lent-copies·sweep·sweep}
+use Rattle.client_lent.proofs.sweep.sweep.Met as sweep-thm
+use Rattle.client_lent.proofs.turn.update as update-c
+use Rattle.client_lent.proofs.turn.update.Symbol as update-def
+use Rattle.client_lent.proofs.turn.update.Symbol.{name as #lent-requests·turn·update}
+use Rattle.client_lent.proofs.turn.update.Met as update-thm
 use Rattle.step.proofs.step.Key.{name as #step·step}
 use Rattle.step.proofs.step as this
 use Rattle.step.proofs.step.Statement as stated
@@ -749,13 +749,13 @@ step-spec 𝓤 H 𝓜 𝓖 𝓡 =
     entered 𝓤 H (tripleOf 𝓤 H (𝓖 .A) this.signature (this.spec 𝓤 H (𝓖 .A) (𝓜 .mem) (𝓡 .run)))
     (tables 𝓤 H 𝓜 𝓡 code.env .C) (tables 𝓤 H 𝓜 𝓡 code.env .Λ) #step·step code.function (code.unfolded 𝓤 H 𝓜 𝓡)
     (this-meets 𝓤 H (𝓖 .A) (givenOf 𝓤 H 𝓜 𝓖) (𝓜 .mem) (𝓡 .run) (tablesOf 𝓤 H 𝓜 (tables 𝓤 H 𝓜 𝓡 code.env))
-    (cited 𝓤 H (On-copies-sound 𝓤 H (𝓖 .A) (𝓜 .mem) (𝓡 .run)) 𝓜 𝓡 code.env #lent-copies·copies·sound copies-sound-def.routine code.calls-lent-copies·copies·sound (copies-sound-thm.met 𝓤 H 𝓜 𝓖 𝓡))
-    (cited 𝓤 H (On-requests-sound 𝓤 H (𝓖 .A) (𝓜 .mem) (𝓡 .run)) 𝓜 𝓡 code.env #lent-requests·requests·sound requests-sound-def.routine code.calls-lent-requests·requests·sound (requests-sound-thm.met 𝓤 H 𝓜 𝓖 𝓡))
-    (cited 𝓤 H (On-both 𝓤 H (𝓖 .A) (𝓜 .mem) (𝓡 .run)) 𝓜 𝓡 code.env #items·both both-def.routine code.calls-items·both (both-thm.met 𝓤 H 𝓜 𝓖 𝓡))
-    (cited 𝓤 H (On-target 𝓤 H (𝓖 .A) (𝓜 .mem) (𝓡 .run)) 𝓜 𝓡 code.env #targets·target target-def.routine code.calls-targets·target (target-thm.met 𝓤 H 𝓜 𝓖 𝓡))
-    (cited 𝓤 H (On-copies-look 𝓤 H (𝓖 .A) (𝓜 .mem) (𝓡 .run)) 𝓜 𝓡 code.env #lent-copies·copies·look copies-look-def.routine code.calls-lent-copies·copies·look (copies-look-thm.met 𝓤 H 𝓜 𝓖 𝓡))
-    (cited 𝓤 H (On-requests-look 𝓤 H (𝓖 .A) (𝓜 .mem) (𝓡 .run)) 𝓜 𝓡 code.env #lent-requests·requests·look requests-look-def.routine code.calls-lent-requests·requests·look (requests-look-thm.met 𝓤 H 𝓜 𝓖 𝓡))
-    (cited 𝓤 H (On-decide 𝓤 H (𝓖 .A) (𝓜 .mem) (𝓡 .run)) 𝓜 𝓡 code.env #decide·decide decide-def.routine code.calls-decide·decide (decide-thm.met 𝓤 H 𝓜 𝓖 𝓡))
-    (cited 𝓤 H (On-change 𝓤 H (𝓖 .A) (𝓜 .mem) (𝓡 .run)) 𝓜 𝓡 code.env #lent-copies·copies·change change-def.routine code.calls-lent-copies·copies·change (change-thm.met 𝓤 H 𝓜 𝓖 𝓡))
-    (cited 𝓤 H (On-sweep 𝓤 H (𝓖 .A) (𝓜 .mem) (𝓡 .run)) 𝓜 𝓡 code.env #lent-copies·sweep·sweep sweep-def.routine code.calls-lent-copies·sweep·sweep (sweep-thm.met 𝓤 H 𝓜 𝓖 𝓡))
-    (cited 𝓤 H (On-update 𝓤 H (𝓖 .A) (𝓜 .mem) (𝓡 .run)) 𝓜 𝓡 code.env #lent-requests·turn·update update-def.routine code.calls-lent-requests·turn·update (update-thm.met 𝓤 H 𝓜 𝓖 𝓡)))
+    (cited 𝓤 H (On-copies-sound 𝓤 H (𝓖 .A) (𝓜 .mem) (𝓡 .run)) 𝓜 𝓡 code.env #lent-copies·copies·sound copies-sound-def.routine code.calls-client-lent·copies·sound (copies-sound-thm.met 𝓤 H 𝓜 𝓖 𝓡))
+    (cited 𝓤 H (On-requests-sound 𝓤 H (𝓖 .A) (𝓜 .mem) (𝓡 .run)) 𝓜 𝓡 code.env #lent-requests·requests·sound requests-sound-def.routine code.calls-client-lent·requests·sound (requests-sound-thm.met 𝓤 H 𝓜 𝓖 𝓡))
+    (cited 𝓤 H (On-both 𝓤 H (𝓖 .A) (𝓜 .mem) (𝓡 .run)) 𝓜 𝓡 code.env #items·both both-def.routine code.calls-gate-records·both (both-thm.met 𝓤 H 𝓜 𝓖 𝓡))
+    (cited 𝓤 H (On-target 𝓤 H (𝓖 .A) (𝓜 .mem) (𝓡 .run)) 𝓜 𝓡 code.env #targets·target target-def.routine code.calls-step-target·target (target-thm.met 𝓤 H 𝓜 𝓖 𝓡))
+    (cited 𝓤 H (On-copies-look 𝓤 H (𝓖 .A) (𝓜 .mem) (𝓡 .run)) 𝓜 𝓡 code.env #lent-copies·copies·look copies-look-def.routine code.calls-client-lent·copies·look (copies-look-thm.met 𝓤 H 𝓜 𝓖 𝓡))
+    (cited 𝓤 H (On-requests-look 𝓤 H (𝓖 .A) (𝓜 .mem) (𝓡 .run)) 𝓜 𝓡 code.env #lent-requests·requests·look requests-look-def.routine code.calls-client-lent·requests·look (requests-look-thm.met 𝓤 H 𝓜 𝓖 𝓡))
+    (cited 𝓤 H (On-decide 𝓤 H (𝓖 .A) (𝓜 .mem) (𝓡 .run)) 𝓜 𝓡 code.env #decide·decide decide-def.routine code.calls-step-decide·decide (decide-thm.met 𝓤 H 𝓜 𝓖 𝓡))
+    (cited 𝓤 H (On-change 𝓤 H (𝓖 .A) (𝓜 .mem) (𝓡 .run)) 𝓜 𝓡 code.env #lent-copies·copies·change change-def.routine code.calls-client-lent·copies·change (change-thm.met 𝓤 H 𝓜 𝓖 𝓡))
+    (cited 𝓤 H (On-sweep 𝓤 H (𝓖 .A) (𝓜 .mem) (𝓡 .run)) 𝓜 𝓡 code.env #lent-copies·sweep·sweep sweep-def.routine code.calls-client-lent·sweep·sweep (sweep-thm.met 𝓤 H 𝓜 𝓖 𝓡))
+    (cited 𝓤 H (On-update 𝓤 H (𝓖 .A) (𝓜 .mem) (𝓡 .run)) 𝓜 𝓡 code.env #lent-requests·turn·update update-def.routine code.calls-client-lent·turn·update (update-thm.met 𝓤 H 𝓜 𝓖 𝓡)))

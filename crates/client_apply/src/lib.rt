@@ -1,0 +1,145 @@
+// The clients' records in the words that a step can touch, and what a decision makes of them. A place that the setup has not holds no record, and nothing is stored there.
+ghost use mathlib.Core.Bool.{true};
+ghost use mathlib.Core.Path.{_≡_};
+ghost use Prim.Native.Nat.{_*_};
+ghost use lib.ListN.{getD};
+ghost use Rattle.protocol.specs.Setup.{inRange};
+ghost use Rattle.protocol.specs.Tables.{noCopy, noRequest};
+ghost use Rattle.protocol.specs.Client.{sweeps, CanTurn};
+ghost use Rattle.state_words.specs.View.{worldOf};
+ghost use Rattle.client_apply.specs.Changes.{copyPut, copyChanged, sweptOf, requestTurned, changedAt};
+use client_cache::copy;
+use client_cache::request;
+use client_records::copies;
+use client_records::requests;
+use protocol::records::Copy;
+use protocol::records::Request;
+use protocol::setup::Setup;
+use protocol::step::Change;
+use protocol::step::CopyChange;
+use protocol::step::Sweep;
+use protocol::step::Target;
+use protocol::step::Turn;
+use state_words::Values;
+use state_words::Words;
+
+pub fn copy_of<'a>(s: Setup, words: &'a Words, values: &'a Values, at: Target) -> Copy
+    requires { ⌜ inRange s ≡ true ⌝ }
+    ensures { λ r. ⌜ r ≡ getD (worldOf s (now (words .entry)) (now (values .entry)) .copies) (at .copy) noCopy ⌝ }
+{
+    if at.copy < s.clients as usize * s.objects as usize {
+        return copies::copy_at(words, values, at.copy);
+    }
+    copy::none()
+}
+
+// The values are lent for the contract alone.
+pub fn request_of<'a>(s: Setup, words: &'a Words, values: &'a Values, at: Target) -> Request
+    requires { ⌜ inRange s ≡ true ⌝ }
+    ensures { λ r. ⌜ r ≡ getD (worldOf s (now (words .entry)) (now (values .entry)) .requests) (at .client) noRequest ⌝ }
+{
+    if at.client < s.clients as usize {
+        return requests::request_at(words, at.client);
+    }
+    Request {
+        next: 0,
+        standing: false,
+        number: 0,
+        object: 0,
+    }
+}
+
+// A copy stored where the setup has one.
+fn put_copy(s: Setup, words: &mut Words, values: &mut Values, place: usize, c: Copy)
+    requires { ⌜ inRange s ≡ true ⌝ }
+    ensures { λ _. ⌜ worldOf s (now (words .exit)) (now (values .exit)) ≡ copyPut (worldOf s (now (words .entry)) (now (values .entry))) place c ⌝ }
+{
+    if place < s.clients as usize * s.objects as usize {
+        copies::put_copy(&mut *words, &mut *values, place, c);
+        return;
+    }
+}
+
+// Most steps keep the copy: nothing is read or stored then.
+fn change_copy(s: Setup, words: &mut Words, values: &mut Values, place: usize, u: CopyChange)
+    requires { ⌜ inRange s ≡ true ⌝ }
+    ensures { λ _. ⌜ worldOf s (now (words .exit)) (now (values .exit)) ≡ copyChanged (worldOf s (now (words .entry)) (now (values .entry))) place u ⌝ }
+{
+    match u {
+        CopyChange::Keep => {}
+        CopyChange::Fill(c) => put_copy(s, &mut *words, &mut *values, place, c),
+        CopyChange::Erase => put_copy(s, &mut *words, &mut *values, place, copy::none()),
+    }
+}
+
+// The sweep of all copies of a client that the setup has.
+fn sweep_client(s: Setup, words: &mut Words, values: &mut Values, at: Target, g: Sweep)
+    requires { ⌜ inRange s ≡ true ⌝ }
+    requires { ⌜ at .first ≡ at .client * s .objects ⌝ }
+    ensures { λ _. ⌜ worldOf s (now (words .exit)) (now (values .exit)) ≡ sweptOf s g (at .first) (s .objects) (worldOf s (now (words .entry)) (now (values .entry))) ⌝ }
+{
+    if at.client < s.clients as usize {
+        copies::sweep(
+            s,
+            &mut *words,
+            &mut *values,
+            g,
+            at.first,
+            s.objects as usize,
+        );
+        return;
+    }
+}
+
+fn sweep(s: Setup, words: &mut Words, values: &mut Values, at: Target, g: Sweep)
+    requires { ⌜ inRange s ≡ true ⌝ }
+    requires { ⌜ at .first ≡ at .client * s .objects ⌝ }
+    ensures { λ _. ⌜ worldOf s (now (words .exit)) (now (values .exit)) ≡ sweptOf s g (at .first) (sweeps g (s .objects)) (worldOf s (now (words .entry)) (now (values .entry))) ⌝ }
+{
+    match g {
+        Sweep::Keep => {}
+        Sweep::Expire(_) => sweep_client(s, &mut *words, &mut *values, at, g),
+        Sweep::Erase => sweep_client(s, &mut *words, &mut *values, at, g),
+    }
+}
+
+// The turn of the request of a client that the setup has. The values are lent for the contract alone.
+fn turn_client(s: Setup, words: &mut Words, values: &Values, client: usize, u: Turn)
+    requires { ⌜ inRange s ≡ true ⌝ }
+    requires { ⌜ CanTurn (getD (worldOf s (now words) (now values) .requests) client noRequest) u ⌝ }
+    ensures { λ _. ⌜ worldOf s (now (words .exit)) (now (values .entry)) ≡ requestTurned (worldOf s (now (words .entry)) (now (values .entry))) client u ⌝ }
+{
+    if client < s.clients as usize {
+        let r = requests::request_at(&*words, client);
+        let turned = request::turn(r, u);
+        requests::put_request(&mut *words, client, turned);
+        return;
+    }
+}
+
+fn turn(s: Setup, words: &mut Words, values: &Values, client: usize, u: Turn)
+    requires { ⌜ inRange s ≡ true ⌝ }
+    requires { ⌜ CanTurn (getD (worldOf s (now words) (now values) .requests) client noRequest) u ⌝ }
+    ensures { λ _. ⌜ worldOf s (now (words .exit)) (now (values .entry)) ≡ requestTurned (worldOf s (now (words .entry)) (now (values .entry))) client u ⌝ }
+{
+    match u {
+        Turn::Keep => {}
+        Turn::Take(_) => turn_client(s, &mut *words, values, client, u),
+        Turn::End => turn_client(s, &mut *words, values, client, u),
+    }
+}
+
+// What a change makes of the records.
+pub fn change(s: Setup, words: &mut Words, values: &mut Values, at: Target, g: Change)
+    requires { ⌜ inRange s ≡ true ⌝ }
+    requires { ⌜ at .first ≡ at .client * s .objects ⌝ }
+    requires { ⌜ CanTurn (getD (worldOf s (now words) (now values) .requests) (at .client) noRequest) (g .request) ⌝ }
+    ensures { λ _. ⌜ worldOf s (now (words .exit)) (now (values .exit)) ≡ changedAt s (worldOf s (now (words .entry)) (now (values .entry))) at g ⌝ }
+{
+    let copy = g.copy;
+    let all = g.sweep;
+    let request = g.request;
+    change_copy(s, &mut *words, &mut *values, at.copy, copy);
+    sweep(s, &mut *words, &mut *values, at, all);
+    turn(s, &mut *words, &*values, at.client, request);
+}

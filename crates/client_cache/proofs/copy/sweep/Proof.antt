@@ -1,0 +1,45 @@
+use borrow.Author.Needs.{needs}
+use Rattle.client_cache.proofs.Laws.{sweeping}
+use Rattle.client_cache.proofs.copy.sweep.Statement.{statement}
+use Rattle.client_cache.proofs.copy.sweep.Tie as tie
+
+enum-told : tie.Need-enum-told
+enum-told c = search needs
+
+enum-known-g : tie.Need-enum-known-g
+enum-known-g c = search needs
+
+volume-of-requires : tie.Need-volume-of-requires
+volume-of-requires c κs = search needs
+
+returns : tie.Need-returns
+returns c = search sweeping
+
+enum-told-2 : tie.Need-enum-told-2
+enum-told-2 c = search needs
+
+none-requires : tie.Need-none-requires
+none-requires c κs = search needs
+
+returns-2 : tie.Need-returns-2
+returns-2 c = search sweeping
+
+returns-3 : tie.Need-returns-3
+returns-3 c = search sweeping
+
+returns-4 : tie.Need-returns-4
+returns-4 c = search sweeping
+
+pub sweep-spec : {M : Type 1} → statement M
+sweep-spec =
+    tie.close
+    (tie.spec
+    enum-told
+    enum-known-g
+    volume-of-requires
+    returns
+    enum-told-2
+    none-requires
+    returns-2
+    returns-3
+    returns-4)

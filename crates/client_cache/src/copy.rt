@@ -1,0 +1,120 @@
+ghost use mathlib.Core.Path.{_≡_};
+ghost use Rattle.protocol.specs.Leases.{clientAlive};
+ghost use Rattle.protocol.specs.Setup.{volumeOf};
+ghost use Rattle.protocol.specs.Tables.{noCopy};
+ghost use Rattle.protocol.specs.Client.{payloadOr, grantStored, changed, swept};
+ghost use Rattle.protocol.specs.Decide.{kept};
+ghost use Rattle.client_cache.specs.Shown.{shownAt};
+use protocol::message::Payload;
+use protocol::records::Copy;
+use protocol::setup::Setup;
+use protocol::step::Change;
+use protocol::step::CopyChange;
+use protocol::step::Sweep;
+use protocol::step::Turn;
+
+// "A lease is alive when its expiry is greater than the clock.": by the client's clock.
+fn alive(clock: u32, expiry: u32) -> bool
+    ensures { λ r. ⌜ r ≡ clientAlive clock expiry ⌝ }
+{
+    clock < expiry
+}
+
+// Step 2: "copy present and both leases alive", by the client's clock and its volume lease's expiry.
+pub fn showable(clock: u32, lease: u32, c: Copy) -> bool
+    ensures { λ r. ⌜ r ≡ shownAt clock lease c ⌝ }
+{
+    let leased = alive(clock, lease);
+    let held = alive(clock, c.expiry);
+    (c.version != 0) & (leased & held)
+}
+
+// 02, A4: "A GRANT without a value .. keeps the value held."
+fn payload_or(held: u64, payload: Payload) -> u64
+    ensures { λ r. ⌜ r ≡ payloadOr held payload ⌝ }
+{
+    match payload {
+        Payload::Same => held,
+        Payload::Value(x) => x,
+    }
+}
+
+// GRANT: "store its fields .. and end the request".
+pub fn store_grant(c: Copy, version: u32, expiry: u32, payload: Payload) -> Change
+    ensures { λ g. ⌜ g ≡ grantStored c version expiry payload ⌝ }
+{
+    let value = payload_or(c.value, payload);
+    let stored = Copy {
+        version: version,
+        value: value,
+        expiry: expiry,
+    };
+    Change {
+        copy: CopyChange::Fill(stored),
+        request: Turn::End,
+        sweep: Sweep::Keep,
+    }
+}
+
+// "erase the copy (version, value and expiry 0)".
+pub fn none() -> Copy
+    ensures { λ r. ⌜ r ≡ noCopy ⌝ }
+{
+    Copy {
+        version: 0,
+        value: 0,
+        expiry: 0,
+    }
+}
+
+// What a change makes of a copy.
+pub fn change(c: Copy, u: CopyChange) -> Copy
+    ensures { λ r. ⌜ r ≡ changed c u ⌝ }
+{
+    match u {
+        CopyChange::Keep => c,
+        CopyChange::Fill(f) => f,
+        CopyChange::Erase => none(),
+    }
+}
+
+// An object's volume, and 0 where there is no slot.
+fn volume_of(s: Setup, o: usize) -> u8
+    ensures { λ r. ⌜ r ≡ volumeOf s o ⌝ }
+{
+    if o < 32 {
+        return s.volume[o];
+    }
+    0
+}
+
+// What becomes of a client's copy of an object when all its copies are swept. An OFFER leaves version and value.
+pub fn sweep(s: Setup, g: Sweep, c: Copy, object: usize) -> Copy
+    ensures { λ r. ⌜ r ≡ swept s g c object ⌝ }
+{
+    match g {
+        Sweep::Keep => c,
+        Sweep::Expire(v) => {
+            if volume_of(s, object) == v {
+                return Copy {
+                    version: c.version,
+                    value: c.value,
+                    expiry: 0,
+                };
+            }
+            c
+        }
+        Sweep::Erase => none(),
+    }
+}
+
+// The client's records stay.
+pub fn kept() -> Change
+    ensures { λ g. ⌜ g ≡ kept ⌝ }
+{
+    Change {
+        copy: CopyChange::Keep,
+        request: Turn::Keep,
+        sweep: Sweep::Keep,
+    }
+}

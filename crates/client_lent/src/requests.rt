@@ -1,0 +1,57 @@
+ghost use mathlib.Core.Path.{_≡_};
+ghost use Prim.Native.Nat.{_<_};
+ghost use lib.ListN.{getD};
+ghost use Rattle.protocol.specs.Tables.{noRequest};
+ghost use Rattle.protocol.specs.Sound.{requestsSound};
+ghost use Rattle.protocol.specs.Client.{numbered, ended};
+use client_cache::request::end;
+use client_cache::request::number;
+use gate_records::requests::as_many;
+use gate_records::requests::still_sound;
+use protocol::records::Request;
+use protocol::setup::Setup;
+
+// One client's request; where there is no such client, none.
+pub fn look(requests: &[Request], i: usize) -> Request
+    ensures { λ r. ⌜ r ≡ getD (now (requests .entry)) i noRequest ⌝ }
+{
+    if i < requests.len() {
+        return requests[i];
+    }
+    Request {
+        next: 0,
+        standing: false,
+        number: 0,
+        object: 0,
+    }
+}
+
+// The next number is taken for a request about an object, which stands from now on.
+pub fn take_number(r: &mut Request, object: u8) -> u32
+    requires { ⌜ now r .next < 4294967295 ⌝ }
+    ensures { λ n. ⌜ (n ≡ now (r .entry) .next) × (now (r .exit) ≡ numbered (now (r .entry)) object) ⌝ }
+{
+    let n = number(*r, object);
+    *r = n;
+    n.number
+}
+
+// No request stands from now on.
+pub fn end_request(r: &mut Request)
+    ensures { λ _. ⌜ now (r .exit) ≡ ended (now (r .entry)) ⌝ }
+{
+    *r = end(*r);
+}
+
+// Question 1, as far as it asks about requests: one a client, next numbers at least 1, and the object of a standing request exists.
+pub fn sound(requests: &[Request], s: Setup) -> bool
+    ensures { λ b. ⌜ b ≡ requestsSound s (now (requests .entry)) ⌝ }
+{
+    let mut ok = as_many(s, requests.len());
+    let mut k = 0;
+    while k < requests.len() {
+        ok = still_sound(ok, requests[k], s);
+        k += 1;
+    }
+    ok
+}

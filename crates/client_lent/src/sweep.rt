@@ -1,0 +1,23 @@
+ghost use mathlib.Core.Path.{_≡_};
+ghost use Rattle.protocol.specs.Client as client;
+use crate::copies::look;
+use crate::copies::store;
+use client_sweeps::stop_at;
+use client_sweeps::swept_at;
+use protocol::records::Copy;
+use protocol::setup::Setup;
+use protocol::step::Sweep;
+
+// One pass over one client's copies, which begin at `first`: the expiries of one volume's objects become 0, or all copies are erased.
+pub fn sweep(copies: &mut [Copy], s: Setup, g: Sweep, first: usize)
+    ensures { λ _. ⌜ now (copies .exit) ≡ client.sweptAll s g first (now (copies .entry)) ⌝ }
+{
+    let to = stop_at(s, g, first, copies.len());
+    let mut k = first;
+    while k < to {
+        let c = look(&*copies, k);
+        let f = swept_at(s, g, c, k, first);
+        store(&mut *copies, k, f);
+        k += 1;
+    }
+}

@@ -1,0 +1,26 @@
+use Rattle.client_receive.proofs.Receiving.{offer-yes, offer-no}
+use borrow.Author.Needs.{needs}
+use Rattle.client_receive.proofs.receive.offer.Statement.{statement}
+use Rattle.client_receive.proofs.receive.offer.Tie as tie
+
+stands-requires : tie.Need-stands-requires
+stands-requires c κs = search needs
+
+put-requires : tie.Need-put-requires
+put-requires c κs = search needs
+
+push-requires : tie.Need-push-requires
+push-requires c κs = search needs
+
+returns : tie.Need-returns
+returns c = offer-yes _ _ _ _ _ _ _ _ (c .before .before .before .before .before .before .stands .ensures) _ _ _ (c .before .before .before .before .before .before .before .pre .0) (c .before .before .before .before .before .before .before .pre .1) (c .before .before .before .before .before .if1 .taken) (c .before .before .before .put .ensures) (c .push .ensures)
+
+kept-requires : tie.Need-kept-requires
+kept-requires c κs = search needs
+
+returns-2 : tie.Need-returns-2
+returns-2 c = offer-no _ _ _ _ _ _ _ _ (c .before .before .stands .ensures) _ (c .before .if1 .left) (c .kept .ensures)
+
+pub offer-spec : {M : Type 1} → statement M
+offer-spec =
+    tie.close (tie.spec stands-requires put-requires push-requires returns kept-requires returns-2)

@@ -1,0 +1,125 @@
+// What becomes of a client's copy and request when it receives a message; what it knows of the volume and what it sends changes in the words.
+ghost use mathlib.Core.Path.{_≡_};
+ghost use mathlib.Core.Bool.{true};
+ghost use Prim.Native.Nat.{_<_};
+ghost use Rattle.protocol.specs.Setup.{inRange};
+ghost use Rattle.protocol.specs.Decide.{byClient, invalidateReceived, offerReceived};
+ghost use Rattle.state_words.specs.View.{tablesOf, recordsOf};
+ghost use Rattle.client_receive.specs.Views.{grantHeard};
+use crate::view;
+use client_cache::copy;
+use client_cache::request;
+use lease_tests::place;
+use network_send::push;
+use protocol::message::Kind;
+use protocol::message::Message;
+use protocol::message::Payload;
+use protocol::records::Copy;
+use protocol::records::Request;
+use protocol::setup::Setup;
+use protocol::step::Change;
+use protocol::step::CopyChange;
+use protocol::step::Sweep;
+use protocol::step::Turn;
+use state_words::Values;
+use state_words::Words;
+
+// The terms of a GRANT.
+pub struct Terms {
+    pub number: u32,
+    pub volume_expiry: u32,
+    pub epoch: u32,
+    pub version: u32,
+    pub object_expiry: u32,
+    pub payload: Payload,
+}
+
+// GRANT: "needs the standing number, else nothing", and then "store its fields, epoch too, and end the request".
+pub fn grant(
+    s: Setup,
+    words: &mut Words,
+    values: &Values,
+    c: Copy,
+    r: Request,
+    client: u8,
+    object: u8,
+    g: Terms,
+) -> Change
+    requires { ⌜ inRange s ≡ true ⌝ }
+    requires { ⌜ client < s .clients ⌝ }
+    requires { ⌜ object < s .objects ⌝ }
+    ensures { λ u. ⌜ byClient u (tablesOf (now (words .exit)) (now (values .entry))) ≡ grantHeard s (tablesOf (now (words .entry)) (now (values .entry))) c r client object g ⌝ }
+    ensures { λ _. ⌜ recordsOf (now (words .exit)) (now (values .entry)) ≡ recordsOf (now (words .entry)) (now (values .entry)) ⌝ }
+{
+    if request::stands(r, g.number) {
+        let volume = place::volume_of(s, object as usize);
+        view::put(
+            &mut *words,
+            client as usize,
+            volume,
+            g.epoch,
+            g.volume_expiry,
+        );
+        let payload = g.payload;
+        return copy::store_grant(c, g.version, g.object_expiry, payload);
+    }
+    copy::kept()
+}
+
+// INVALIDATE: "erase the copy, forget a standing request for that object, send ACK with the same epoch and new version".
+pub fn invalidate(
+    words: &mut Words,
+    values: &mut Values,
+    r: Request,
+    client: u8,
+    object: u8,
+    epoch: u32,
+    version: u32,
+) -> Change
+    ensures { λ u. ⌜ byClient u (tablesOf (now (words .exit)) (now (values .exit))) ≡ invalidateReceived (tablesOf (now (words .entry)) (now (values .entry))) r client object epoch version ⌝ }
+    ensures { λ _. ⌜ recordsOf (now (words .exit)) (now (values .exit)) ≡ recordsOf (now (words .entry)) (now (values .entry)) ⌝ }
+{
+    let kind = Kind::Ack {
+        object,
+        epoch,
+        version,
+    };
+    push(&mut *words, &mut *values, Message { client, kind });
+    Change {
+        copy: CopyChange::Erase,
+        request: request::forget(r, object),
+        sweep: Sweep::Keep,
+    }
+}
+
+// OFFER: "Take its epoch, set that volume's expiry and all its object expiries to 0, end the request, send DROPPED with that number and epoch."
+pub fn offer(
+    words: &mut Words,
+    values: &mut Values,
+    r: Request,
+    client: u8,
+    volume: u8,
+    number: u32,
+    epoch: u32,
+) -> Change
+    requires { ⌜ client < 16 ⌝ }
+    requires { ⌜ volume < 8 ⌝ }
+    ensures { λ u. ⌜ byClient u (tablesOf (now (words .exit)) (now (values .exit))) ≡ offerReceived (tablesOf (now (words .entry)) (now (values .entry))) r client volume number epoch ⌝ }
+    ensures { λ _. ⌜ recordsOf (now (words .exit)) (now (values .exit)) ≡ recordsOf (now (words .entry)) (now (values .entry)) ⌝ }
+{
+    if request::stands(r, number) {
+        view::put(&mut *words, client as usize, volume as usize, epoch, 0);
+        let kind = Kind::Dropped {
+            volume,
+            number,
+            epoch,
+        };
+        push(&mut *words, &mut *values, Message { client, kind });
+        return Change {
+            copy: CopyChange::Keep,
+            request: Turn::End,
+            sweep: Sweep::Expire(volume),
+        };
+    }
+    copy::kept()
+}

@@ -1,0 +1,53 @@
+ghost use mathlib.Core.Path.{_≡_};
+ghost use Prim.Native.Nat.{_+_, _<_, _≤_};
+ghost use lib.ListN.{getD};
+ghost use Rattle.protocol.specs.Tables.{noCopy};
+ghost use Rattle.state_words.specs.View.{tablesOf, recordsOf};
+ghost use Rattle.client_records.specs.Stores.{withCopy, sweptOver};
+use client_cache::copy;
+use protocol::records::Copy;
+use protocol::setup::Setup;
+use protocol::step::Sweep;
+use state_words::Values;
+use state_words::Words;
+use state_words::client as fields;
+use state_words::pass;
+
+pub fn copy_at<'a>(words: &'a Words, values: &'a Values, place: usize) -> Copy
+    requires { ⌜ place < 512 ⌝ }
+    ensures { λ r. ⌜ r ≡ getD (recordsOf (now (words .entry)) (now (values .entry)) .copies) place noCopy ⌝ }
+{
+    Copy {
+        version: words[fields::COPY_VERSION + place],
+        value: values[fields::COPY_VALUE + place],
+        expiry: words[fields::COPY_EXPIRY + place],
+    }
+}
+
+pub fn put_copy(words: &mut Words, values: &mut Values, place: usize, c: Copy)
+    requires { ⌜ place < 512 ⌝ }
+    ensures { λ _. ⌜ tablesOf (now (words .exit)) (now (values .exit)) ≡ tablesOf (now (words .entry)) (now (values .entry)) ⌝ }
+    ensures { λ _. ⌜ recordsOf (now (words .exit)) (now (values .exit)) ≡ withCopy (recordsOf (now (words .entry)) (now (values .entry))) place c ⌝ }
+{
+    pass::sized(&*words);
+    pass::sized_values(&*values);
+    words[fields::COPY_VERSION + place] = c.version;
+    values[fields::COPY_VALUE + place] = c.value;
+    words[fields::COPY_EXPIRY + place] = c.expiry;
+}
+
+// What becomes of n copies, the first of which is at `first`.
+pub fn sweep(s: Setup, words: &mut Words, values: &mut Values, g: Sweep, first: usize, n: usize)
+    requires { ⌜ first + n ≤ 512 ⌝ }
+    ensures { λ _. ⌜ tablesOf (now (words .exit)) (now (values .exit)) ≡ tablesOf (now (words .entry)) (now (values .entry)) ⌝ }
+    ensures { λ _. ⌜ recordsOf (now (words .exit)) (now (values .exit)) ≡ sweptOver s g first n (recordsOf (now (words .entry)) (now (values .entry))) ⌝ }
+{
+    let end = first + n;
+    let mut place = first;
+    while place < end {
+        let c = copy_at(&*words, &*values, place);
+        let swept = copy::sweep(s, g, c, place - first);
+        put_copy(&mut *words, &mut *values, place, swept);
+        place += 1;
+    }
+}

@@ -1,0 +1,29 @@
+-- 01, "Frame, run file and listing": what a run file holds, over its bytes.
+use Prim.Native.Nat.{ℕ, _+_}
+use mathlib.Core.Bool.{cond}
+use mathlib.Core.List.{List, []}
+use lib.Dec.{leb}
+use lib.ListN.{length, take}
+use Rattle.protocol.specs.declared.setup.Setup.{Setup}
+use Rattle.protocol.specs.declared.step.Step.{Step}
+use Rattle.file_records.specs.Records.{setupIn, stepIn, noSetup, noStep}
+use Rattle.file_shape.specs.Shape.{countOf, setupPlace, firstPlace, wellFormed}
+use Rattle.file_reader.specs.declared.Contents.{Contents}
+
+abbrev pub contents : ℕ → Setup → ℕ → ℕ → Contents
+contents refusal s count first = record { refusal = refusal; setup = s; count = count; first = first }
+
+-- what is read of a file that is refused
+abbrev pub noContents : Contents
+noContents = contents 9 noSetup 0 0
+
+unfoldable pub contentsOf : List ℕ → Contents
+contentsOf l = cond (wellFormed l) (contents 0 (setupIn l (setupPlace l)) (countOf l) (firstPlace l)) noContents
+
+-- "The reader hands back the note as that part of the caller's file": what stands before the setup; the empty part of a refused file
+unfoldable pub noteOf : List ℕ → List ℕ
+noteOf l = cond (wellFormed l) (take (setupPlace l) l) []
+
+-- the step whose record begins at p; where the file has no such record, a step with nothing in it
+unfoldable pub stepAt : List ℕ → ℕ → Step
+stepAt l p = cond (leb (p + 16) (length l)) (stepIn l p) noStep

@@ -1,0 +1,83 @@
+-- Records written and read back, and read and written again.
+use Prim.Native.Nat.{ℕ, zero, suc, _+_, _*_, _<_, _≤_}
+use native.Mathlib.Nat.{add-zero}
+use native.Mathlib.Omega.{arith}
+use mathlib.Core.Bool.{true}
+use mathlib.Core.List.{List, [], _∷_, _++_, append-assoc}
+use mathlib.Core.Path.{_≡_, refl, sym, ap, _∙_}
+use lib.ListN.{length, getD, drop}
+use lib.Seq.{getD-drop}
+use Rattle.bytes_layout.specs.Number.{littleEndian, bytesOf, bytesAt, limit, numberAt, Bytes, fourBytes, read-back, bytes-then, four-then, number-then, number-last}
+use Rattle.protocol.specs.declared.setup.Setup.{Setup}
+use Rattle.protocol.specs.declared.step.Step.{Step}
+use Rattle.protocol.specs.Setup.{inRange}
+use Rattle.protocol.specs.Ranges.{ranges}
+use Rattle.file_records.specs.Records.{setupIn, stepIn}
+use Rattle.file_records.specs.Bytes.{setupFront, setupBytes, stepBytes, trailerBytes}
+
+-- clock and value have numbers of their width, as in every step of a program
+pub record Widths (x : Step) : Type 0 where
+  pub clock : x .clock < limit 4
+  pub value : x .value < limit 8
+
+-- ---- a record at a place is the one at the start of what is left from there on
+module _ (l : List ℕ) (p : ℕ) where
+  pub bytes-there : (q w : ℕ) → bytesAt l (p + q) w ≡ bytesAt (drop p l) q w
+  unfolding bytesAt
+  bytes-there q zero = refl
+  bytes-there q (suc w) =
+      let e : p + q + 1 ≡ p + (q + 1) = omega arith in
+      rw (← getD-drop p l q 0, e) (ap (_∷_ (getD (drop p l) q 0)) (bytes-there (q + 1) w))
+
+  first-there : getD l p 0 ≡ getD (drop p l) 0 0
+  first-there = sym (getD-drop p l 0 0 ∙ rw add-zero)
+
+  pub step-there : stepIn l p ≡ stepIn (drop p l) 0
+  unfolding stepIn
+  step-there =
+      rw (first-there, ← getD-drop p l 1 0, ← getD-drop p l 2 0, ← getD-drop p l 3 0, bytes-there 4 4, bytes-there 8 8)
+
+  pub setup-there : setupIn l p ≡ setupIn (drop p l) 0
+  unfolding setupIn
+  setup-there =
+      rw (first-there, ← getD-drop p l 1 0, ← getD-drop p l 2 0, bytes-there 4 4, bytes-there 8 4, bytes-there 12 4, bytes-there 16 32)
+
+  pub bytes-left : Bytes l → Bytes (drop p l)
+  bytes-left b i = rw (getD-drop p l i 0) (b (p + i))
+
+-- ---- written and read back, whatever follows
+bytes-whole : (v b : List ℕ) → bytesAt (v ++ b) 0 (length v) ≡ v
+unfolding bytesAt
+bytes-whole [] b = refl
+bytes-whole (x ∷ v) b = ap (_∷_ x) (bytes-there (x ∷ (v ++ b)) 1 0 (length v) ∙ bytes-whole v b)
+
+pub step-back : (x : Step) (b : List ℕ) → Widths x → stepIn (stepBytes x ++ b) 0 ≡ x
+unfolding stepIn stepBytes littleEndian bytesOf bytesAt
+step-back x b h = rw (read-back 4 (x .clock) (h .clock), read-back 8 (x .value) (h .value))
+
+pub setup-back : (s : Setup) (b : List ℕ) → inRange s ≡ true → length (s .volume) ≡ 32 → setupIn (setupBytes s ++ b) 0 ≡ s
+unfolding setupIn setupFront littleEndian bytesOf bytesAt limit
+setup-back s b e h =
+    let r = ranges s e in
+    let v : bytesAt (setupBytes s ++ b) 16 32 ≡ s .volume = bytes-there (setupBytes s ++ b) 16 0 32 ∙ (rw h at (bytes-whole (s .volume) b)) in
+    rw (v, read-back 4 (s .tv) (omega (arith, r .tv .1)), read-back 4 (s .t) (omega (arith, r .t .1)), read-back 4 (s .m) (omega (arith, r .m .1)))
+
+pub trailer-back : (n : ℕ) → n ≤ 4000 → (numberAt (trailerBytes n) 0 4 ≡ n) × (numberAt (trailerBytes n) 4 4 ≡ 56 + 16 * n)
+unfolding trailerBytes littleEndian bytesOf bytesAt limit
+trailer-back n h = (read-back 4 n (omega arith), read-back 4 (56 + 16 * n) (omega arith))
+
+-- ---- read and written again, with what follows
+module _ (l : List ℕ) (b : Bytes l) where
+  pub step-again : 16 ≤ length l → stepBytes (stepIn l 0) ++ drop 16 l ≡ l
+  unfolding stepBytes stepIn
+  step-again h = simp append-assoc (rw (number-then l b 8 8 (omega arith), number-then l b 4 4 (omega arith)) (four-then l (omega arith)))
+
+  pub setup-again : 48 ≤ length l → getD l 3 0 ≡ 0 → setupBytes (setupIn l 0) ++ drop 48 l ≡ l
+  unfolding setupFront setupIn
+  setup-again h z =
+      simp append-assoc (rw (bytes-then l 16 32 (omega arith), number-then l b 12 4 (omega arith), number-then l b 8 4 (omega arith), number-then l b 4 4 (omega arith))
+      (ap (λ (d : ℕ). fourBytes (getD l 0 0) (getD l 1 0) (getD l 2 0) d ++ drop 4 l) (sym z) ∙ four-then l (omega arith)))
+
+  pub trailer-again : (n : ℕ) → length l ≡ 8 → numberAt l 0 4 ≡ n → numberAt l 4 4 ≡ 56 + 16 * n → trailerBytes n ≡ l
+  unfolding trailerBytes
+  trailer-again n h e f = rw (← f, ← e) (rw (number-last l b 4 4 (sym h)) (number-then l b 0 4 (omega arith)))

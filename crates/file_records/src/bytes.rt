@@ -1,0 +1,67 @@
+// The records of a run file as bytes of a lent output: a setup, a step, the trailer. Each function writes at a place where callers see to it that there is
+// room, and gives the place after.
+ghost use Prim.Native.Nat.{_+_, _≤_};
+ghost use mathlib.Core.Bool.{true};
+ghost use mathlib.Core.Path.{_≡_};
+ghost use lib.ListN.{length};
+ghost use Rattle.protocol.specs.Setup.{inRange};
+ghost use Rattle.bytes_layout.specs.Number.{Stored};
+ghost use Rattle.bytes_layout.specs.Written.{Written};
+ghost use Rattle.file_records.specs.Bytes.{setupFront, setupBytes, stepBytes, trailerBytes};
+ghost use Rattle.file_records.specs.Round.{Widths};
+use protocol::setup::Setup;
+use protocol::step::Step;
+
+// The counts and durations of a setup in range: its counts are bytes.
+fn write_front(out: &mut [u8], at: usize, setup: Setup)
+    requires { ⌜ at + 16 ≤ length (now out) ⌝ }
+    requires { ⌜ inRange setup ≡ true ⌝ }
+    ensures { λ _. ⌜ Stored (now (out .entry)) (now (out .exit)) at (setupFront setup) ⌝ }
+{
+    bytes_layout::write_four(
+        out,
+        at,
+        setup.clients as u8,
+        setup.volumes as u8,
+        setup.objects as u8,
+        0,
+    );
+    bytes_layout::write_u32(out, at + 4, setup.tv);
+    bytes_layout::write_u32(out, at + 8, setup.t);
+    bytes_layout::write_u32(out, at + 12, setup.m);
+}
+
+// The last two clauses are for callers, who do not see that a setup has 32 volume bytes.
+pub fn write_setup(out: &mut [u8], at: usize, setup: Setup) -> usize
+    requires { ⌜ at + 48 ≤ length (now out) ⌝ }
+    requires { ⌜ inRange setup ≡ true ⌝ }
+    ensures written { λ r. ⌜ Written (now (out .entry)) (now (out .exit)) at (setupBytes setup) r ⌝ }
+    ensures place { λ r. ⌜ r ≡ at + 48 ⌝ }
+    ensures volumes { λ _. ⌜ length (setup .volume) ≡ 32 ⌝ }
+{
+    write_front(out, at, setup);
+    let volume = setup.volume;
+    bytes_layout::output::write_bytes(out, at + 16, &volume)
+}
+
+// The second clause is for callers too: the numbers of a step have their width.
+pub fn write_step(out: &mut [u8], at: usize, step: Step) -> usize
+    requires { ⌜ at + 16 ≤ length (now out) ⌝ }
+    ensures written { λ r. ⌜ Written (now (out .entry)) (now (out .exit)) at (stepBytes step) r ⌝ }
+    ensures widths { λ _. ⌜ Widths step ⌝ }
+{
+    bytes_layout::write_four(out, at, step.kind, step.client, step.object, step.place);
+    bytes_layout::write_u32(out, at + 4, step.clock);
+    bytes_layout::write_u64(out, at + 8, step.value);
+    at + 16
+}
+
+pub fn write_trailer(out: &mut [u8], at: usize, count: u32) -> usize
+    requires { ⌜ at + 8 ≤ length (now out) ⌝ }
+    requires { ⌜ count ≤ 4000 ⌝ }
+    ensures { λ r. ⌜ Written (now (out .entry)) (now (out .exit)) at (trailerBytes count) r ⌝ }
+{
+    bytes_layout::write_u32(out, at, count);
+    bytes_layout::write_u32(out, at + 4, 56 + 16 * count);
+    at + 8
+}

@@ -1,0 +1,65 @@
+-- 01, "Frame, run file and listing": where the parts of a run file stand, and which files are shaped so.
+use Prim.Native.Nat.{ℕ, _+_, _-_, _*_}
+use mathlib.Core.Bool.{Bool, not, _&&_, _||_}
+use mathlib.Core.List.{List}
+use lib.Dec.{leb, eqb}
+use lib.ListN.{length, getD}
+use Rattle.laws.specs.Loop.{allFrom}
+use Rattle.bytes_layout.specs.Number.{numberAt}
+use Rattle.protocol.specs.declared.step.Step.{Step}
+use Rattle.protocol.specs.Setup.{between, inRange}
+use Rattle.protocol.specs.Gate.{isClock, isWrite, usesClient, usesObject, usesPlace, known}
+use Rattle.file_records.specs.Records.{setupIn, stepIn}
+
+-- "trailer of 8: step count, then the distance from the file's end back to the setup"
+abbrev pub countOf : List ℕ → ℕ
+countOf l = numberAt l (length l - 8) 4
+
+abbrev pub distanceOf : List ℕ → ℕ
+distanceOf l = numberAt l (length l - 4) 4
+
+-- where the setup begins, and where record k of the steps does
+abbrev pub setupPlace : List ℕ → ℕ
+setupPlace l = length l - distanceOf l
+
+abbrev pub firstPlace : List ℕ → ℕ
+firstPlace l = setupPlace l + 48
+
+abbrev pub placeOf : ℕ → ℕ → ℕ
+placeOf first k = first + 16 * k
+
+-- the 0 after a setup's counts
+abbrev pub reserved : List ℕ → ℕ → ℕ
+reserved l p = getD l (p + 3) 0
+
+-- "unused fields 0". "Its shape asks nothing of an unknown kind or of that step's fields."
+unfoldable pub stepFits : Step → Bool
+stepFits x =
+    not (known x)
+    || (usesClient x || eqb (x .client) 0)
+    && (usesObject x || eqb (x .object) 0)
+    && (usesPlace x || eqb (x .place) 0)
+    && (isClock x || eqb (x .clock) 0)
+    && (isWrite x || eqb (x .value) 0)
+
+abbrev pub stepFitsAt : List ℕ → ℕ → ℕ → Bool
+stepFitsAt l first k = stepFits (stepIn l (placeOf first k))
+
+abbrev pub stepsFit : List ℕ → ℕ → ℕ → Bool
+stepsFit l first n = allFrom (stepFitsAt l first) 0 n
+
+-- "up to 4,000 steps"; "the distance .. 56 + 16 × count"; there is room for it
+abbrev pub trailerFits : ℕ → ℕ → ℕ → Bool
+trailerFits n count distance = leb count 4000 && eqb distance (56 + 16 * count) && leb distance n
+
+-- "A run file, at most 65,536 bytes": setup and trailer are there, and the trailer is right
+unfoldable pub measured : List ℕ → Bool
+measured l = between 56 65536 (length l) && trailerFits (length l) (countOf l) (distanceOf l)
+
+-- the 0 after the counts, the setup and the steps
+unfoldable pub contentsFit : List ℕ → Bool
+contentsFit l = eqb (reserved l (setupPlace l)) 0 && inRange (setupIn l (setupPlace l)) && stepsFit l (firstPlace l) (countOf l)
+
+-- "Run file shaped as above, its setup in range? 9."
+unfoldable pub wellFormed : List ℕ → Bool
+wellFormed l = measured l && contentsFit l

@@ -1,0 +1,94 @@
+// Where the parts of a run file stand, and which files are shaped as 01 says.
+
+ghost use mathlib.Core.Path.{_≡_};
+ghost use Rattle.file_shape.specs.Shape.{countOf, setupPlace, firstPlace, stepFits, stepsFit, trailerFits, measured, contentsFit, wellFormed};
+ghost use Rattle.file_shape.specs.Parts.{Parts};
+use protocol::step::Step;
+
+// A field that the step's kind does not use is 0; an unknown kind is asked nothing.
+pub fn step_fits(step: Step) -> bool
+    ensures { λ r. ⌜ r ≡ stepFits step ⌝ }
+{
+    let client = known_kinds::uses_client(step) | (step.client == 0);
+    let object = known_kinds::uses_object(step) | (step.object == 0);
+    let place = known_kinds::uses_place(step) | (step.place == 0);
+    let clock = known_kinds::uses_clock(step) | (step.clock == 0);
+    let value = known_kinds::uses_value(step) | (step.value == 0);
+    !known_kinds::known(step) | (client & object & place & clock & value)
+}
+
+// The trailer's numbers agree with each other and with a file of n bytes.
+fn trailer_fits(n: usize, count: u32, distance: u32) -> bool
+    ensures { λ r. ⌜ r ≡ trailerFits n count distance ⌝ }
+{
+    (count <= 4000) & (distance as u64 == 56 + 16 * (count as u64)) & (distance as usize <= n)
+}
+
+fn measured(file: &[u8]) -> bool
+    ensures { λ r. ⌜ r ≡ measured (now (file .entry)) ⌝ }
+{
+    let n = file.len();
+    if n < 56 {
+        return false;
+    }
+    if 65536 < n {
+        return false;
+    }
+    trailer_fits(
+        n,
+        bytes_layout::read_u32(file, n - 8),
+        bytes_layout::read_u32(file, n - 4),
+    )
+}
+
+pub fn count_of(file: &[u8]) -> u32
+    requires { ⌜ Parts (now file) ⌝ }
+    ensures { λ r. ⌜ r ≡ countOf (now (file .entry)) ⌝ }
+{
+    bytes_layout::read_u32(file, file.len() - 8)
+}
+
+// Where the setup begins: the trailer's distance back from the end.
+pub fn setup_place(file: &[u8]) -> usize
+    requires { ⌜ Parts (now file) ⌝ }
+    ensures { λ r. ⌜ r ≡ setupPlace (now (file .entry)) ⌝ }
+{
+    let n = file.len();
+    n - bytes_layout::read_u32(file, n - 4) as usize
+}
+
+// Every record's unused fields are 0. The place goes from record to record, 16 further after each.
+fn steps_fit(file: &[u8]) -> bool
+    requires { ⌜ Parts (now file) ⌝ }
+    ensures { λ r. ⌜ r ≡ stepsFit (now (file .entry)) (firstPlace (now (file .entry))) (countOf (now (file .entry))) ⌝ }
+{
+    let count = count_of(file);
+    let mut place = setup_place(file) + 48;
+    let mut ok = true;
+    let mut k = 0;
+    while k < count {
+        ok = ok & step_fits(file_records::step_in(file, place));
+        place += 16;
+        k += 1;
+    }
+    ok
+}
+
+// The setup is in range, and so are its spare byte and the steps.
+fn contents_fit(file: &[u8]) -> bool
+    requires { ⌜ Parts (now file) ⌝ }
+    ensures { λ r. ⌜ r ≡ contentsFit (now (file .entry)) ⌝ }
+{
+    let at = setup_place(file);
+    let head = (file[at + 3] == 0) & setup::in_range(file_records::setup_in(file, at));
+    head & steps_fit(file)
+}
+
+pub fn well_formed(file: &[u8]) -> bool
+    ensures { λ r. ⌜ r ≡ wellFormed (now (file .entry)) ⌝ }
+{
+    if measured(file) {
+        return contents_fit(file);
+    }
+    false
+}

@@ -1,0 +1,97 @@
+// The writer of run files: from a note, a setup and steps to the bytes that the reader takes apart again (02, A5).
+ghost use Prim.Native.Nat.{_+_, _*_, _≤_};
+ghost use mathlib.Core.Bool.{true};
+ghost use mathlib.Core.Path.{_≡_};
+ghost use lib.ListN.{length};
+ghost use Rattle.bytes_layout.specs.Written.{Written};
+ghost use Rattle.laws.specs.Lists.{All};
+ghost use Rattle.bytes_layout.specs.Report.{reportNumber, Reports};
+ghost use Rattle.protocol.specs.Setup.{inRange};
+ghost use Rattle.file_records.specs.Bytes.{stepsBytes, fileBytes};
+ghost use Rattle.file_records.specs.Round.{Widths};
+ghost use Rattle.file_records.specs.Held.{held};
+ghost use Rattle.file_writer.specs.File.{allFit, fileFits, writeRefusal};
+ghost use Rattle.file_writer.specs.ReadBack.{ReadAs};
+use bytes_layout::output::Report;
+use file_records::list::Steps;
+use protocol::setup::Setup;
+
+// Whether each step of a known kind has 0 in the fields that it does not use.
+fn all_fit(steps: Steps) -> bool
+    requires { ⌜ steps .len ≤ 4000 ⌝ }
+    ensures { λ r. ⌜ r ≡ allFit (held steps) ⌝ }
+{
+    let n = steps.len as usize;
+    let mut ok = true;
+    let mut k = 0;
+    while k < n {
+        ok = ok & file_shape::step_fits(steps.items[k]);
+        k += 1;
+    }
+    ok
+}
+
+// Whether these steps and a note of this length make a run file, and there is room for it.
+fn file_fits(note_len: usize, steps: Steps, room: usize) -> bool
+    ensures { λ r. ⌜ r ≡ fileFits «note_len» steps room ⌝ }
+{
+    if 4000 < steps.len {
+        return false;
+    }
+    if 65536 < note_len {
+        return false;
+    }
+    let length = note_len + (56 + 16 * (steps.len as usize));
+    if 65536 < length {
+        return false;
+    }
+    if room < length {
+        return false;
+    }
+    all_fit(steps)
+}
+
+fn write_steps(out: &mut [u8], at: usize, steps: Steps) -> usize
+    requires { ⌜ steps .len ≤ 4000 ⌝ }
+    requires { ⌜ at + 16 * steps .len ≤ length (now out) ⌝ }
+    ensures written { λ r. ⌜ Written (now (out .entry)) (now (out .exit)) at (stepsBytes (held steps)) r ⌝ }
+    ensures widths { λ _. ⌜ All Widths (held steps) ⌝ }
+{
+    let n = steps.len as usize;
+    let mut place = at;
+    let mut k = 0;
+    while k < n {
+        place = file_records::bytes::write_step(out, place, steps.items[k]);
+        k += 1;
+    }
+    place
+}
+
+// A file that fits, at the start of an output that has room for it.
+fn write_file(note: &[u8], setup: Setup, steps: Steps, out: &mut [u8]) -> usize
+    requires { ⌜ inRange setup ≡ true ⌝ }
+    requires { ⌜ fileFits (length (now note)) steps (length (now out)) ≡ true ⌝ }
+    ensures written { λ r. ⌜ Written (now (out .entry)) (now (out .exit)) 0 (fileBytes (now (note .entry)) setup (held steps)) r ⌝ }
+    ensures widths { λ _. ⌜ (length (setup .volume) ≡ 32) × All Widths (held steps) ⌝ }
+{
+    let at = bytes_layout::output::write_bytes(out, 0, note);
+    let first = file_records::bytes::write_setup(out, at, setup);
+    let end = write_steps(out, first, steps);
+    file_records::bytes::write_trailer(out, end, steps.len)
+}
+
+// The run file of a note, a setup and steps, at the start of the output. All is asked before the first byte is written: a setup out of range is 7; then 10
+// for more than 4,000 steps, a step of a known kind with an unused field that is not 0, a file of more than 65,536 bytes, or an output too short for it.
+// What is written the reader takes apart into the same note, setup and steps.
+pub fn write(note: &[u8], setup: Setup, steps: Steps, out: &mut [u8]) -> Report
+    ensures reports { λ r. ⌜ Reports (writeRefusal (length (now (note .entry))) setup steps (length (now (out .entry)))) (fileBytes (now (note .entry)) setup (held steps)) (now (out .entry)) (now (out .exit)) r ⌝ }
+    ensures reads { λ r. ⌜ (reportNumber r ≡ 0 → ReadAs (fileBytes (now (note .entry)) setup (held steps)) (now (note .entry)) setup (held steps)) ⌝ }
+{
+    if setup::in_range(setup) {
+        if file_fits(note.len(), steps, out.len()) {
+            return Report::Written(write_file(note, setup, steps, out));
+        }
+        return Report::Refused(10);
+    }
+    Report::Refused(7)
+}

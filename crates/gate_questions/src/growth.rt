@@ -1,0 +1,49 @@
+// Question 6 at the gate (01, "Questions at the gate"), of the tables in the words: what must grow can. It reads no value.
+ghost use mathlib.Core.Bool.{true, not, _||_};
+ghost use mathlib.Core.Path.{_≡_};
+ghost use Prim.Native.Nat.{ℕ, _≤_};
+ghost use Rattle.laws.specs.Loop.{allFrom};
+ghost use Rattle.protocol.specs.Setup.{inRange};
+ghost use Rattle.protocol.specs.Sound.{canGrow};
+ghost use Rattle.protocol.specs.Tables.{epochAt, versionAt};
+ghost use Rattle.protocol.specs.Gate.{isWrite, growable};
+ghost use Rattle.state_words.specs.View.{numbersOf};
+use protocol::records::Request;
+use protocol::setup::Setup;
+use protocol::step::Step;
+use state_words::Words;
+use state_words::server;
+
+// 6. "Is the version .. that must grow below 4,294,967,295?" An object that does not exist has version 0.
+fn version_grows(words: &Words, step: Step) -> bool
+    ensures { λ r. ⌜ r ≡ (not (isWrite step) || canGrow (versionAt (numbersOf (now (words .entry))) (step .object))) ⌝ }
+{
+    let object = step.object as usize;
+    if object < 32 {
+        return (step.kind != 4) | (words[server::VERSION + object] < 4294967295);
+    }
+    true
+}
+
+// 6. ".. every epoch ..".
+fn epochs_grow(words: &Words, n: usize) -> bool
+    requires { ⌜ n ≤ 8 ⌝ }
+    ensures { λ r. ⌜ r ≡ allFrom (λ (v : ℕ). canGrow (epochAt (numbersOf (now (words .entry))) v)) 0 n ⌝ }
+{
+    let mut ok = true;
+    let mut volume = 0;
+    while volume < n {
+        ok = ok & (words[server::VOLUME_EPOCH + volume] < 4294967295);
+        volume += 1;
+    }
+    ok
+}
+
+pub fn growable(s: Setup, words: &Words, request: Request, step: Step) -> bool
+    requires { ⌜ inRange s ≡ true ⌝ }
+    ensures { λ r. ⌜ r ≡ growable s (numbersOf (now (words .entry))) request step ⌝ }
+{
+    let version = version_grows(words, step);
+    let epochs = epochs_grow(words, s.volumes as usize);
+    version & ((step.kind != 8) | epochs) & ((step.kind != 3) | (request.next < 4294967295))
+}

@@ -1,0 +1,39 @@
+// Questions 3 to 6 at the gate (01, "Questions at the gate"), of the tables in the words, once the setup is in range. They read no value.
+pub mod growth;
+
+ghost use mathlib.Core.Path.{_≡_};
+ghost use Rattle.protocol.specs.Gate.{exists, timely, vacant};
+ghost use Rattle.state_words.specs.View.{numbersOf};
+use protocol::setup::Setup;
+use protocol::step::Step;
+use state_words::Words;
+use state_words::network;
+use state_words::server;
+
+// 3. "Do the dash, object and place it uses exist?"
+pub fn exists(s: Setup, words: &Words, step: Step) -> bool
+    ensures { λ r. ⌜ r ≡ exists s (numbersOf (now (words .entry))) step ⌝ }
+{
+    (!known_kinds::uses_client(step) | ((step.client as u32) < s.clients))
+        & (!known_kinds::uses_object(step) | ((step.object as u32) < s.objects))
+        & (!known_kinds::uses_place(step) | ((step.place as u32) < words[network::LENGTH]))
+}
+
+// 4. "Is T from the clock to 2,147,483,647?"
+pub fn timely(words: &Words, step: Step) -> bool
+    ensures { λ r. ⌜ r ≡ timely (numbersOf (now (words .entry))) step ⌝ }
+{
+    !known_kinds::uses_clock(step)
+        | ((words[network::CLOCK] <= step.clock) & (step.clock <= 2147483647))
+}
+
+// 5. "For a write, is none standing there?" An object that does not exist has none.
+pub fn vacant(words: &Words, step: Step) -> bool
+    ensures { λ r. ⌜ r ≡ vacant (numbersOf (now (words .entry))) step ⌝ }
+{
+    let object = step.object as usize;
+    if object < 32 {
+        return (step.kind != 4) | (words[server::STANDING + object] == 0);
+    }
+    true
+}

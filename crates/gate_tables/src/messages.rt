@@ -1,0 +1,28 @@
+ghost use mathlib.Core.Path.{_≡_};
+ghost use Rattle.protocol.specs.Sound.{queueSound};
+ghost use Rattle.state_words.specs.View.{tablesOf};
+use gate_message::messages::message_sound;
+use network_queue::list;
+use protocol::setup::Setup;
+use state_words::Values;
+use state_words::Words;
+use state_words::network;
+
+// "at most 64 messages", each sound.
+pub fn queue_sound(s: Setup, words: &Words, values: &Values) -> bool
+    ensures { λ r. ⌜ r ≡ queueSound s (tablesOf (now (words .entry)) (now (values .entry)) .queue) ⌝ }
+{
+    let length = words[network::LENGTH];
+    if 64 < length {
+        return false;
+    }
+    let n = length as usize;
+    let mut ok = true;
+    let mut i = 0;
+    while i < n {
+        let message = list::message_at(words, values, i);
+        ok = ok & message_sound(s, message);
+        i += 1;
+    }
+    ok
+}

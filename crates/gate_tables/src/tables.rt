@@ -1,0 +1,122 @@
+// Question 1 of all tables and messages, once the setup is in range. Each pass goes over what exists, and has no branch.
+ghost use mathlib.Core.Bool.{true};
+ghost use mathlib.Core.Path.{_≡_};
+ghost use Prim.Native.Nat.{_<_, _≤_};
+ghost use Rattle.laws.specs.Loop.{allFrom};
+ghost use Rattle.protocol.specs.Setup.{inRange};
+ghost use Rattle.protocol.specs.Sound.{volumeSound, objectSound, sessionSound, sessionsSound, holderSound, holdersSound, tablesSound};
+ghost use Rattle.state_words.specs.View.{tablesOf, numbersOf};
+use crate::messages;
+use protocol::setup::Setup;
+use state_words::Values;
+use state_words::Words;
+use state_words::client;
+use state_words::network;
+use state_words::server;
+
+// "server epochs .. at least 1", VE and guard.
+fn volumes_fit(words: &Words, n: usize) -> bool
+    requires { ⌜ n ≤ 8 ⌝ }
+    ensures { λ r. ⌜ r ≡ allFrom (volumeSound (numbersOf (now (words .entry)))) 0 n ⌝ }
+{
+    let mut ok = true;
+    let mut volume = 0;
+    while volume < n {
+        let epoch = words[server::VOLUME_EPOCH + volume];
+        let volume_expiry = words[server::VOLUME_EXPIRY + volume];
+        let guard = words[server::GUARD + volume];
+        ok = ok & ((1 <= epoch) & (volume_expiry <= 2148483647) & (guard <= 2148483647));
+        volume += 1;
+    }
+    ok
+}
+
+// Versions at least 1, OE, the latest end, and "a version with a standing write below 4,294,967,295".
+fn objects_fit(words: &Words, n: usize) -> bool
+    requires { ⌜ n ≤ 32 ⌝ }
+    ensures { λ r. ⌜ r ≡ allFrom (objectSound (numbersOf (now (words .entry)))) 0 n ⌝ }
+{
+    let mut ok = true;
+    let mut object = 0;
+    while object < n {
+        let version = words[server::VERSION + object];
+        let object_expiry = words[server::OBJECT_EXPIRY + object];
+        let open = (words[server::END + object] <= 2148483647) & (version < 4294967295);
+        let settled = (words[server::STANDING + object] == 0) | open;
+        ok = ok & ((1 <= version) & (object_expiry <= 2148483647) & settled);
+        object += 1;
+    }
+    ok
+}
+
+// One client's volume leases, at the server and at the client.
+fn sessions_fit(words: &Words, client: usize, n: usize) -> bool
+    requires { ⌜ client < 16 ⌝ }
+    requires { ⌜ n ≤ 8 ⌝ }
+    ensures { λ r. ⌜ r ≡ allFrom (sessionSound (numbersOf (now (words .entry))) client) 0 n ⌝ }
+{
+    let mut ok = true;
+    let mut volume = 0;
+    while volume < n {
+        let granted = words[server::SESSION_EXPIRY + (client * 8 + volume)];
+        let known = words[client::VIEW_EXPIRY + (client * 8 + volume)];
+        ok = ok & ((granted <= 2148483647) & (known <= 2148483647));
+        volume += 1;
+    }
+    ok
+}
+
+// One client's object leases at the server.
+fn holders_fit(words: &Words, client: usize, n: usize) -> bool
+    requires { ⌜ client < 16 ⌝ }
+    requires { ⌜ n ≤ 32 ⌝ }
+    ensures { λ r. ⌜ r ≡ allFrom (holderSound (numbersOf (now (words .entry))) client) 0 n ⌝ }
+{
+    let mut ok = true;
+    let mut object = 0;
+    while object < n {
+        ok = ok & (words[server::LEASE + (client * 32 + object)] <= 2148483647);
+        object += 1;
+    }
+    ok
+}
+
+fn all_sessions_fit(s: Setup, words: &Words) -> bool
+    requires { ⌜ inRange s ≡ true ⌝ }
+    ensures { λ r. ⌜ r ≡ allFrom (sessionsSound s (numbersOf (now (words .entry)))) 0 (s .clients) ⌝ }
+{
+    let clients = s.clients as usize;
+    let mut ok = true;
+    let mut client = 0;
+    while client < clients {
+        ok = ok & sessions_fit(words, client, s.volumes as usize);
+        client += 1;
+    }
+    ok
+}
+
+fn all_holders_fit(s: Setup, words: &Words) -> bool
+    requires { ⌜ inRange s ≡ true ⌝ }
+    ensures { λ r. ⌜ r ≡ allFrom (holdersSound s (numbersOf (now (words .entry)))) 0 (s .clients) ⌝ }
+{
+    let clients = s.clients as usize;
+    let mut ok = true;
+    let mut client = 0;
+    while client < clients {
+        ok = ok & holders_fit(words, client, s.objects as usize);
+        client += 1;
+    }
+    ok
+}
+
+pub fn tables_sound(s: Setup, words: &Words, values: &Values) -> bool
+    requires { ⌜ inRange s ≡ true ⌝ }
+    ensures { λ r. ⌜ r ≡ tablesSound s (tablesOf (now (words .entry)) (now (values .entry))) ⌝ }
+{
+    let volumes = volumes_fit(words, s.volumes as usize);
+    let objects = objects_fit(words, s.objects as usize);
+    let sessions = all_sessions_fit(s, words);
+    let holders = all_holders_fit(s, words);
+    let queue = messages::queue_sound(s, words, values);
+    (words[network::CLOCK] <= 2147483647) & volumes & objects & sessions & holders & queue
+}

@@ -1,0 +1,19 @@
+-- Rattle proves this by itself; the file is here so that a must-fail edit is refused at the fact that fails.
+use borrow.Author.Needs.{needs}
+use Rattle.gevtsomi.proofs.told.Statement.{statement}
+use Rattle.gevtsomi.proofs.told.Tie as tie
+
+enum-known-report : tie.Need-enum-known-report
+enum-known-report c = search needs
+
+enum-known-report-2 : tie.Need-enum-known-report-2
+enum-known-report-2 c = search needs
+
+returns : tie.Need-returns
+returns c = search needs
+
+returns-2 : tie.Need-returns-2
+returns-2 c = search needs
+
+pub told-spec : {M : Type 1} → statement M
+told-spec = tie.close (tie.spec enum-known-report enum-known-report-2 returns returns-2)

@@ -1,0 +1,42 @@
+-- What a caller from another language gets: the number of the refusal in 01 or 02, 0 for none, and what stands in what it lent.
+use Prim.Native.Nat.{ℕ}
+use mathlib.Core.Bool.{cond}
+use mathlib.Core.List.{List}
+use mathlib.Core.Path.{_≡_}
+use lib.Dec.{eqb}
+use lib.ListN.{length}
+use lib.Seq.{sets}
+use Rattle.protocol.specs.declared.setup.Setup.{Setup}
+use Rattle.bytes_layout.specs.declared.output.Report.{Report}
+use Rattle.bytes_layout.specs.declared.output.Report.the-variants as report
+use Rattle.bytes_layout.specs.Report.{unlessRefused}
+use Rattle.file_records.specs.Bytes.{fileBytes}
+use Rattle.file_records.specs.declared.list.Steps.{Steps}
+use Rattle.file_records.specs.Held.{held}
+use Rattle.run.specs.Listed.{fileListing, listRefusal}
+use Rattle.file_writer.specs.File.{writeRefusal}
+use Rattle.workload.specs.Workload.{workload, fileRefusal}
+
+-- the length that a caller is told: that of what was written, and else what it was told before
+abbrev pub lengthAfter : Report → ℕ → ℕ
+lengthAfter (report.Written n) before = n
+lengthAfter (report.Refused k) before = before
+
+-- the bytes b at the start of an output, and their length; a call that is refused leaves both as they were
+pub record Writes (refusal : ℕ) (b before after : List ℕ) (n m r : ℕ) : Type 0 where
+  pub number : r ≡ refusal
+  pub written : m ≡ cond (eqb refusal 0) (length b) n
+  pub bytes : after ≡ sets before 0 (unlessRefused refusal b)
+
+-- a listing
+abbrev pub Lists : List ℕ → List ℕ → List ℕ → ℕ → ℕ → ℕ → Type 0
+Lists file before after n m r = Writes (listRefusal file (length before)) (fileListing file) before after n m r
+
+-- a run file of these steps
+abbrev pub WritesFile : List ℕ → Setup → Steps → List ℕ → List ℕ → ℕ → ℕ → ℕ → Type 0
+WritesFile note s x before after n m r = Writes (writeRefusal (length note) s x (length before)) (fileBytes note s (held x)) before after n m r
+
+-- a run file of the first `count` steps of a seed
+abbrev pub WritesWorkload : ℕ → List ℕ → Setup → ℕ → List ℕ → List ℕ → ℕ → ℕ → ℕ → Type 0
+WritesWorkload seed note s count before after n m r =
+    Writes (fileRefusal (length note) s count (length before)) (fileBytes note s (workload s seed count)) before after n m r

@@ -1,0 +1,64 @@
+// The tests of time, and a turn of the latest end.
+ghost use mathlib.Core.Path.{_≡_};
+ghost use mathlib.Core.Bool.{not};
+ghost use Prim.Native.Nat.{min, max};
+ghost use Rattle.protocol.specs.Leases.{serverAlive, endOver};
+ghost use Rattle.lease_tests.specs.Parts.{waitsBy, outlastBy};
+
+// "A lease is alive when its expiry is greater than the clock."
+pub fn server_alive(clock: u32, expiry: u32) -> bool
+    ensures { λ r. ⌜ r ≡ serverAlive clock expiry ⌝ }
+{
+    clock < expiry
+}
+
+// "clock at or past guard"
+pub fn guard_passed(clock: u32, guard: u32) -> bool
+    ensures { λ r. ⌜ r ≡ not (serverAlive clock guard) ⌝ }
+{
+    !server_alive(clock, guard)
+}
+
+// "whose latest end is below the clock"
+pub fn end_over(clock: u32, end: u32) -> bool
+    ensures { λ r. ⌜ r ≡ endOver clock end ⌝ }
+{
+    end < clock
+}
+
+// "object lease is alive and which either are not marked unreachable or have a live volume lease"
+pub fn waits(clock: u32, object_lease: u32, unreachable: bool, volume_lease: u32) -> bool
+    ensures { λ r. ⌜ r ≡ waitsBy clock «object_lease» unreachable «volume_lease» ⌝ }
+{
+    let object = server_alive(clock, object_lease);
+    let volume = server_alive(clock, volume_lease);
+    object & (!unreachable | volume)
+}
+
+pub fn larger(a: u32, b: u32) -> u32
+    ensures { λ r. ⌜ r ≡ max a b ⌝ }
+{
+    if a < b {
+        return b;
+    }
+    a
+}
+
+fn smaller(a: u32, b: u32) -> u32
+    ensures { λ r. ⌜ r ≡ min a b ⌝ }
+{
+    if a < b {
+        return a;
+    }
+    b
+}
+
+// A turn of the latest end (02, A3): "over the waiting dashes, the lesser of that dash's volume and object expiry", where that is later than `end`.
+pub fn outlast(end: u32, waiting: bool, volume_lease: u32, object_lease: u32) -> u32
+    ensures { λ r. ⌜ r ≡ outlastBy end waiting «volume_lease» «object_lease» ⌝ }
+{
+    if waiting {
+        return larger(end, smaller(volume_lease, object_lease));
+    }
+    end
+}

@@ -1,0 +1,113 @@
+-- What each way through a function found, put together.
+use Prim.Native.Nat.{ℕ}
+use mathlib.Core.Bool.{Bool, true, false, _&&_, _||_}
+use mathlib.Core.Path.{_≡_}
+use lib.Dec.{eqb}
+use borrow.Author.Tests.{ne-eqb}
+use Rattle.protocol.specs.declared.message.Kind.{Kind}
+use Rattle.protocol.specs.declared.message.Kind.the-variants.{Renew, Grant, Invalidate, Ack, Offer, Dropped}
+use Rattle.protocol.specs.declared.message.Payload.{Payload}
+use Rattle.protocol.specs.declared.message.Payload.the-variants.{Same, Value}
+use Rattle.message_fields.specs.declared.Fields.{Fields}
+use Rattle.message_fields.specs.Fields.{row, kindFields, payloadIn, kindIn, sound}
+use Rattle.message_fields.specs.Questions.{none, payloadRight, noLease, right, asked}
+
+module _ (d : ℕ) (k : Kind) (r : Fields) where
+  pub by-renew : (o n e w : ℕ) → k ≡ Renew o n e w → r ≡ row 1 d o 0 n 0 e w 0 0 → r ≡ kindFields d k
+  unfolding kindFields
+  by-renew o n e w h g = rw h g
+
+  pub by-grant : (o n x e w y : ℕ) (p : Payload) (f : Fields) → k ≡ Grant o n x e w y p → f ≡ row 2 d o 0 n 0 e w 0 0
+      → r ≡ kindFields (f .client) (Grant (f .object) (f .number) x (f .epoch) (f .version) y p) → r ≡ kindFields d k
+  by-grant o n x e w y p f h i g = rw h (rw i at g)
+
+  pub by-invalidate : (o e w : ℕ) → k ≡ Invalidate o e w → r ≡ row 3 d o 0 0 0 e w 0 0 → r ≡ kindFields d k
+  unfolding kindFields
+  by-invalidate o e w h g = rw h g
+
+  pub by-ack : (o e w : ℕ) → k ≡ Ack o e w → r ≡ row 4 d o 0 0 0 e w 0 0 → r ≡ kindFields d k
+  unfolding kindFields
+  by-ack o e w h g = rw h g
+
+  pub by-offer : (v n e : ℕ) → k ≡ Offer v n e → r ≡ row 5 d v 0 n 0 e 0 0 0 → r ≡ kindFields d k
+  unfolding kindFields
+  by-offer v n e h g = rw h g
+
+  pub by-dropped : (v n e : ℕ) → k ≡ Dropped v n e → r ≡ row 6 d v 0 n 0 e 0 0 0 → r ≡ kindFields d k
+  unfolding kindFields
+  by-dropped v n e h g = rw h g
+
+module _ (f : Fields) (x y : ℕ) (p : Payload) where
+  pub with-value : (v : ℕ) → p ≡ Value v
+      → row 2 (f .client) (f .object) 1 (f .number) x (f .epoch) (f .version) y v ≡ kindFields (f .client) (Grant (f .object) (f .number) x (f .epoch) (f .version) y p)
+  unfolding kindFields
+  with-value v e = rw e
+
+  pub with-none : p ≡ Same
+      → row 2 (f .client) (f .object) 0 (f .number) x (f .epoch) (f .version) y 0 ≡ kindFields (f .client) (Grant (f .object) (f .number) x (f .epoch) (f .version) y p)
+  unfolding kindFields
+  with-none e = rw e
+
+module _ (f : Fields) where
+  pub same-payload : f .present ≡ 0 → Same ≡ payloadIn f
+  same-payload e = rw e
+
+  pub with-payload : (f .present ≡ 0 → ⊥) → Value (f .value) ≡ payloadIn f
+  with-payload e = rw (ne-eqb _ _ e)
+
+  pub kind-2 : (k : Kind) → f .kind ≡ 2 → k ≡ Grant (f .object) (f .number) (f .«volume_expiry») (f .epoch) (f .version) (f .«object_expiry») (payloadIn f)
+      → k ≡ kindIn f
+  unfolding kindIn
+  kind-2 k e g = rw e g
+
+  pub kind-3 : f .kind ≡ 3 → Invalidate (f .object) (f .epoch) (f .version) ≡ kindIn f
+  unfolding kindIn
+  kind-3 e = rw e
+
+  pub kind-4 : f .kind ≡ 4 → Ack (f .object) (f .epoch) (f .version) ≡ kindIn f
+  unfolding kindIn
+  kind-4 e = rw e
+
+  pub kind-5 : f .kind ≡ 5 → Offer (f .object) (f .number) (f .epoch) ≡ kindIn f
+  unfolding kindIn
+  kind-5 e = rw e
+
+  pub kind-6 : f .kind ≡ 6 → Dropped (f .object) (f .number) (f .epoch) ≡ kindIn f
+  unfolding kindIn
+  kind-6 e = rw e
+
+  pub kind-else : (f .kind ≡ 2 → ⊥) → (f .kind ≡ 3 → ⊥) → (f .kind ≡ 4 → ⊥) → (f .kind ≡ 5 → ⊥) → (f .kind ≡ 6 → ⊥)
+      → Renew (f .object) (f .number) (f .epoch) (f .version) ≡ kindIn f
+  unfolding kindIn
+  kind-else a b c d e = rw (ne-eqb _ _ a, ne-eqb _ _ b, ne-eqb _ _ c, ne-eqb _ _ d, ne-eqb _ _ e)
+
+-- ---- the test of fields, kind by kind
+module _ (f : Fields) (r : Bool) where
+  pub payload-same : f .present ≡ 0 → r ≡ none (f .value) → r ≡ payloadRight f
+  payload-same h e = rw h e
+
+  pub payload-value : (f .present ≡ 0 → ⊥) → r ≡ eqb 1 (f .present) → r ≡ payloadRight f
+  payload-value h e = rw (ne-eqb (f .present) 0 h) e
+
+  pub renew-right : f .kind ≡ 1 → r ≡ noLease f → r ≡ sound f
+  unfolding right
+  renew-right h e = rw (asked f, h) e
+
+  module _ (a : f .kind ≡ 1 → ⊥) where
+    pub grant-right : f .kind ≡ 2 → r ≡ payloadRight f → r ≡ sound f
+    unfolding right
+    grant-right h e = rw (asked f, h) e
+
+    module _ (b : f .kind ≡ 2 → ⊥) where
+      pub object-right : (q : Bool) → (eqb (f .kind) 3 || eqb (f .kind) 4) ≡ true → q ≡ noLease f → r ≡ (q && none (f .number)) → r ≡ sound f
+      unfolding right
+      object-right q h g e = rw (asked f, ne-eqb (f .kind) 1 a, ne-eqb (f .kind) 2 b, h, ← g) e
+
+      module _ (c : (eqb (f .kind) 3 || eqb (f .kind) 4) ≡ false) where
+        pub volume-right : (q : Bool) → (eqb (f .kind) 5 || eqb (f .kind) 6) ≡ true → q ≡ noLease f → r ≡ (q && none (f .version)) → r ≡ sound f
+        unfolding right
+        volume-right q h g e = rw (asked f, ne-eqb (f .kind) 1 a, ne-eqb (f .kind) 2 b, c, h, ← g) e
+
+        pub none-right : (eqb (f .kind) 5 || eqb (f .kind) 6) ≡ false → r ≡ false → r ≡ sound f
+        unfolding right
+        none-right h e = rw (asked f, ne-eqb (f .kind) 1 a, ne-eqb (f .kind) 2 b, c, h) e

@@ -1,0 +1,250 @@
+// A message's fields as numbers, by its kind, and the message that they are.
+ghost use mathlib.Core.Path.{_≡_};
+ghost use Rattle.protocol.specs.declared.message.Kind.the-variants.{Grant};
+ghost use Rattle.message_fields.specs.Fields.{row, kindFields, fieldsOf, payloadIn, kindIn, messageIn, same, sound};
+ghost use Rattle.message_fields.specs.Questions.{payloadRight, noLease};
+use protocol::message::Kind;
+use protocol::message::Message;
+use protocol::message::Payload;
+
+// All ten, in the frame's order: a field that a message's kind lacks is 0.
+pub struct Fields {
+    pub kind: u8,
+    pub client: u8,
+    // the volume of an OFFER or a DROPPED
+    pub object: u8,
+    // whether a GRANT has a value
+    pub present: u8,
+    pub number: u32,
+    pub volume_expiry: u32,
+    pub epoch: u32,
+    pub version: u32,
+    pub object_expiry: u32,
+    pub value: u64,
+}
+
+// "Fields a kind lacks are 0": the other four are a GRANT's.
+fn without_lease(kind: u8, client: u8, object: u8, number: u32, epoch: u32, version: u32) -> Fields
+    ensures { λ r. ⌜ r ≡ row kind client object 0 number 0 epoch version 0 0 ⌝ }
+{
+    Fields {
+        kind,
+        client,
+        object,
+        present: 0,
+        number,
+        volume_expiry: 0,
+        epoch,
+        version,
+        object_expiry: 0,
+        value: 0,
+    }
+}
+
+// The GRANT with these four too: "A GRANT without value has value 0."
+fn with_lease(f: Fields, volume_expiry: u32, object_expiry: u32, payload: Payload) -> Fields
+    ensures { λ r. ⌜ r ≡ kindFields (f .client) (Grant (f .object) (f .number) «volume_expiry» (f .epoch) (f .version) «object_expiry» payload) ⌝ }
+{
+    match payload {
+        Payload::Value(value) => Fields {
+            kind: 2,
+            client: f.client,
+            object: f.object,
+            present: 1,
+            number: f.number,
+            volume_expiry,
+            epoch: f.epoch,
+            version: f.version,
+            object_expiry,
+            value,
+        },
+        Payload::Same => Fields {
+            kind: 2,
+            client: f.client,
+            object: f.object,
+            present: 0,
+            number: f.number,
+            volume_expiry,
+            epoch: f.epoch,
+            version: f.version,
+            object_expiry,
+            value: 0,
+        },
+    }
+}
+
+fn kind_fields(client: u8, kind: Kind) -> Fields
+    ensures { λ r. ⌜ r ≡ kindFields client kind ⌝ }
+{
+    match kind {
+        Kind::Renew {
+            object,
+            number,
+            epoch,
+            version,
+        } => without_lease(1, client, object, number, epoch, version),
+        Kind::Grant {
+            object,
+            number,
+            volume_expiry,
+            epoch,
+            version,
+            object_expiry,
+            payload,
+        } => {
+            let f = without_lease(2, client, object, number, epoch, version);
+            with_lease(f, volume_expiry, object_expiry, payload)
+        }
+        Kind::Invalidate {
+            object,
+            epoch,
+            version,
+        } => without_lease(3, client, object, 0, epoch, version),
+        Kind::Ack {
+            object,
+            epoch,
+            version,
+        } => without_lease(4, client, object, 0, epoch, version),
+        Kind::Offer {
+            volume,
+            number,
+            epoch,
+        } => without_lease(5, client, volume, number, epoch, 0),
+        Kind::Dropped {
+            volume,
+            number,
+            epoch,
+        } => without_lease(6, client, volume, number, epoch, 0),
+    }
+}
+
+pub fn fields_of(message: Message) -> Fields
+    ensures { λ r. ⌜ r ≡ fieldsOf message ⌝ }
+{
+    let kind = message.kind;
+    kind_fields(message.client, kind)
+}
+
+fn payload_in(f: Fields) -> Payload
+    ensures { λ r. ⌜ r ≡ payloadIn f ⌝ }
+{
+    if f.present == 0 {
+        return Payload::Same;
+    }
+    Payload::Value(f.value)
+}
+
+fn grant_in(f: Fields) -> Kind
+    ensures { λ r. ⌜ r ≡ Grant (f .object) (f .number) (f .«volume_expiry») (f .epoch) (f .version) (f .«object_expiry») (payloadIn f) ⌝ }
+{
+    Kind::Grant {
+        object: f.object,
+        number: f.number,
+        volume_expiry: f.volume_expiry,
+        epoch: f.epoch,
+        version: f.version,
+        object_expiry: f.object_expiry,
+        payload: payload_in(f),
+    }
+}
+
+fn kind_in(f: Fields) -> Kind
+    ensures { λ r. ⌜ r ≡ kindIn f ⌝ }
+{
+    if f.kind == 2 {
+        return grant_in(f);
+    }
+    if f.kind == 3 {
+        return Kind::Invalidate {
+            object: f.object,
+            epoch: f.epoch,
+            version: f.version,
+        };
+    }
+    if f.kind == 4 {
+        return Kind::Ack {
+            object: f.object,
+            epoch: f.epoch,
+            version: f.version,
+        };
+    }
+    if f.kind == 5 {
+        return Kind::Offer {
+            volume: f.object,
+            number: f.number,
+            epoch: f.epoch,
+        };
+    }
+    if f.kind == 6 {
+        return Kind::Dropped {
+            volume: f.object,
+            number: f.number,
+            epoch: f.epoch,
+        };
+    }
+    Kind::Renew {
+        object: f.object,
+        number: f.number,
+        epoch: f.epoch,
+        version: f.version,
+    }
+}
+
+// The message that these fields would be, whatever stands in those that its kind lacks.
+pub fn message_in(f: Fields) -> Message
+    ensures { λ r. ⌜ r ≡ messageIn f ⌝ }
+{
+    Message {
+        client: f.client,
+        kind: kind_in(f),
+    }
+}
+
+pub fn same(a: Fields, b: Fields) -> bool
+    ensures { λ r. ⌜ r ≡ same a b ⌝ }
+{
+    let head = (a.kind == b.kind)
+        & (a.client == b.client)
+        & (a.object == b.object)
+        & (a.present == b.present);
+    let times = head
+        & (a.number == b.number)
+        & (a.volume_expiry == b.volume_expiry)
+        & (a.epoch == b.epoch);
+    times & (a.version == b.version) & (a.object_expiry == b.object_expiry) & (a.value == b.value)
+}
+
+fn payload_right(f: Fields) -> bool
+    ensures { λ r. ⌜ r ≡ payloadRight f ⌝ }
+{
+    if f.present == 0 {
+        return 0 == f.value;
+    }
+    1 == f.present
+}
+
+// Whether the fields that a GRANT alone has are 0.
+fn no_lease(f: Fields) -> bool
+    ensures { λ r. ⌜ r ≡ noLease f ⌝ }
+{
+    (0 == f.present) & (0 == f.volume_expiry) & (0 == f.object_expiry) & (0 == f.value)
+}
+
+// Whether these are the fields of a message: the kind is one, and what it lacks is 0.
+pub fn sound(f: Fields) -> bool
+    ensures { λ r. ⌜ r ≡ sound f ⌝ }
+{
+    if f.kind == 1 {
+        return no_lease(f);
+    }
+    if f.kind == 2 {
+        return payload_right(f);
+    }
+    if (f.kind == 3) | (f.kind == 4) {
+        return no_lease(f) & (0 == f.number);
+    }
+    if (f.kind == 5) | (f.kind == 6) {
+        return no_lease(f) & (0 == f.version);
+    }
+    false
+}

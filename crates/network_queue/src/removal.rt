@@ -1,0 +1,25 @@
+// A message taken out of the message list, in place.
+ghost use mathlib.Core.Path.{_≡_};
+ghost use Prim.Native.Nat.{_<_, _≤_};
+ghost use Rattle.protocol.specs.Decide.{taken};
+ghost use Rattle.state_words.specs.View.{tablesOf, recordsOf};
+use state_words::Values;
+use state_words::Words;
+use state_words::network;
+use state_words::pass;
+
+// "A removal closes the gap." The place that it frees is past the last, and so blank.
+pub fn remove(words: &mut Words, values: &mut Values, place: usize)
+    requires { ⌜ place < tablesOf (now words) (now values) .queue .len ⌝ }
+    requires { ⌜ tablesOf (now words) (now values) .queue .len ≤ 64 ⌝ }
+    ensures { λ _. ⌜ tablesOf (now (words .exit)) (now (values .exit)) ≡ taken (tablesOf (now (words .entry)) (now (values .entry))) place ⌝ }
+    ensures { λ _. ⌜ recordsOf (now (words .exit)) (now (values .exit)) ≡ recordsOf (now (words .entry)) (now (values .entry)) ⌝ }
+{
+    pass::sized(&*words);
+    pass::sized_values(&*values);
+    let n = words[network::LENGTH];
+    let rows = n as usize - (place + 1);
+    network_rows::shift::shift(&mut *words, network::MESSAGES, place * 9, rows * 9, 9);
+    network_rows::shift::shift_values(&mut *values, network::MESSAGE_VALUE, place, rows, 1);
+    words[network::LENGTH] = n - 1;
+}

@@ -1,0 +1,83 @@
+// One row of the message list: the fields of a message as nine words.
+ghost use mathlib.Core.Path.{_≡_};
+ghost use Prim.Native.Nat.{ℕ, _+_, _*_, _%_, _<_};
+ghost use lib.ListN.{getD};
+ghost use Rattle.laws.specs.Parts.{parts};
+ghost use Rattle.laws.specs.Store.{storeEach, always};
+ghost use Rattle.state_words.specs.Fields.{wordLengths, valueLengths, at, MESSAGES, MESSAGE-VALUE};
+ghost use Rattle.state_words.specs.Rows.{wordsOf, Narrow, fieldsAt, narrowAt};
+use message_fields::Fields;
+use state_words::Values;
+use state_words::Words;
+use state_words::network;
+
+pub type Row = [u32; 9];
+
+fn low(n: u32) -> u8
+    ensures { λ r. ⌜ r ≡ n % 256 ⌝ }
+{
+    (n % 256) as u8
+}
+
+pub fn words_of(fields: Fields) -> Row
+    ensures { λ r. ⌜ (r ≡ wordsOf fields) × Narrow fields ⌝ }
+{
+    [
+        fields.kind as u32,
+        fields.client as u32,
+        fields.object as u32,
+        fields.present as u32,
+        fields.number,
+        fields.volume_expiry,
+        fields.epoch,
+        fields.version,
+        fields.object_expiry,
+    ]
+}
+
+pub fn store(words: &mut Words, place: usize, row: Row)
+    requires { ⌜ place < 64 ⌝ }
+    ensures { λ _. ⌜ now (words .exit) ≡ storeEach always (λ (k : ℕ). at MESSAGES + (place * 9 + k)) (λ (k : ℕ). getD row k 0) (now (words .entry)) 9 ⌝ }
+{
+    let mut k = 0;
+    while k < 9 {
+        words[network::MESSAGES + (place * 9 + k)] = row[k];
+        k += 1;
+    }
+}
+
+fn word(words: &Words, place: usize, k: usize) -> u32
+    requires { ⌜ place < 64 ⌝ }
+    requires { ⌜ k < 9 ⌝ }
+    ensures { λ r. ⌜ r ≡ getD (parts wordLengths (now (words .entry)) MESSAGES) (place * 9 + k) 0 ⌝ }
+{
+    words[network::MESSAGES + (place * 9 + k)]
+}
+
+// Whether the first four words of a row are bytes.
+pub fn narrow(words: &Words, place: usize) -> bool
+    requires { ⌜ place < 64 ⌝ }
+    ensures { λ r. ⌜ r ≡ narrowAt (parts wordLengths (now (words .entry)) MESSAGES) place ⌝ }
+{
+    let head = (word(words, place, 0) < 256) & (word(words, place, 1) < 256);
+    head & (word(words, place, 2) < 256) & (word(words, place, 3) < 256)
+}
+
+// The fields in a row: of the first four words the lowest byte.
+pub fn load(words: &Words, values: &Values, place: usize) -> Fields
+    requires { ⌜ place < 64 ⌝ }
+    ensures { λ r. ⌜ r ≡ fieldsAt (parts wordLengths (now (words .entry)) MESSAGES) (parts valueLengths (now (values .entry)) MESSAGE-VALUE) place ⌝ }
+{
+    Fields {
+        kind: low(word(words, place, 0)),
+        client: low(word(words, place, 1)),
+        object: low(word(words, place, 2)),
+        present: low(word(words, place, 3)),
+        number: word(words, place, 4),
+        volume_expiry: word(words, place, 5),
+        epoch: word(words, place, 6),
+        version: word(words, place, 7),
+        object_expiry: word(words, place, 8),
+        value: values[network::MESSAGE_VALUE + place],
+    }
+}

@@ -1,0 +1,31 @@
+// Words and values of one field moved down over a gap.
+ghost use mathlib.Core.Path.{_≡_};
+ghost use Prim.Native.Nat.{_+_, _≤_};
+ghost use Rattle.laws.specs.Shift.{shifting};
+ghost use Rattle.state_words.specs.Fields.{WORDS, VALUES};
+use state_words::Values;
+use state_words::Words;
+
+// n words of the field, from `from` on, become those `wide` places further on.
+pub fn shift(words: &mut Words, field: usize, from: usize, n: usize, wide: usize)
+    requires { ⌜ field + (from + n + wide) ≤ WORDS ⌝ }
+    ensures { λ _. ⌜ now (words .exit) ≡ shifting field from n wide (now (words .entry)) ⌝ }
+{
+    let mut j = 0;
+    while j < n {
+        words[field + (from + j)] = words[field + (from + j + wide)];
+        j += 1;
+    }
+}
+
+// The same of the values.
+pub fn shift_values(values: &mut Values, field: usize, from: usize, n: usize, wide: usize)
+    requires { ⌜ field + (from + n + wide) ≤ VALUES ⌝ }
+    ensures { λ _. ⌜ now (values .exit) ≡ shifting field from n wide (now (values .entry)) ⌝ }
+{
+    let mut j = 0;
+    while j < n {
+        values[field + (from + j)] = values[field + (from + j + wide)];
+        j += 1;
+    }
+}

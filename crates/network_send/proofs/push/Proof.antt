@@ -1,0 +1,65 @@
+use Rattle.network_send.proofs.Laws.{lost, pushes}
+use borrow.Author.Needs.{needs}
+use Rattle.network_send.proofs.push.Statement.{statement}
+use Rattle.network_send.proofs.push.Tie as tie
+
+sized-requires : tie.Need-sized-requires
+sized-requires c κs = search needs
+
+sized-values-requires : tie.Need-sized-values-requires
+sized-values-requires c κs = search needs
+
+element-copy-out-n : tie.Need-element-copy-out-n
+element-copy-out-n c = search needs
+
+returns : tie.Need-returns
+returns c = lost _ _ _ (c .if1 .taken)
+
+cast-place : tie.Need-cast-place
+cast-place c = search needs
+
+fields-of-requires : tie.Need-fields-of-requires
+fields-of-requires c κs = search needs
+
+words-of-requires : tie.Need-words-of-requires
+words-of-requires c κs = search needs
+
+store-requires : tie.Need-store-requires
+store-requires c κs = search needs
+
+add-values : tie.Need-add-values
+add-values c = search needs
+
+mul-values : tie.Need-mul-values
+mul-values c = search needs
+
+element-write-values : tie.Need-element-write-values
+element-write-values c = search needs
+
+add-words : tie.Need-add-words
+add-words c = search needs
+
+element-write-words : tie.Need-element-write-words
+element-write-words c = search needs
+
+returns-2 : tie.Need-returns-2
+returns-2 c = pushes _ _ _ (c .before .before .before .before .before .before .before .before .before .before .sized-arg2 .given .0) (c .before .before .before .before .before .before .before .sized-values-arg2 .given .0) _ _ _ (c .before .before .before .before .if1 .left) (c .before .before .before .fields-of .ensures) (c .before .words-of .ensures) (c .store .ensures)
+
+pub push-spec : {M : Type 1} → statement M
+push-spec =
+    tie.close
+    (tie.spec
+    sized-requires
+    sized-values-requires
+    element-copy-out-n
+    returns
+    cast-place
+    fields-of-requires
+    words-of-requires
+    store-requires
+    add-values
+    mul-values
+    element-write-values
+    add-words
+    element-write-words
+    returns-2)

@@ -1,0 +1,76 @@
+-- A run over the steps of a file, each on what the last one left, and the lines of its answers.
+use Prim.Native.Nat.{ℕ, _+_, _*_, _<_, _≤_}
+use native.Mathlib.Omega.{arith}
+use mathlib.Core.Bool.{true}
+use mathlib.Core.List.{List, [], _++_}
+use mathlib.Core.Path.{_≡_, refl, sym, ap, _∙_}
+use lib.ListN.{length, length-append}
+use lib.Seq.{sets, length-sets}
+use Rattle.protocol.specs.declared.setup.Setup.{Setup}
+use Rattle.protocol.specs.declared.step.Answer.{Answer}
+use Rattle.protocol.specs.declared.step.Step.{Step}
+use Rattle.protocol.specs.Setup.{inRange}
+use Rattle.protocol.specs.Answers.{answerValue}
+use Rattle.protocol.specs.World.{World, freshWorld, stepped, answerOf, answers}
+use Rattle.protocol.specs.Soundness.Question.{SoundWorld, fresh-sound, stepped-sound}
+use Rattle.file_shape.specs.Shape.{countOf}
+use Rattle.file_shape.specs.Parts.{Parts}
+use Rattle.file_shape.specs.Places.{placeBefore}
+use Rattle.file_reader.specs.File.{stepAt}
+use Rattle.file_reader.specs.Steps.{stepsOf, stepsLeft, left-first, left-next, left-last}
+use Rattle.listing.specs.Listing.{lineOf, linesFrom, line-short, answer-small}
+use Rattle.bytes_layout.specs.Number.{sets-then}
+use Rattle.bytes_layout.specs.Written.{Written}
+
+-- where a run of file l stands that left world w after k steps: what is left of it writes the lines that are missing from `whole`
+pub record Going (s : Setup) (l : List ℕ) (start : ℕ) (whole : List ℕ) (end : ℕ) (w : World) (out : List ℕ) (at k : ℕ) : Type 0 where
+  pub sound : SoundWorld s w
+  pub room : at ≤ start + 28 * k
+  pub lines : Written out whole at (linesFrom (k + 1) (answers s w (stepsLeft l k))) end
+
+-- the lines of a file's steps under a setup, as the loop has to reach them
+abbrev pub linesOf : Setup → List ℕ → List ℕ
+linesOf s l = linesFrom 1 (answers s (freshWorld s) (stepsOf l))
+
+-- ---- what is left of what is written
+written-rest : (l m whole : List ℕ) (p q end : ℕ) (a b : List ℕ) → Written l whole p (a ++ b) end → Written l m p a q → Written m whole q b end
+written-rest l m whole p q end a b w v = record {
+  next = omega (arith, w .next, v .next, length-append a b);
+  bytes = record { stored = w .bytes .stored ∙ sym (sets-then l p a b) ∙ rw (v .bytes .stored, v .next); long = w .bytes .long ∙ sym (v .bytes .long) };
+}
+
+written-none : (l whole : List ℕ) (p end : ℕ) → Written l whole p [] end → (whole ≡ l) × (end ≡ p)
+written-none l whole p end w = (w .bytes .stored, omega (arith, w .next))
+
+module _ (s : Setup) (l out₀ : List ℕ) (start : ℕ) where
+  abbrev pub Running : World → List ℕ → ℕ → ℕ → Type 0
+  Running = Going s l start (sets out₀ start (linesOf s l)) (start + length (linesOf s l))
+
+  pub run-starts : inRange s ≡ true → (w : World) → w ≡ freshWorld s → Running w out₀ start 0
+  run-starts i w e = record {
+    sound = rw e (fresh-sound s i);
+    room = omega arith;
+    lines = rw (e, left-first l) (record { next = refl; bytes = record { stored = refl; long = length-sets out₀ start (linesOf s l) } });
+  }
+
+  module _ (p : Parts l) (count : ℕ) (n : count ≡ countOf l) (w : World) (out : List ℕ) (at k : ℕ) (g : Running w out at k) where
+    pub run-ends : count ≤ k → Written out₀ out start (linesOf s l) at
+    unfolding linesFrom answers
+    run-ends h =
+        let e = written-none out _ at _ (rw (left-last l k (rw n at h)) at (g .lines)) in
+        record { next = sym (e .1); bytes = record { stored = sym (e .0); long = ap length (sym (e .0)) ∙ length-sets out₀ start (linesOf s l) } }
+
+    module _ (h : k < count) where
+      -- the line of the next step fits
+      pub line-fits : start + 28 * count + 63 ≤ length out₀ → length out ≡ length out₀ → at + 63 ≤ length out
+      line-fits room e = omega (arith, g .room)
+
+      -- the next step: its record is at the running place
+      pub run-again : (place : ℕ) → place ≡ placeBefore l k → (x : Step) → x ≡ stepAt l place → (u : World) (a : Answer) → (a ≡ answerOf s w x) × (u ≡ stepped s w x)
+          → (out′ : List ℕ) (at′ : ℕ) → Written out out′ at (lineOf (k + 1) a) at′ → Running u out′ at′ (k + 1)
+      unfolding linesFrom answers
+      run-again place i x e u a f out′ at′ v = record {
+        sound = rw (f .1) (stepped-sound s w x (g .sound));
+        room = omega (arith, g .room, v .next, line-short (k + 1) _ (answerValue a) (omega (arith, p .few)) (answer-small a));
+        lines = written-rest out out′ _ at at′ _ (lineOf (k + 1) a) _ (rw (f .0, f .1, e) (rw (left-next l place k i p (rw n at h)) at (g .lines))) v;
+      }

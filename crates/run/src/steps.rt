@@ -1,0 +1,34 @@
+// The steps of a run file, one after the other, on words and values that the run owns.
+ghost use Prim.Native.Nat.{_+_, _*_, _≤_};
+ghost use mathlib.Core.Path.{_≡_};
+ghost use lib.ListN.{length};
+ghost use Rattle.bytes_layout.specs.Written.{Written};
+ghost use Rattle.file_reader.specs.File.{contentsOf};
+ghost use Rattle.run.specs.Ran.{linesOf};
+use file_reader::Contents;
+
+// The steps of a file that was read and is not refused, from fresh words on; the line of each goes to the output from `at` on, which has room for any.
+// The place of a step's record goes on by 16, whatever the answer to the step is. The place in the output after the last line.
+pub fn run_steps(file: &[u8], c: Contents, out: &mut [u8], at: usize) -> usize
+    requires { ⌜ c ≡ contentsOf (now file) ⌝ }
+    requires { ⌜ c .refusal ≡ 0 ⌝ }
+    requires { ⌜ at + 28 * c .count + 63 ≤ length (now out) ⌝ }
+    ensures { λ r. ⌜ Written (now (out .entry)) (now (out .exit)) at (linesOf (c .setup) (now (file .entry))) r ⌝ }
+{
+    let s = c.setup;
+    let count = c.count;
+    let mut words = [0; 3498];
+    let mut values = [0; 640];
+    state_words::fresh::fresh(&mut words, &mut values);
+    let mut place = c.first;
+    let mut next = at;
+    let mut k = 0;
+    while k < count {
+        let step = file_reader::step_at(file, place);
+        let answer = run_step::advance(s, &mut words, &mut values, step);
+        next = listing::write_line(out, next, (k + 1) as u64, answer);
+        place += 16;
+        k += 1;
+    }
+    next
+}

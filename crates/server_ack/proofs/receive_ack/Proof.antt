@@ -1,0 +1,67 @@
+use native.Mathlib.Omega.{arith}
+use Rattle.protocol.specs.Ranges.{ranges}
+use Rattle.server_ack.proofs.Acking.{grows-numbers, ack-version, ack-keeps, ack-yes, ack-no}
+use borrow.Author.Needs.{needs}
+use Rattle.server_ack.proofs.receive_ack.Statement.{statement}
+use Rattle.server_ack.proofs.receive_ack.Tie as tie
+
+ack-taken-requires : tie.Need-ack-taken-requires
+ack-taken-requires c κs = let a = c .before in (a .pre .0, (grows-numbers _ _ (a .args .values .now) (a .pre .1 .0), a .pre .1 .1 .1))
+
+mul-words : tie.Need-mul-words
+mul-words c = search needs
+
+add-words : tie.Need-add-words
+add-words c = search needs
+
+add-words-2 : tie.Need-add-words-2
+add-words-2 c = search needs
+
+mul-words-2 : tie.Need-mul-words-2
+mul-words-2 c = search needs
+
+element-write-words : tie.Need-element-write-words
+element-write-words c = omega (arith, c .before .before .before .pre .1 .1 .0, c .before .before .before .pre .1 .1 .1, ranges _ (c .before .before .before .pre .0) .clients .1, ranges _ (c .before .before .before .pre .0) .objects .1)
+
+mul-words-3 : tie.Need-mul-words-3
+mul-words-3 c = search needs
+
+add-words-3 : tie.Need-add-words-3
+add-words-3 c = search needs
+
+add-words-4 : tie.Need-add-words-4
+add-words-4 c = search needs
+
+mul-words-4 : tie.Need-mul-words-4
+mul-words-4 c = search needs
+
+element-write-words-2 : tie.Need-element-write-words-2
+element-write-words-2 c = omega (arith, c .before .before .before .pre .1 .1 .0, c .before .before .before .pre .1 .1 .1, ranges _ (c .before .before .before .pre .0) .clients .1, ranges _ (c .before .before .before .pre .0) .objects .1)
+
+settle-one-requires : tie.Need-settle-one-requires
+settle-one-requires c κs = let a = c .before .before .before .before .before in (a .pre .0, (a .pre .1 .1 .1, rw (ack-keeps (a .args .s) (a .args .words .now) (a .args .values .now) (a .args .client) (a .args .object) _ _ _ (c .before .before .before .ack-taken .ensures) (omega (arith, c .before .before .before .before .before .pre .1 .1 .0, ranges _ (c .before .before .before .before .before .pre .0) .clients .1)) (omega (arith, c .before .before .before .before .before .pre .1 .1 .1, ranges _ (c .before .before .before .before .before .pre .0) .objects .1))) (ack-version (a .args .s) (a .args .words .now) (a .args .values .now) (a .args .client) (a .args .object) _ _ _ (c .before .before .before .ack-taken .ensures) (a .pre .1 .0) (a .pre .1 .1 .1) (c .before .before .if1 .taken))))
+
+returns : tie.Need-returns
+returns c = ack-yes _ _ _ _ _ _ _ _ (c .before .before .before .before .ack-taken .ensures) (omega (arith, c .before .before .before .before .before .before .pre .1 .1 .0, ranges _ (c .before .before .before .before .before .before .pre .0) .clients .1)) (omega (arith, c .before .before .before .before .before .before .pre .1 .1 .1, ranges _ (c .before .before .before .before .before .before .pre .0) .objects .1)) _ _ _ (c .before .before .before .if1 .taken) (c .settle-one .ensures)
+
+returns-2 : tie.Need-returns-2
+returns-2 c = ack-no _ _ _ _ _ _ _ _ (c .before .ack-taken .ensures) (c .if1 .left)
+
+pub receive-ack-spec : {M : Type 1} → statement M
+receive-ack-spec =
+    tie.close
+    (tie.spec
+    ack-taken-requires
+    mul-words
+    add-words
+    add-words-2
+    mul-words-2
+    element-write-words
+    mul-words-3
+    add-words-3
+    add-words-4
+    mul-words-4
+    element-write-words-2
+    settle-one-requires
+    returns
+    returns-2)

@@ -1,0 +1,54 @@
+// ACK received at the server (01, "Messages received").
+ghost use mathlib.Core.Path.{_≡_};
+ghost use mathlib.Core.Bool.{true};
+ghost use Prim.Native.Nat.{_<_};
+ghost use Rattle.protocol.specs.Setup.{inRange};
+ghost use Rattle.protocol.specs.SoundLaws.{Growing};
+ghost use Rattle.protocol.specs.Writes.{settled};
+ghost use Rattle.protocol.specs.Server.{ackTaken, ackStaged};
+ghost use Rattle.state_words.specs.View.{tablesOf, numbersOf, recordsOf};
+use lease_tests::place;
+use protocol::setup::Setup;
+use state_words::Values;
+use state_words::Words;
+use state_words::server;
+
+// "needs a standing write, its epoch and its new version"
+fn ack_taken(s: Setup, words: &Words, object: usize, epoch: u32, version: u32) -> bool
+    requires { ⌜ inRange s ≡ true ⌝ }
+    requires { ⌜ Growing s (numbersOf (now words) .objects) ⌝ }
+    requires { ⌜ object < s .objects ⌝ }
+    ensures { λ r. ⌜ r ≡ ackTaken s (numbersOf (now (words .entry))) object epoch version ⌝ }
+{
+    let volume = place::volume_of(s, object);
+    if words[server::STANDING + object] != 0 {
+        let same = epoch == words[server::VOLUME_EPOCH + volume];
+        return same & (version == words[server::VERSION + object] + 1);
+    }
+    false
+}
+
+// ACK of a client for an object, with its epoch and new version: "Clear that dash's object lease and its waiting; complete if none waits and the clock is at or past guard." How many writes completed.
+pub fn receive_ack(
+    s: Setup,
+    words: &mut Words,
+    values: &mut Values,
+    client: usize,
+    object: usize,
+    epoch: u32,
+    version: u32,
+) -> u32
+    requires { ⌜ inRange s ≡ true ⌝ }
+    requires { ⌜ Growing s (tablesOf (now words) (now values) .objects) ⌝ }
+    requires { ⌜ client < s .clients ⌝ }
+    requires { ⌜ object < s .objects ⌝ }
+    ensures { λ r. ⌜ record { count = r; tables = tablesOf (now (words .exit)) (now (values .exit)) } ≡ settled s (ackStaged s (tablesOf (now (words .entry)) (now (values .entry))) client object epoch version) ⌝ }
+    ensures { λ _. ⌜ recordsOf (now (words .exit)) (now (values .exit)) ≡ recordsOf (now (words .entry)) (now (values .entry)) ⌝ }
+{
+    if ack_taken(s, &*words, object, epoch, version) {
+        words[server::LEASE + (client * 32 + object)] = 0;
+        words[server::WAITING + (client * 32 + object)] = 0;
+        return server_complete::completion::settle_one(s, &mut *words, &mut *values, object);
+    }
+    0
+}

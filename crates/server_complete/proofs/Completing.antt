@@ -1,0 +1,99 @@
+-- A write completed: the object's own fields, and the passes over the clients.
+use Prim.Native.Nat.{ℕ, _+_, _<_}
+use native.Mathlib.Omega.{arith}
+use mathlib.Core.Bool.{Bool, true, false}
+use mathlib.Core.List.{List}
+use mathlib.Core.Path.{_≡_, refl, sym, ap, _∙_}
+use lib.ListN.{getD, set}
+use Rattle.laws.specs.Flags.{flags-set, flags-each}
+use Rattle.laws.specs.Loop.{foldFrom}
+use Rattle.laws.specs.Parts.{parts, withPart, part-at, stored, stored-each}
+use Rattle.laws.specs.Store.{storeEach, always}
+use Rattle.protocol.specs.declared.setup.Setup.{Setup}
+use Rattle.protocol.specs.Tables.{byVolume, byObject, versionAt, withObjects}
+use Rattle.protocol.specs.Writes.{waited, ready, posted, released, deserted, completed, settled}
+use Rattle.protocol.specs.Leases.{guardPassed}
+use Rattle.lease_tests.specs.Parts.{Placed}
+use Rattle.state_words.specs.Fields.{wordLengths, valueLengths, at, atValue, UNREACHABLE, VERSION, STANDING, END, LEASE, WAITING, VALUE, PENDING}
+use Rattle.state_words.specs.View.{tablesOf, numbersOf, recordsOf}
+use Rattle.server_due.specs.Triggers.{oneStaged}
+use Rattle.server_waiting.specs.Waiting.{waitingFor, waitingIn}
+
+-- the test reads no value
+ready-same : (s : Setup) (w : List ℕ) (o : ℕ) (x : List ℕ) → ready s (numbersOf w) o ≡ ready s (tablesOf w x) o
+unfolding ready waited guardPassed tablesOf
+ready-same s w o x = refl
+
+module _ (w x : List ℕ) (o : ℕ) (h : o < 32) where
+  abbrev words-posted : List ℕ
+  words-posted = set (set (set w (at VERSION + o) (getD w (at VERSION + o) 0 + 1)) (at STANDING + o) 0) (at END + o) 0
+
+  abbrev values-posted : List ℕ
+  values-posted = set (set x (atValue VALUE + o) (getD x (atValue PENDING + o) 0)) (atValue PENDING + o) 0
+
+  tables-posted : tablesOf words-posted values-posted ≡ withObjects (tablesOf w x) (posted (tablesOf w x) o)
+  unfolding posted tablesOf
+  tables-posted =
+      rw (part-at wordLengths w VERSION o h, part-at valueLengths x PENDING o h, stored wordLengths _ END o 0 h, stored wordLengths _ STANDING o 0 h, stored wordLengths _ VERSION o _ h, stored valueLengths _ PENDING o 0 h, stored valueLengths _ VALUE o _ h, flags-set (parts wordLengths w STANDING) o 0)
+
+  records-posted : recordsOf words-posted values-posted ≡ recordsOf w x
+  unfolding recordsOf
+  records-posted =
+      rw (stored wordLengths _ END o 0 h, stored wordLengths _ STANDING o 0 h, stored wordLengths _ VERSION o _ h, stored valueLengths _ PENDING o 0 h, stored valueLengths _ VALUE o _ h)
+
+  pub posts : (tablesOf words-posted values-posted ≡ withObjects (tablesOf w x) (posted (tablesOf w x) o)) × (recordsOf words-posted values-posted ≡ recordsOf w x)
+  posts = (tables-posted, records-posted)
+
+-- w becomes a, b and c in the passes
+module _ (s : Setup) (w a b c x : List ℕ) (o v n : ℕ) (p : Placed s o v) (i : n ≡ s .clients)
+    (e : a ≡ storeEach (waitingFor (waitingIn w) o) (λ (d : ℕ). at UNREACHABLE + byVolume d v) (λ (d : ℕ). 1) w n)
+    (f : b ≡ storeEach always (λ (d : ℕ). at LEASE + byObject d o) (λ (d : ℕ). 0) a n)
+    (g : c ≡ storeEach always (λ (d : ℕ). at WAITING + byObject d o) (λ (d : ℕ). 0) b n) where
+  abbrev marks : List ℕ
+  marks = storeEach (waitingFor (waitingIn w) o) (λ (d : ℕ). byVolume d v) (λ (d : ℕ). 1) (parts wordLengths w UNREACHABLE) n
+
+  abbrev leases : List ℕ
+  leases = storeEach always (λ (d : ℕ). byObject d o) (λ (d : ℕ). 0) (parts wordLengths w LEASE) n
+
+  abbrev waiting : List ℕ
+  waiting = storeEach always (λ (d : ℕ). byObject d o) (λ (d : ℕ). 0) (parts wordLengths w WAITING) n
+
+  fields-released : parts wordLengths c ≡ withPart (withPart (withPart (parts wordLengths w) UNREACHABLE marks) LEASE leases) WAITING waiting
+  fields-released =
+      let h = p .clients in
+      let vs = p .volume in
+      let os = p .object in
+      let j : (d : ℕ) → d < n → byVolume d v < 128 = (λ d k. omega arith) in
+      let k : (d : ℕ) → d < n → byObject d o < 512 = (λ d k. omega arith) in
+      rw (g, stored-each wordLengths WAITING always (λ (d : ℕ). byObject d o) (λ (d : ℕ). 0) n k b, f, stored-each wordLengths LEASE always (λ (d : ℕ). byObject d o) (λ (d : ℕ). 0) n k a, e, stored-each wordLengths UNREACHABLE (waitingFor (waitingIn w) o) (λ (d : ℕ). byVolume d v) (λ (d : ℕ). 1) n j w)
+
+  -- the version is still the one that was
+  pub released-version : versionAt (tablesOf c x) o ≡ versionAt (tablesOf w x) o
+  unfolding tablesOf
+  released-version = ap (λ (f : ℕ → List ℕ). getD (f VERSION) o 0) fields-released
+
+  records-released : recordsOf c x ≡ recordsOf w x
+  unfolding recordsOf
+  records-released = rw fields-released
+
+  module _ (w′ x′ : List ℕ) where
+    tables-completed : tablesOf w′ x′ ≡ withObjects (tablesOf c x) (posted (tablesOf c x) o) → tablesOf w′ x′ ≡ completed s (tablesOf w x) o
+    unfolding completed posted released deserted tablesOf storeEach
+    tables-completed h =
+        h ∙ rw (fields-released, flags-each (waitingFor (waitingIn w) o) (λ (d : ℕ). byVolume d v) (λ (d : ℕ). 1) (parts wordLengths w UNREACHABLE) n, flags-each always (λ (d : ℕ). byObject d o) (λ (d : ℕ). 0) (parts wordLengths w WAITING) n, i, p .is)
+
+    pub completes : (tablesOf w′ x′ ≡ withObjects (tablesOf c x) (posted (tablesOf c x) o)) × (recordsOf w′ x′ ≡ recordsOf c x)
+        → (tablesOf w′ x′ ≡ completed s (tablesOf w x) o) × (recordsOf w′ x′ ≡ recordsOf w x)
+    completes h = (tables-completed (h .0), h .1 ∙ records-released)
+
+-- ---- one object, if its write is ready
+
+module _ (s : Setup) (w x : List ℕ) (o : ℕ) (r : Bool) (e : r ≡ ready s (numbersOf w) o) where
+  pub one-yes : (u v : List ℕ) → r ≡ true → (tablesOf u v ≡ completed s (tablesOf w x) o) × (recordsOf u v ≡ recordsOf w x)
+      → (record { count = 1; tables = tablesOf u v } ≡ settled s (oneStaged s (tablesOf w x) o)) × (recordsOf u v ≡ recordsOf w x)
+  unfolding settled foldFrom
+  one-yes u v h q = (rw (sym (ready-same s w o x) ∙ sym e ∙ h, q .0), q .1)
+
+  pub one-no : r ≡ false → (record { count = 0; tables = tablesOf w x } ≡ settled s (oneStaged s (tablesOf w x) o)) × (recordsOf w x ≡ recordsOf w x)
+  unfolding settled foldFrom
+  one-no h = (rw (sym (ready-same s w o x) ∙ sym e ∙ h), refl)

@@ -1,0 +1,88 @@
+-- Writes completed in object order, and a clock step.
+use Prim.Native.Nat.{ℕ, _+_, _-_, _<_, _≤_}
+use native.Mathlib.Omega.{arith}
+use mathlib.Core.Bool.{true, false}
+use mathlib.Core.List.{List}
+use mathlib.Core.Path.{_≡_, refl, _∙_, fun-ext}
+use lib.ListN.{length, set}
+use lib.Seq.{getD-set-same}
+use Rattle.laws.specs.Choice.{and-true}
+use Rattle.laws.specs.Loop.{foldFrom, fold-again, fold-end}
+use Rattle.laws.specs.Parts.{parts, part-length, stored}
+use Rattle.laws.specs.Skip.{Found, fold-skip, first-is}
+use Rattle.protocol.specs.declared.setup.Setup.{Setup}
+use Rattle.protocol.specs.declared.tables.Tables.{Tables}
+use Rattle.protocol.specs.Tables.{standingAt, versionAt, withClock}
+use Rattle.protocol.specs.Leases.{guardPassed}
+use Rattle.protocol.specs.Writes.{Counted, waited, ready, due, completed, completeIf, settled, clockStaged}
+use Rattle.protocol.specs.Server.{ofVolume}
+use Rattle.protocol.specs.SoundLaws.{Growing, completed-keeps}
+use Rattle.state_words.specs.Fields.{wordLengths, WORDS, CLOCK}
+use Rattle.state_words.specs.View.{tablesOf, numbersOf, recordsOf}
+use Rattle.server_due.specs.declared.Trigger.{Trigger}
+use Rattle.server_due.specs.declared.Trigger.the-variants.{Clock, Volume}
+use Rattle.server_due.specs.Triggers.{triggered, triggerStaged}
+
+-- the tests read no value
+triggered-same : (s : Setup) (p : Trigger) (w x : List ℕ) → triggered s p (numbersOf w) ≡ triggered s p (tablesOf w x)
+unfolding triggered due ready waited guardPassed tablesOf
+triggered-same s Clock w x = fun-ext (λ o. refl)
+triggered-same s (Volume v) w x = fun-ext (λ o. refl)
+
+module _ (s : Setup) (p : Trigger) where
+  stands : (p : Trigger) (t : Tables) (o : ℕ) → triggered s p t o ≡ true → standingAt t o ≡ true
+  unfolding triggered due ready
+  stands Clock t o e = and-true (standingAt t o) _ e .0
+  stands (Volume v) t o e = and-true (standingAt t o) _ (and-true (ofVolume s v o) _ e .1) .0
+
+  idle : (c : Counted) (j : ℕ) → triggered s p (c .tables) j ≡ false → completeIf (triggered s p) s c j ≡ c
+  idle c j h = rw h
+
+  -- o is the next object that is completed, as the words tell
+  module _ (w x : List ℕ) (from o : ℕ) (l : from ≤ s .objects) (f : Found (triggered s p (numbersOf w)) from (s .objects) o) where
+    found : Found (triggered s p (tablesOf w x)) from (s .objects) o
+    found = rw (← triggered-same s p w x) f
+
+    hits : o < s .objects → triggered s p (tablesOf w x) o ≡ true
+    hits h = first-is (triggered s p (tablesOf w x)) (s .objects) from o l (found .is) h
+
+    pub settle-version : Growing s (tablesOf w x .objects) → o < s .objects → versionAt (tablesOf w x) o < 4294967295
+    settle-version g h = g .below o h (stands p (tablesOf w x) o (hits h))
+
+    module _ (n : ℕ) (A : Counted) (i : foldFrom (completeIf (triggered s p) s) (record { count = n; tables = tablesOf w x }) from (s .objects - from) ≡ A) where
+      skipped : foldFrom (completeIf (triggered s p) s) (record { count = n; tables = tablesOf w x }) o (s .objects - o) ≡ A
+      skipped = fold-skip (completeIf (triggered s p) s) (λ (c : Counted). triggered s p (c .tables)) idle (s .objects) from o (record { count = n; tables = tablesOf w x }) A l (found .is) i
+
+      pub settle-end : s .objects ≤ o → record { count = n; tables = tablesOf w x } ≡ A
+      settle-end h = fold-end (completeIf (triggered s p) s) (s .objects) o (record { count = n; tables = tablesOf w x }) A h skipped
+
+      pub settle-again : (t : Tables) → o < s .objects → t ≡ completed s (tablesOf w x) o
+          → foldFrom (completeIf (triggered s p) s) (record { count = n + 1; tables = t }) (o + 1) (s .objects - (o + 1)) ≡ A
+      settle-again t h e =
+          fold-again (completeIf (triggered s p) s) (s .objects) o (record { count = n; tables = tablesOf w x }) (record { count = n + 1; tables = t }) A h
+          (rw (hits h, e)) skipped
+
+pub settle-grows : (s : Setup) (t u : Tables) (o : ℕ) → Growing s (t .objects) → u ≡ completed s t o → Growing s (u .objects)
+settle-grows s t u o g e = rw e (completed-keeps s t o g)
+
+-- ---- a clock step
+
+module _ (s : Setup) (w x : List ℕ) (clock : ℕ) where
+  pub clock-grows : Growing s (tablesOf w x .objects) → Growing s (tablesOf (set w 0 clock) x .objects)
+  unfolding tablesOf
+  clock-grows g = record { below = rw (stored wordLengths w CLOCK 0 clock (omega arith)) (g .below) }
+
+  clocked : length w ≡ WORDS → tablesOf (set w 0 clock) x ≡ withClock (tablesOf w x) clock
+  unfolding tablesOf
+  clocked h =
+      rw (stored wordLengths w CLOCK 0 clock (omega arith), getD-set-same (parts wordLengths w CLOCK) 0 clock 0 (omega (arith, part-length wordLengths w CLOCK (omega arith))))
+
+  records-clocked : recordsOf (set w 0 clock) x ≡ recordsOf w x
+  unfolding recordsOf
+  records-clocked = rw (stored wordLengths w CLOCK 0 clock (omega arith))
+
+  pub clock-settles : (r : Counted) (u v : List ℕ) → length w ≡ WORDS
+      → (r ≡ settled s (triggerStaged s Clock (tablesOf (set w 0 clock) x))) × (recordsOf u v ≡ recordsOf (set w 0 clock) x)
+      → (r ≡ settled s (clockStaged s (tablesOf w x) clock)) × (recordsOf u v ≡ recordsOf w x)
+  unfolding triggered
+  clock-settles r u v h e = (rw (← clocked h) (e .0), e .1 ∙ records-clocked)

@@ -1,0 +1,60 @@
+// Completing one write at the server (01, "Steps"): what it does to the tables, and whether it is time.
+ghost use mathlib.Core.Path.{_≡_};
+ghost use mathlib.Core.Bool.{true};
+ghost use Prim.Native.Nat.{_<_};
+ghost use Rattle.protocol.specs.Setup.{inRange};
+ghost use Rattle.protocol.specs.Tables.{versionAt, withObjects};
+ghost use Rattle.protocol.specs.Writes.{posted, completed, settled};
+ghost use Rattle.state_words.specs.View.{tablesOf, recordsOf};
+ghost use Rattle.server_due.specs.Triggers.{oneStaged};
+use lease_tests::place;
+use protocol::setup::Setup;
+use server_waiting::clients;
+use state_words::Values;
+use state_words::Words;
+use state_words::server;
+
+// "stores the value, adds 1 to the version, .. and ends the standing write"
+fn post(words: &mut Words, values: &mut Values, object: usize)
+    requires { ⌜ object < 32 ⌝ }
+    requires { ⌜ versionAt (tablesOf (now words) (now values)) object < 4294967295 ⌝ }
+    ensures { λ _. ⌜ tablesOf (now (words .exit)) (now (values .exit)) ≡ withObjects (tablesOf (now (words .entry)) (now (values .entry))) (posted (tablesOf (now (words .entry)) (now (values .entry))) object) ⌝ }
+    ensures { λ _. ⌜ recordsOf (now (words .exit)) (now (values .exit)) ≡ recordsOf (now (words .entry)) (now (values .entry)) ⌝ }
+{
+    values[server::VALUE + object] = values[server::PENDING + object];
+    values[server::PENDING + object] = 0;
+    words[server::VERSION + object] = words[server::VERSION + object] + 1;
+    words[server::STANDING + object] = 0;
+    words[server::END + object] = 0;
+}
+
+// "Completing stores the value, adds 1 to the version, marks still waiting dashes unreachable, clears every dash's server lease on that object and ends the standing write."
+pub fn complete(s: Setup, words: &mut Words, values: &mut Values, object: usize)
+    requires { ⌜ inRange s ≡ true ⌝ }
+    requires { ⌜ object < s .objects ⌝ }
+    requires { ⌜ versionAt (tablesOf (now words) (now values)) object < 4294967295 ⌝ }
+    ensures { λ _. ⌜ tablesOf (now (words .exit)) (now (values .exit)) ≡ completed s (tablesOf (now (words .entry)) (now (values .entry))) object ⌝ }
+    ensures { λ _. ⌜ recordsOf (now (words .exit)) (now (values .exit)) ≡ recordsOf (now (words .entry)) (now (values .entry)) ⌝ }
+{
+    let volume = place::volume_of(s, object);
+    let n = s.clients as usize;
+    clients::mark_waiting(&mut *words, volume, object, n);
+    clients::clear_object(&mut *words, server::LEASE, object, n);
+    clients::clear_object(&mut *words, server::WAITING, object, n);
+    post(&mut *words, &mut *values, object);
+}
+
+// "complete if none waits and the clock is at or past guard": after a write, and after an ACK. How many writes completed.
+pub fn settle_one(s: Setup, words: &mut Words, values: &mut Values, object: usize) -> u32
+    requires { ⌜ inRange s ≡ true ⌝ }
+    requires { ⌜ object < s .objects ⌝ }
+    requires { ⌜ versionAt (tablesOf (now words) (now values)) object < 4294967295 ⌝ }
+    ensures { λ r. ⌜ record { count = r; tables = tablesOf (now (words .exit)) (now (values .exit)) } ≡ settled s (oneStaged s (tablesOf (now (words .entry)) (now (values .entry))) object) ⌝ }
+    ensures { λ _. ⌜ recordsOf (now (words .exit)) (now (values .exit)) ≡ recordsOf (now (words .entry)) (now (values .entry)) ⌝ }
+{
+    if server_due::ready(s, &*words, object) {
+        complete(s, &mut *words, &mut *values, object);
+        return 1;
+    }
+    0
+}

@@ -1,0 +1,50 @@
+// Going through the standing writes in object order.
+ghost use mathlib.Core.Path.{_≡_};
+ghost use mathlib.Core.Bool.{true};
+ghost use Rattle.protocol.specs.Setup.{inRange};
+ghost use Rattle.protocol.specs.SoundLaws.{Growing};
+ghost use Rattle.protocol.specs.Writes.{settled, clockStaged};
+ghost use Rattle.state_words.specs.View.{tablesOf, recordsOf};
+ghost use Rattle.server_due.specs.Triggers.{triggerStaged};
+use crate::completion::complete;
+use protocol::setup::Setup;
+use server_due::Trigger;
+use server_due::next_triggered;
+use state_words::Values;
+use state_words::Words;
+use state_words::network;
+use state_words::pass;
+
+// "In object order, complete each standing write" that is triggered, and count them.
+pub fn settle(s: Setup, trigger: Trigger, words: &mut Words, values: &mut Values) -> u32
+    requires { ⌜ inRange s ≡ true ⌝ }
+    requires { ⌜ Growing s (tablesOf (now words) (now values) .objects) ⌝ }
+    ensures { λ r. ⌜ record { count = r; tables = tablesOf (now (words .exit)) (now (values .exit)) } ≡ settled s (triggerStaged s trigger (tablesOf (now (words .entry)) (now (values .entry)))) ⌝ }
+    ensures { λ _. ⌜ recordsOf (now (words .exit)) (now (values .exit)) ≡ recordsOf (now (words .entry)) (now (values .entry)) ⌝ }
+{
+    let n = s.objects as usize;
+    let mut count: u32 = 0;
+    let mut from = 0;
+    loop {
+        let object = next_triggered(s, trigger, &*words, from);
+        if n <= object {
+            break;
+        }
+        complete(s, &mut *words, &mut *values, object);
+        count += 1;
+        from = object + 1;
+    }
+    count
+}
+
+// Step 1: the clock, and the writes that are then due.
+pub fn pass_time(s: Setup, words: &mut Words, values: &mut Values, clock: u32) -> u32
+    requires { ⌜ inRange s ≡ true ⌝ }
+    requires { ⌜ Growing s (tablesOf (now words) (now values) .objects) ⌝ }
+    ensures { λ r. ⌜ record { count = r; tables = tablesOf (now (words .exit)) (now (values .exit)) } ≡ settled s (clockStaged s (tablesOf (now (words .entry)) (now (values .entry))) clock) ⌝ }
+    ensures { λ _. ⌜ recordsOf (now (words .exit)) (now (values .exit)) ≡ recordsOf (now (words .entry)) (now (values .entry)) ⌝ }
+{
+    pass::sized(&*words);
+    words[network::CLOCK] = clock;
+    settle(s, Trigger::Clock, &mut *words, &mut *values)
+}

@@ -1,0 +1,79 @@
+// DROPPED received at the server (01, "Messages received").
+ghost use mathlib.Core.Path.{_≡_};
+ghost use mathlib.Core.Bool.{true};
+ghost use Prim.Native.Nat.{ℕ, _+_, _≤_, _<_};
+ghost use Rattle.laws.specs.Store.{storeEach};
+ghost use Rattle.protocol.specs.Setup.{inRange};
+ghost use Rattle.protocol.specs.SoundLaws.{Growing};
+ghost use Rattle.protocol.specs.Tables.{byObject};
+ghost use Rattle.protocol.specs.Writes.{settled};
+ghost use Rattle.protocol.specs.Server.{ofVolume, dropTaken, dropStaged};
+ghost use Rattle.state_words.specs.Fields.{WORDS};
+ghost use Rattle.state_words.specs.View.{tablesOf, numbersOf, recordsOf};
+use lease_tests::place;
+use protocol::setup::Setup;
+use server_complete::settle;
+use server_due::Trigger;
+use state_words::Values;
+use state_words::Words;
+use state_words::pass;
+use state_words::server;
+
+// The client's words for the objects of the volume, of the field that starts at `field`, become 0.
+fn clear_in_volume(s: Setup, words: &mut Words, field: usize, client: usize, volume: usize)
+    requires { ⌜ inRange s ≡ true ⌝ }
+    requires { ⌜ field + 512 ≤ WORDS ⌝ }
+    requires { ⌜ client < s .clients ⌝ }
+    ensures { λ _. ⌜ now (words .exit) ≡ storeEach (ofVolume s volume) (λ (o : ℕ). field + byObject client o) (λ (o : ℕ). 0) (now (words .entry)) (s .objects) ⌝ }
+{
+    let n = s.objects as usize;
+    let mut object = 0;
+    while object < n {
+        let own = place::volume_of(s, object);
+        pass::put_if(
+            &mut *words,
+            own == volume,
+            field + (client * 32 + object),
+            0,
+        );
+        object += 1;
+    }
+}
+
+// "needs the epoch and a nonzero equal offer number"
+fn drop_taken(words: &Words, client: usize, volume: usize, number: u32, epoch: u32) -> bool
+    requires { ⌜ client < 16 ⌝ }
+    requires { ⌜ volume < 8 ⌝ }
+    ensures { λ r. ⌜ r ≡ dropTaken (numbersOf (now (words .entry))) client volume number epoch ⌝ }
+{
+    let offer = words[server::OFFER + (client * 8 + volume)];
+    (epoch == words[server::VOLUME_EPOCH + volume]) & ((number != 0) & (number == offer))
+}
+
+// DROPPED of a client for a volume, with its number and epoch: "Clear the dash's leases in the volume, mark, offer and waiting there; then, in object order, complete each standing write of the volume on ACK's condition." How many writes completed.
+pub fn receive_dropped(
+    s: Setup,
+    words: &mut Words,
+    values: &mut Values,
+    client: usize,
+    volume: usize,
+    number: u32,
+    epoch: u32,
+) -> u32
+    requires { ⌜ inRange s ≡ true ⌝ }
+    requires { ⌜ Growing s (tablesOf (now words) (now values) .objects) ⌝ }
+    requires { ⌜ client < s .clients ⌝ }
+    requires { ⌜ volume < s .volumes ⌝ }
+    ensures { λ r. ⌜ record { count = r; tables = tablesOf (now (words .exit)) (now (values .exit)) } ≡ settled s (dropStaged s (tablesOf (now (words .entry)) (now (values .entry))) client volume number epoch) ⌝ }
+    ensures { λ _. ⌜ recordsOf (now (words .exit)) (now (values .exit)) ≡ recordsOf (now (words .entry)) (now (values .entry)) ⌝ }
+{
+    if drop_taken(&*words, client, volume, number, epoch) {
+        words[server::SESSION_EXPIRY + (client * 8 + volume)] = 0;
+        words[server::UNREACHABLE + (client * 8 + volume)] = 0;
+        words[server::OFFER + (client * 8 + volume)] = 0;
+        clear_in_volume(s, &mut *words, server::LEASE, client, volume);
+        clear_in_volume(s, &mut *words, server::WAITING, client, volume);
+        return settle::settle(s, Trigger::Volume(volume), &mut *words, &mut *values);
+    }
+    0
+}

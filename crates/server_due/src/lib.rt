@@ -1,0 +1,87 @@
+// Which standing writes are ready or due (01, "Steps" 1 and 4), and what makes the server go through them.
+ghost use mathlib.Core.Path.{_≡_};
+ghost use mathlib.Core.Bool.{true};
+ghost use Prim.Native.Nat.{_≤_, _<_};
+ghost use Rattle.laws.specs.Skip.{Found};
+ghost use Rattle.protocol.specs.Setup.{inRange};
+ghost use Rattle.protocol.specs.Writes.{ready, due};
+ghost use Rattle.state_words.specs.View.{numbersOf};
+ghost use Rattle.server_due.specs.Triggers.{triggered};
+use lease_tests::place;
+use lease_tests::time;
+use protocol::setup::Setup;
+use server_waiting::clients;
+use state_words::Words;
+use state_words::network;
+use state_words::server;
+
+// What makes the server go through its standing writes: a clock step, which completes those that are due, or a DROPPED, which completes those of a
+// volume that are ready.
+pub enum Trigger {
+    Clock,
+    Volume(usize),
+}
+
+// "none waits and the clock is at or past guard"
+pub fn ready(s: Setup, words: &Words, object: usize) -> bool
+    requires { ⌜ inRange s ≡ true ⌝ }
+    requires { ⌜ object < s .objects ⌝ }
+    ensures { λ r. ⌜ r ≡ ready s (numbersOf (now (words .entry))) object ⌝ }
+{
+    let volume = place::volume_of(s, object);
+    if words[server::STANDING + object] != 0 {
+        let any = clients::waited(words, object, s.clients as usize);
+        let late = time::guard_passed(words[network::CLOCK], words[server::GUARD + volume]);
+        return !any & late;
+    }
+    false
+}
+
+// "no waiting dash and clock at or past guard, or whose latest end is below the clock"
+pub fn due(s: Setup, words: &Words, object: usize) -> bool
+    requires { ⌜ inRange s ≡ true ⌝ }
+    requires { ⌜ object < s .objects ⌝ }
+    ensures { λ r. ⌜ r ≡ due s (numbersOf (now (words .entry))) object ⌝ }
+{
+    if ready(s, words, object) {
+        return true;
+    }
+    let over = time::end_over(words[network::CLOCK], words[server::END + object]);
+    (words[server::STANDING + object] != 0) & over
+}
+
+// Whether the write of the object is completed then.
+pub fn triggered(s: Setup, trigger: Trigger, words: &Words, object: usize) -> bool
+    requires { ⌜ inRange s ≡ true ⌝ }
+    requires { ⌜ object < s .objects ⌝ }
+    ensures { λ r. ⌜ r ≡ triggered s trigger (numbersOf (now (words .entry))) object ⌝ }
+{
+    match trigger {
+        Trigger::Clock => due(s, words, object),
+        Trigger::Volume(volume) => {
+            if place::volume_of(s, object) == volume {
+                return ready(s, words, object);
+            }
+            false
+        }
+    }
+}
+
+// The next object whose write is completed, or the number of objects.
+pub fn next_triggered(s: Setup, trigger: Trigger, words: &Words, from: usize) -> usize
+    requires { ⌜ inRange s ≡ true ⌝ }
+    requires { ⌜ from ≤ s .objects ⌝ }
+    ensures { λ r. ⌜ Found (triggered s trigger (numbersOf (now (words .entry)))) from (s .objects) r ⌝ }
+{
+    let n = s.objects as usize;
+    let mut object = from;
+    loop {
+        if n <= object {
+            break object;
+        }
+        if triggered(s, trigger, words, object) {
+            break object;
+        }
+        object += 1;
+    }
+}

@@ -1,0 +1,55 @@
+// RENEW answered by the server with a GRANT or an OFFER (01, "Messages received"): what it notes in the tables, and sends.
+ghost use mathlib.Core.Path.{_≡_};
+ghost use mathlib.Core.Bool.{true};
+ghost use Prim.Native.Nat.{_≤_, _<_};
+ghost use Rattle.protocol.specs.Setup.{inRange};
+ghost use Rattle.protocol.specs.Server.{sent, offered, offering, granted};
+ghost use Rattle.state_words.specs.View.{tablesOf, recordsOf};
+use lease_tests::place;
+use network_send::push;
+use protocol::setup::Setup;
+use state_words::Values;
+use state_words::Words;
+use state_words::network;
+use state_words::server;
+
+// "mark unreachable, offer number := number, send OFFER"
+pub fn offer(words: &mut Words, values: &mut Values, client: usize, volume: usize, number: u32)
+    requires { ⌜ client < 16 ⌝ }
+    requires { ⌜ volume < 8 ⌝ }
+    ensures { λ _. ⌜ tablesOf (now (words .exit)) (now (values .exit)) ≡ sent (offered (tablesOf (now (words .entry)) (now (values .entry))) client volume number) (offering (tablesOf (now (words .entry)) (now (values .entry))) client volume number) ⌝ }
+    ensures { λ _. ⌜ recordsOf (now (words .exit)) (now (values .exit)) ≡ recordsOf (now (words .entry)) (now (values .entry)) ⌝ }
+{
+    let message = server_replies::offering(&*words, client, volume, number);
+    words[server::UNREACHABLE + (client * 8 + volume)] = 1;
+    words[server::OFFER + (client * 8 + volume)] = number;
+    push(&mut *words, &mut *values, message);
+}
+
+// "volume expiry and VE := clock + tv, object expiry and OE := clock + t, send GRANT"
+pub fn grant(
+    s: Setup,
+    words: &mut Words,
+    values: &mut Values,
+    client: usize,
+    object: usize,
+    number: u32,
+    held: u32,
+)
+    requires { ⌜ inRange s ≡ true ⌝ }
+    requires { ⌜ tablesOf (now words) (now values) .clock ≤ 2147483647 ⌝ }
+    requires { ⌜ client < 16 ⌝ }
+    requires { ⌜ object < s .objects ⌝ }
+    ensures { λ _. ⌜ tablesOf (now (words .exit)) (now (values .exit)) ≡ granted s (tablesOf (now (words .entry)) (now (values .entry))) client object number held ⌝ }
+    ensures { λ _. ⌜ recordsOf (now (words .exit)) (now (values .exit)) ≡ recordsOf (now (words .entry)) (now (values .entry)) ⌝ }
+{
+    let volume = place::volume_of(s, object);
+    let message = server_replies::granting(s, &*words, &*values, client, object, number, held);
+    let volume_expiry = words[network::CLOCK] + s.tv;
+    let object_expiry = words[network::CLOCK] + s.t;
+    words[server::VOLUME_EXPIRY + volume] = volume_expiry;
+    words[server::SESSION_EXPIRY + (client * 8 + volume)] = volume_expiry;
+    words[server::OBJECT_EXPIRY + object] = object_expiry;
+    words[server::LEASE + (client * 32 + object)] = object_expiry;
+    push(&mut *words, &mut *values, message);
+}

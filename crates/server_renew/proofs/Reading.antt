@@ -1,0 +1,54 @@
+-- What is read of the words for a RENEW, whatever the values are.
+use Prim.Native.Nat.{ℕ, _+_, _<_}
+use native.Mathlib.Nat.{sub-zero}
+use native.Mathlib.Omega.{arith}
+use mathlib.Core.Bool.{true, false, not, _||_}
+use mathlib.Core.List.{List}
+use mathlib.Core.Path.{_≡_, refl}
+use lib.Dec.{eqb}
+use lib.ListN.{getD}
+use Rattle.laws.specs.Choice.{and-true}
+use Rattle.laws.specs.Flags.{flag, flag-at, flag-yes, flag-no}
+use Rattle.laws.specs.Parts.{part-at}
+use Rattle.laws.specs.Skip.{first-is}
+use Rattle.protocol.specs.declared.setup.Setup.{Setup}
+use Rattle.protocol.specs.SoundLaws.{Growing}
+use Rattle.protocol.specs.Tables.{byVolume, versionAt, standingAt, waitingAt}
+use Rattle.protocol.specs.Writes.{invalidation}
+use Rattle.protocol.specs.Server.{ofVolume, waitedIn, lowestWaited, mustDrop}
+use Rattle.state_words.specs.Fields.{wordLengths, at, VOLUME-EPOCH, UNREACHABLE, STANDING}
+use Rattle.state_words.specs.View.{tablesOf, numbersOf}
+
+module _ (w : List ℕ) where
+  pub drops : (d v e : ℕ) → d < 16 → v < 8 → (not (eqb e (getD w (at VOLUME-EPOCH + v) 0)) || flag (getD w (at UNREACHABLE + byVolume d v) 0)) ≡ mustDrop (numbersOf w) d v e
+  unfolding mustDrop tablesOf
+  drops d v e h l = rw (part-at wordLengths w VOLUME-EPOCH v l, flag-at wordLengths w UNREACHABLE (byVolume d v) (omega arith))
+
+module _ (w x : List ℕ) where
+  pub stands : (o : ℕ) → o < 32 → (getD w (at STANDING + o) 0 ≡ 0 → ⊥) → standingAt (tablesOf w x) o ≡ true
+  unfolding tablesOf
+  stands o l h = flag-yes wordLengths w STANDING o l h
+
+  pub rests : (o : ℕ) → o < 32 → getD w (at STANDING + o) 0 ≡ 0 → standingAt (tablesOf w x) o ≡ false
+  unfolding tablesOf
+  rests o l h = flag-no wordLengths w STANDING o l h
+
+  -- whatever the values are
+  pub drop-same : (d v e : ℕ) → mustDrop (numbersOf w) d v e ≡ mustDrop (tablesOf w x) d v e
+  unfolding mustDrop tablesOf
+  drop-same d v e = refl
+
+  pub lowest-same : (s : Setup) (d v : ℕ) → lowestWaited s (numbersOf w) d v ≡ lowestWaited s (tablesOf w x) d v
+  unfolding lowestWaited tablesOf
+  lowest-same s d v = refl
+
+  pub resending-same : (s : Setup) (o d : ℕ) → invalidation s (numbersOf w) o d ≡ invalidation s (tablesOf w x) o d
+  unfolding tablesOf
+  resending-same s o d = refl
+
+  -- the version of an object that is waited for can grow, since a write stands there
+  pub low-version : (s : Setup) (d v low : ℕ) → low ≡ lowestWaited s (numbersOf w) d v → Growing s (tablesOf w x .objects) → low < s .objects → versionAt (numbersOf w) low < 4294967295
+  unfolding lowestWaited tablesOf
+  low-version s d v low l g i =
+      let k = first-is (waitedIn s (tablesOf w x) d v) (s .objects) 0 low (omega arith) (rw sub-zero l) i in
+      g .below low i (and-true (standingAt (tablesOf w x) low) (waitingAt (tablesOf w x) d low) (and-true (ofVolume s v low) _ k .1) .0)

@@ -1,0 +1,63 @@
+// The rules by which the server answers a RENEW, in order (01, "Messages received").
+ghost use mathlib.Core.Path.{_≡_};
+ghost use mathlib.Core.Bool.{true};
+ghost use Prim.Native.Nat.{_≤_, _<_};
+ghost use Rattle.protocol.specs.Setup.{inRange};
+ghost use Rattle.protocol.specs.SoundLaws.{Growing};
+ghost use Rattle.protocol.specs.Server.{mustDrop, renewedBy};
+ghost use Rattle.state_words.specs.View.{tablesOf, numbersOf, recordsOf};
+use lease_tests::place;
+use network_send::push;
+use protocol::setup::Setup;
+use server_grants::grant;
+use server_grants::offer;
+use server_replies::lowest;
+use state_words::Values;
+use state_words::Words;
+use state_words::server;
+
+// "Epoch differs or dash unreachable"
+fn must_drop(words: &Words, client: usize, volume: usize, epoch: u32) -> bool
+    requires { ⌜ client < 16 ⌝ }
+    requires { ⌜ volume < 8 ⌝ }
+    ensures { λ r. ⌜ r ≡ mustDrop (numbersOf (now (words .entry))) client volume epoch ⌝ }
+{
+    (epoch != words[server::VOLUME_EPOCH + volume])
+        | (words[server::UNREACHABLE + (client * 8 + volume)] != 0)
+}
+
+// "take the first rule that fits"
+pub fn renew_by(
+    s: Setup,
+    words: &mut Words,
+    values: &mut Values,
+    client: usize,
+    object: usize,
+    number: u32,
+    epoch: u32,
+    held: u32,
+)
+    requires { ⌜ inRange s ≡ true ⌝ }
+    requires { ⌜ tablesOf (now words) (now values) .clock ≤ 2147483647 ⌝ }
+    requires { ⌜ Growing s (tablesOf (now words) (now values) .objects) ⌝ }
+    requires { ⌜ client < s .clients ⌝ }
+    requires { ⌜ object < s .objects ⌝ }
+    ensures { λ _. ⌜ tablesOf (now (words .exit)) (now (values .exit)) ≡ renewedBy s (tablesOf (now (words .entry)) (now (values .entry))) client object number epoch held ⌝ }
+    ensures { λ _. ⌜ recordsOf (now (words .exit)) (now (values .exit)) ≡ recordsOf (now (words .entry)) (now (values .entry)) ⌝ }
+{
+    let volume = place::volume_of(s, object);
+    if must_drop(&*words, client, volume, epoch) {
+        offer(&mut *words, &mut *values, client, volume, number);
+        return;
+    }
+    let low = lowest::lowest_waited(s, &*words, client, volume);
+    if low < s.objects as usize {
+        let message = server_replies::resending(s, &*words, client, low);
+        push(&mut *words, &mut *values, message);
+        return;
+    }
+    if words[server::STANDING + object] != 0 {
+        return;
+    }
+    grant(s, &mut *words, &mut *values, client, object, number, held);
+}

@@ -1,0 +1,47 @@
+ghost use mathlib.Core.Path.{_≡_};
+ghost use mathlib.Core.Bool.{true};
+ghost use Prim.Native.Nat.{_≤_, _<_};
+ghost use Rattle.protocol.specs.Setup.{inRange};
+ghost use Rattle.protocol.specs.SoundLaws.{Growing};
+ghost use Rattle.protocol.specs.Server.{renewed};
+ghost use Rattle.state_words.specs.View.{tablesOf, recordsOf};
+use crate::answer::renew_by;
+use protocol::setup::Setup;
+use state_words::Values;
+use state_words::Words;
+use state_words::server;
+
+// RENEW of a client for an object, with its number, known epoch and held version.
+pub fn receive_renew(
+    s: Setup,
+    words: &mut Words,
+    values: &mut Values,
+    client: usize,
+    object: usize,
+    number: u32,
+    epoch: u32,
+    held: u32,
+)
+    requires { ⌜ inRange s ≡ true ⌝ }
+    requires { ⌜ tablesOf (now words) (now values) .clock ≤ 2147483647 ⌝ }
+    requires { ⌜ Growing s (tablesOf (now words) (now values) .objects) ⌝ }
+    requires { ⌜ client < s .clients ⌝ }
+    requires { ⌜ object < s .objects ⌝ }
+    ensures { λ _. ⌜ tablesOf (now (words .exit)) (now (values .exit)) ≡ renewed s (tablesOf (now (words .entry)) (now (values .entry))) client object number epoch held ⌝ }
+    ensures { λ _. ⌜ recordsOf (now (words .exit)) (now (values .exit)) ≡ recordsOf (now (words .entry)) (now (values .entry)) ⌝ }
+{
+    if number <= words[server::SEEN + client] {
+        return;
+    }
+    words[server::SEEN + client] = number;
+    renew_by(
+        s,
+        &mut *words,
+        &mut *values,
+        client,
+        object,
+        number,
+        epoch,
+        held,
+    );
+}

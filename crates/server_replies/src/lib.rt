@@ -1,0 +1,98 @@
+// The messages that a RENEW is answered with (01, "Messages received"), and the object that an INVALIDATE is resent for.
+pub mod lowest;
+
+ghost use mathlib.Core.Path.{_≡_};
+ghost use mathlib.Core.Bool.{true};
+ghost use Prim.Native.Nat.{_≤_, _<_};
+ghost use Rattle.protocol.specs.Setup.{inRange};
+ghost use Rattle.protocol.specs.Tables.{versionAt};
+ghost use Rattle.protocol.specs.Writes.{invalidation};
+ghost use Rattle.protocol.specs.Server.{offering, payloadFor, granting};
+ghost use Rattle.state_words.specs.View.{tablesOf, numbersOf};
+use lease_tests::place;
+use protocol::message::Kind;
+use protocol::message::Message;
+use protocol::message::Payload;
+use protocol::setup::Setup;
+use state_words::Values;
+use state_words::Words;
+use state_words::network;
+use state_words::server;
+
+// "send OFFER"
+pub fn offering(words: &Words, client: usize, volume: usize, number: u32) -> Message
+    requires { ⌜ client < 16 ⌝ }
+    requires { ⌜ volume < 8 ⌝ }
+    ensures { λ r. ⌜ r ≡ offering (numbersOf (now (words .entry))) client volume number ⌝ }
+{
+    Message {
+        client: client as u8,
+        kind: Kind::Offer {
+            volume: volume as u8,
+            number,
+            epoch: words[server::VOLUME_EPOCH + volume],
+        },
+    }
+}
+
+// "resend INVALIDATE"
+pub fn resending(s: Setup, words: &Words, client: usize, object: usize) -> Message
+    requires { ⌜ inRange s ≡ true ⌝ }
+    requires { ⌜ client < 16 ⌝ }
+    requires { ⌜ object < s .objects ⌝ }
+    requires { ⌜ versionAt (numbersOf (now words)) object < 4294967295 ⌝ }
+    ensures { λ r. ⌜ r ≡ invalidation s (numbersOf (now (words .entry))) object client ⌝ }
+{
+    let volume = place::volume_of(s, object);
+    Message {
+        client: client as u8,
+        kind: Kind::Invalidate {
+            object: object as u8,
+            epoch: words[server::VOLUME_EPOCH + volume],
+            version: words[server::VERSION + object] + 1,
+        },
+    }
+}
+
+// "with value unless versions are equal"
+fn payload<'a>(words: &'a Words, values: &'a Values, object: usize, held: u32) -> Payload
+    requires { ⌜ object < 32 ⌝ }
+    ensures { λ r. ⌜ r ≡ payloadFor (tablesOf (now (words .entry)) (now (values .entry))) object held ⌝ }
+{
+    if words[server::VERSION + object] == held {
+        return Payload::Same;
+    }
+    Payload::Value(values[server::VALUE + object])
+}
+
+// "send GRANT"
+pub fn granting<'a>(
+    s: Setup,
+    words: &'a Words,
+    values: &'a Values,
+    client: usize,
+    object: usize,
+    number: u32,
+    held: u32,
+) -> Message
+    requires { ⌜ inRange s ≡ true ⌝ }
+    requires { ⌜ tablesOf (now words) (now values) .clock ≤ 2147483647 ⌝ }
+    requires { ⌜ client < 16 ⌝ }
+    requires { ⌜ object < s .objects ⌝ }
+    ensures { λ r. ⌜ r ≡ granting s (tablesOf (now (words .entry)) (now (values .entry))) client object number held ⌝ }
+{
+    let volume = place::volume_of(s, object);
+    let payload = payload(words, values, object, held);
+    Message {
+        client: client as u8,
+        kind: Kind::Grant {
+            object: object as u8,
+            number,
+            volume_expiry: words[network::CLOCK] + s.tv,
+            epoch: words[server::VOLUME_EPOCH + volume],
+            version: words[server::VERSION + object],
+            object_expiry: words[network::CLOCK] + s.t,
+            payload,
+        },
+    }
+}

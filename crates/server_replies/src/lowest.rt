@@ -1,0 +1,42 @@
+// "Dash waited for in this volume", and "its lowest such object".
+ghost use mathlib.Core.Path.{_≡_};
+ghost use mathlib.Core.Bool.{true};
+ghost use Prim.Native.Nat.{_<_};
+ghost use Rattle.protocol.specs.Setup.{inRange};
+ghost use Rattle.protocol.specs.Server.{waitedIn, lowestWaited};
+ghost use Rattle.state_words.specs.View.{numbersOf};
+use lease_tests::place;
+use protocol::setup::Setup;
+use state_words::Words;
+use state_words::server;
+
+// Whether the object is of the volume, and its standing write waits for the client.
+fn waited_in(s: Setup, words: &Words, client: usize, volume: usize, object: usize) -> bool
+    requires { ⌜ inRange s ≡ true ⌝ }
+    requires { ⌜ client < s .clients ⌝ }
+    requires { ⌜ object < s .objects ⌝ }
+    ensures { λ r. ⌜ r ≡ waitedIn s (numbersOf (now (words .entry))) client volume object ⌝ }
+{
+    let own = place::volume_of(s, object);
+    let i = client * 32 + object;
+    (own == volume) & ((words[server::STANDING + object] != 0) & (words[server::WAITING + i] != 0))
+}
+
+// The first object of the volume whose standing write waits for the client, or the number of objects.
+pub fn lowest_waited(s: Setup, words: &Words, client: usize, volume: usize) -> usize
+    requires { ⌜ inRange s ≡ true ⌝ }
+    requires { ⌜ client < s .clients ⌝ }
+    ensures { λ r. ⌜ r ≡ lowestWaited s (numbersOf (now (words .entry))) client volume ⌝ }
+{
+    let n = s.objects as usize;
+    let mut object = 0;
+    loop {
+        if n <= object {
+            break object;
+        }
+        if waited_in(s, words, client, volume, object) {
+            break object;
+        }
+        object += 1;
+    }
+}

@@ -1,0 +1,83 @@
+// The server's restart (01, "Steps" 8).
+ghost use mathlib.Core.Path.{_≡_};
+ghost use mathlib.Core.Bool.{true};
+ghost use Prim.Native.Nat.{ℕ, _+_, _≤_, _<_};
+ghost use lib.ListN.{getD};
+ghost use Rattle.laws.specs.Parts.{parts};
+ghost use Rattle.laws.specs.Store.{storeEach, always};
+ghost use Rattle.protocol.specs.Setup.{inRange};
+ghost use Rattle.protocol.specs.Server.{serverRestarted};
+ghost use Rattle.state_words.specs.Fields.{wordLengths, at, VOLUME-EPOCH, VOLUME-EXPIRY, GUARD};
+ghost use Rattle.state_words.specs.View.{tablesOf, numbersOf, recordsOf};
+ghost use Rattle.server_restart.specs.Restart.{EpochsGrow, sessionsCleared, objectsCleared, holdersCleared};
+use protocol::setup::Setup;
+use state_words::Values;
+use state_words::Words;
+use state_words::pass;
+use state_words::server;
+
+// "every epoch grows by 1"
+fn grow_epochs(words: &mut Words, n: usize)
+    requires { ⌜ n ≤ 8 ⌝ }
+    requires { ⌜ EpochsGrow n (numbersOf (now words)) ⌝ }
+    ensures { λ _. ⌜ now (words .exit) ≡ storeEach always (λ (v : ℕ). at VOLUME-EPOCH + v) (λ (v : ℕ). getD (parts wordLengths (now (words .entry)) VOLUME-EPOCH) v 0 + 1) (now (words .entry)) n ⌝ }
+{
+    let mut volume = 0;
+    while volume < n {
+        words[server::VOLUME_EPOCH + volume] = words[server::VOLUME_EPOCH + volume] + 1;
+        volume += 1;
+    }
+}
+
+// "guard becomes VE"
+fn guard_expiries(words: &mut Words)
+    ensures { λ _. ⌜ now (words .exit) ≡ storeEach always (λ (v : ℕ). at GUARD + v) (λ (v : ℕ). getD (parts wordLengths (now (words .entry)) VOLUME-EXPIRY) v 0) (now (words .entry)) 8 ⌝ }
+{
+    let mut volume = 0;
+    while volume < 8 {
+        words[server::GUARD + volume] = words[server::VOLUME_EXPIRY + volume];
+        volume += 1;
+    }
+}
+
+fn clear_sessions(words: &mut Words)
+    ensures { λ _. ⌜ now (words .exit) ≡ sessionsCleared (now (words .entry)) ⌝ }
+{
+    pass::fill(&mut *words, server::SEEN, 16, 0);
+    pass::fill(&mut *words, server::SESSION_EXPIRY, 128, 0);
+    pass::fill(&mut *words, server::UNREACHABLE, 128, 0);
+    pass::fill(&mut *words, server::OFFER, 128, 0);
+}
+
+// No lease on an object and no standing write: values and versions remain.
+fn clear_objects(words: &mut Words)
+    ensures { λ _. ⌜ now (words .exit) ≡ objectsCleared (now (words .entry)) ⌝ }
+{
+    pass::fill(&mut *words, server::OBJECT_EXPIRY, 32, 0);
+    pass::fill(&mut *words, server::STANDING, 32, 0);
+    pass::fill(&mut *words, server::END, 32, 0);
+}
+
+fn clear_holders(words: &mut Words)
+    ensures { λ _. ⌜ now (words .exit) ≡ holdersCleared (now (words .entry)) ⌝ }
+{
+    pass::fill(&mut *words, server::LEASE, 512, 0);
+    pass::fill(&mut *words, server::WAITING, 512, 0);
+}
+
+// Step 8: "values, versions, VE remain; every epoch grows by 1; guard becomes VE; its other fields become fresh. Messages remain."
+pub fn restart(s: Setup, words: &mut Words, values: &mut Values)
+    requires { ⌜ inRange s ≡ true ⌝ }
+    requires { ⌜ EpochsGrow (s .volumes) (tablesOf (now words) (now values)) ⌝ }
+    ensures { λ _. ⌜ tablesOf (now (words .exit)) (now (values .exit)) ≡ serverRestarted s (tablesOf (now (words .entry)) (now (values .entry))) ⌝ }
+    ensures { λ _. ⌜ recordsOf (now (words .exit)) (now (values .exit)) ≡ recordsOf (now (words .entry)) (now (values .entry)) ⌝ }
+{
+    pass::sized(&*words);
+    pass::sized_values(&*values);
+    grow_epochs(&mut *words, s.volumes as usize);
+    guard_expiries(&mut *words);
+    clear_sessions(&mut *words);
+    clear_objects(&mut *words);
+    clear_holders(&mut *words);
+    pass::fill_values(&mut *values, server::PENDING, 32, 0);
+}

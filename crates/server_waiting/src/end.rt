@@ -1,0 +1,31 @@
+// Until when the write of an object waits: a pass over the first n clients.
+ghost use mathlib.Core.Path.{_≡_};
+ghost use Prim.Native.Nat.{_≤_, _<_};
+ghost use Rattle.laws.specs.Greatest.{greatest};
+ghost use Rattle.server_waiting.specs.Waiting.{waitingFor, waitingIn, leasedIn};
+use lease_tests::time;
+use state_words::Words;
+use state_words::server;
+
+// 02, A3: the greatest of `least` and, "over the waiting dashes, the lesser of that dash's volume and object expiry".
+pub fn latest_end(words: &Words, volume: usize, object: usize, least: u32, n: usize) -> u32
+    requires { ⌜ volume < 8 ⌝ }
+    requires { ⌜ object < 32 ⌝ }
+    requires { ⌜ n ≤ 16 ⌝ }
+    ensures { λ r. ⌜ r ≡ greatest (waitingFor (waitingIn (now (words .entry))) object) (leasedIn (now (words .entry)) volume object) least n ⌝ }
+{
+    let mut end = least;
+    let mut client = 0;
+    while client < n {
+        let i = client * 32 + object;
+        let j = client * 8 + volume;
+        end = time::outlast(
+            end,
+            words[server::WAITING + i] != 0,
+            words[server::SESSION_EXPIRY + j],
+            words[server::LEASE + i],
+        );
+        client += 1;
+    }
+    end
+}

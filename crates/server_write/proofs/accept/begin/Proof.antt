@@ -1,0 +1,96 @@
+use native.Mathlib.Omega.{arith}
+use mathlib.Core.Path.{refl}
+use Rattle.protocol.specs.Ranges.{ranges}
+use Rattle.server_write.proofs.Accepting.{clock-awaited, begins}
+use borrow.Author.Needs.{needs}
+use Rattle.server_write.proofs.accept.begin.Statement.{statement}
+use Rattle.server_write.proofs.accept.begin.Tie as tie
+
+volume-of-requires : tie.Need-volume-of-requires
+volume-of-requires c κs = search needs
+
+cast-n : tie.Need-cast-n
+cast-n c = search needs
+
+sized-requires : tie.Need-sized-requires
+sized-requires c κs = search needs
+
+await-clients-requires : tie.Need-await-clients-requires
+await-clients-requires c κs = search needs
+
+element-copy-out-larger : tie.Need-element-copy-out-larger
+element-copy-out-larger c = search needs
+
+add-larger : tie.Need-add-larger
+add-larger c = let a = c .before .before .before .before .before .before .before .before .before in omega (arith, ranges _ (a .pre .0) .m .1, a .pre .1 .0, clock-awaited _ _ _ (a .args .values .now) _ _ _ (c .before .before .before .before .before .before .before .before .volume-of .ensures) refl (c .before .before .await-clients .ensures))
+
+add-larger-2 : tie.Need-add-larger-2
+add-larger-2 c = search needs
+
+mul-larger : tie.Need-mul-larger
+mul-larger c = search needs
+
+element-copy-out-larger-2 : tie.Need-element-copy-out-larger-2
+element-copy-out-larger-2 c = search needs
+
+larger-requires : tie.Need-larger-requires
+larger-requires c κs = search needs
+
+latest-end-requires : tie.Need-latest-end-requires
+latest-end-requires c κs = search needs
+
+add-words : tie.Need-add-words
+add-words c = search needs
+
+mul-words : tie.Need-mul-words
+mul-words c = search needs
+
+element-write-words : tie.Need-element-write-words
+element-write-words c = search needs
+
+add-words-2 : tie.Need-add-words-2
+add-words-2 c = search needs
+
+mul-words-2 : tie.Need-mul-words-2
+mul-words-2 c = search needs
+
+element-write-words-2 : tie.Need-element-write-words-2
+element-write-words-2 c = search needs
+
+add-values : tie.Need-add-values
+add-values c = search needs
+
+mul-values : tie.Need-mul-values
+mul-values c = search needs
+
+element-write-values : tie.Need-element-write-values
+element-write-values c = search needs
+
+returns : tie.Need-returns
+returns c = begins _ _ _ _ _ _ _ (c .before .before .before .before .before .before .before .before .before .before .before .before .volume-of .ensures) refl (c .before .before .before .before .before .before .await-clients .ensures) (c .before .before .before .before .before .before .before .before .before .sized-arg2 .given .0) _ _ (c .before .before .larger .ensures) (c .latest-end .ensures) _
+
+pub begin-spec : {M : Type 1} → statement M
+begin-spec =
+    tie.close
+    (tie.spec
+    volume-of-requires
+    cast-n
+    sized-requires
+    await-clients-requires
+    element-copy-out-larger
+    add-larger
+    add-larger-2
+    mul-larger
+    element-copy-out-larger-2
+    larger-requires
+    latest-end-requires
+    add-words
+    mul-words
+    element-write-words
+    add-words-2
+    mul-words-2
+    element-write-words-2
+    add-values
+    mul-values
+    element-write-values
+    returns)

@@ -1,0 +1,58 @@
+// A write accepted at the server (01, "Steps" 4, with the latest end of 02, A3): it stands, each INVALIDATE is sent, and it may complete.
+ghost use mathlib.Core.Path.{_≡_};
+ghost use mathlib.Core.Bool.{true};
+ghost use Prim.Native.Nat.{_≤_, _<_};
+ghost use Rattle.protocol.specs.Setup.{inRange};
+ghost use Rattle.protocol.specs.Tables.{versionAt};
+ghost use Rattle.protocol.specs.Writes.{begun, writeStaged, settled};
+ghost use Rattle.state_words.specs.View.{tablesOf, recordsOf};
+use crate::invalidates::notify;
+use lease_tests::place;
+use lease_tests::time;
+use protocol::setup::Setup;
+use server_waiting::clients;
+use server_waiting::end::latest_end;
+use state_words::Values;
+use state_words::Words;
+use state_words::network;
+use state_words::pass;
+use state_words::server;
+
+// The write of `value` stands, with whom it waits for and its latest end: "the greatest of clock + m, guard, and, over the waiting dashes, .." (02, A3).
+fn begin(s: Setup, words: &mut Words, values: &mut Values, object: usize, value: u64)
+    requires { ⌜ inRange s ≡ true ⌝ }
+    requires { ⌜ tablesOf (now words) (now values) .clock ≤ 2147483647 ⌝ }
+    requires { ⌜ object < s .objects ⌝ }
+    ensures { λ _. ⌜ tablesOf (now (words .exit)) (now (values .exit)) ≡ begun s (tablesOf (now (words .entry)) (now (values .entry))) object value ⌝ }
+    ensures { λ _. ⌜ recordsOf (now (words .exit)) (now (values .exit)) ≡ recordsOf (now (words .entry)) (now (values .entry)) ⌝ }
+{
+    let volume = place::volume_of(s, object);
+    let n = s.clients as usize;
+    pass::sized(&*words);
+    clients::await_clients(&mut *words, volume, object, n);
+    let least = time::larger(words[network::CLOCK] + s.m, words[server::GUARD + volume]);
+    let end = latest_end(words, volume, object, least, n);
+    words[server::STANDING + object] = 1;
+    words[server::END + object] = end;
+    values[server::PENDING + object] = value;
+}
+
+// Step 4: the write stands, each INVALIDATE is sent, and it completes "if none waits and the clock is at or past guard". How many writes completed.
+pub fn accept_write(
+    s: Setup,
+    words: &mut Words,
+    values: &mut Values,
+    object: usize,
+    value: u64,
+) -> u32
+    requires { ⌜ inRange s ≡ true ⌝ }
+    requires { ⌜ tablesOf (now words) (now values) .clock ≤ 2147483647 ⌝ }
+    requires { ⌜ object < s .objects ⌝ }
+    requires { ⌜ versionAt (tablesOf (now words) (now values)) object < 4294967295 ⌝ }
+    ensures { λ r. ⌜ record { count = r; tables = tablesOf (now (words .exit)) (now (values .exit)) } ≡ settled s (writeStaged s (tablesOf (now (words .entry)) (now (values .entry))) object value) ⌝ }
+    ensures { λ _. ⌜ recordsOf (now (words .exit)) (now (values .exit)) ≡ recordsOf (now (words .entry)) (now (values .entry)) ⌝ }
+{
+    begin(s, &mut *words, &mut *values, object, value);
+    notify(s, &mut *words, &mut *values, object);
+    server_complete::completion::settle_one(s, &mut *words, &mut *values, object)
+}

@@ -1,0 +1,76 @@
+// The INVALIDATEs that a write sends to whom it waits for (01, "Steps" 4).
+ghost use mathlib.Core.Path.{_≡_};
+ghost use mathlib.Core.Bool.{true};
+ghost use Prim.Native.Nat.{_≤_, _<_};
+ghost use Rattle.protocol.specs.Setup.{inRange};
+ghost use Rattle.protocol.specs.Tables.{versionAt, withQueue};
+ghost use Rattle.protocol.specs.Writes.{notified};
+ghost use Rattle.state_words.specs.View.{tablesOf, recordsOf};
+ghost use Rattle.server_write.specs.Invalidates.{invalidated};
+use lease_tests::place;
+use network_send::push;
+use protocol::message::Kind;
+use protocol::message::Message;
+use protocol::setup::Setup;
+use server_waiting::clients;
+use state_words::Values;
+use state_words::Words;
+use state_words::server;
+
+// "Send each INVALIDATE in dash order", with this epoch and new version, to those of the first n clients that are waited for.
+fn invalidate(
+    words: &mut Words,
+    values: &mut Values,
+    object: usize,
+    epoch: u32,
+    version: u32,
+    n: usize,
+)
+    requires { ⌜ object < 32 ⌝ }
+    requires { ⌜ n ≤ 16 ⌝ }
+    ensures { λ _. ⌜ tablesOf (now (words .exit)) (now (values .exit)) ≡ invalidated (tablesOf (now (words .entry)) (now (values .entry))) object epoch version n ⌝ }
+    ensures { λ _. ⌜ recordsOf (now (words .exit)) (now (values .exit)) ≡ recordsOf (now (words .entry)) (now (values .entry)) ⌝ }
+{
+    let mut from = 0;
+    loop {
+        let client = clients::next_waiting(&*words, object, from, n);
+        if n <= client {
+            break;
+        }
+        let kind = Kind::Invalidate {
+            object: object as u8,
+            epoch,
+            version,
+        };
+        push(
+            &mut *words,
+            &mut *values,
+            Message {
+                client: client as u8,
+                kind,
+            },
+        );
+        from = client + 1;
+    }
+}
+
+// To each client that the write of the object waits for.
+pub fn notify(s: Setup, words: &mut Words, values: &mut Values, object: usize)
+    requires { ⌜ inRange s ≡ true ⌝ }
+    requires { ⌜ object < s .objects ⌝ }
+    requires { ⌜ versionAt (tablesOf (now words) (now values)) object < 4294967295 ⌝ }
+    ensures { λ _. ⌜ tablesOf (now (words .exit)) (now (values .exit)) ≡ withQueue (tablesOf (now (words .entry)) (now (values .entry))) (notified s (tablesOf (now (words .entry)) (now (values .entry))) object) ⌝ }
+    ensures { λ _. ⌜ recordsOf (now (words .exit)) (now (values .exit)) ≡ recordsOf (now (words .entry)) (now (values .entry)) ⌝ }
+{
+    let volume = place::volume_of(s, object);
+    let epoch = words[server::VOLUME_EPOCH + volume];
+    let version = words[server::VERSION + object] + 1;
+    invalidate(
+        &mut *words,
+        &mut *values,
+        object,
+        epoch,
+        version,
+        s.clients as usize,
+    );
+}

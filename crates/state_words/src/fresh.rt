@@ -1,0 +1,37 @@
+// "All else is fresh 0, none or no; clock 0."
+ghost use mathlib.Core.Bool.{true, false, cond};
+ghost use mathlib.Core.Path.{_≡_};
+ghost use Rattle.protocol.specs.Setup.{inRange};
+ghost use Rattle.protocol.specs.Tables.{freshTables};
+ghost use Rattle.state_words.specs.View.{tablesOf, recordsOf, freshRecords};
+use crate::Values;
+use crate::Words;
+use crate::client;
+use crate::pass;
+use crate::server;
+use protocol::setup::Setup;
+
+// Epochs, versions and the next request numbers start at 1.
+pub fn fresh(words: &mut Words, values: &mut Values)
+    ensures { λ _. ⌜ tablesOf (now (words .exit)) (now (values .exit)) ≡ freshTables ⌝ }
+    ensures { λ _. ⌜ recordsOf (now (words .exit)) (now (values .exit)) ≡ freshRecords ⌝ }
+{
+    *words = [0; 3498];
+    *values = [0; 640];
+    pass::fill(&mut *words, server::VOLUME_EPOCH, 8, 1);
+    pass::fill(&mut *words, server::VERSION, 32, 1);
+    pass::fill(&mut *words, client::REQUEST_NEXT, 16, 1);
+}
+
+// The same where the setup is in range, and 0; else 7, and nothing is changed.
+pub fn fresh_for(s: Setup, words: &mut Words, values: &mut Values) -> u8
+    ensures refusal { λ r. ⌜ r ≡ cond (inRange s) 0 7 ⌝ }
+    ensures accepts { λ _. ⌜ (inRange s ≡ true → (tablesOf (now (words .exit)) (now (values .exit)) ≡ freshTables) × (recordsOf (now (words .exit)) (now (values .exit)) ≡ freshRecords)) ⌝ }
+    ensures refuses { λ _. ⌜ (inRange s ≡ false → (now (words .exit) ≡ now (words .entry)) × (now (values .exit) ≡ now (values .entry))) ⌝ }
+{
+    if setup::in_range(s) {
+        fresh(&mut *words, &mut *values);
+        return 0;
+    }
+    7
+}

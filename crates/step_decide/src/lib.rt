@@ -1,0 +1,37 @@
+// One step decided (01, "Steps"): the questions, then the step by its kind, on the words and on the one copy and request that it can touch.
+ghost use mathlib.Core.Path.{_≡_};
+ghost use Rattle.protocol.specs.Answers.{answerNumber};
+ghost use Rattle.protocol.specs.Decide.{answered, decided};
+ghost use Rattle.state_words.specs.View.{tablesOf, recordsOf};
+use protocol::records::Copy;
+use protocol::records::Request;
+use protocol::setup::Setup;
+use protocol::step::Answer;
+use protocol::step::Step;
+use state_words::Values;
+use state_words::Words;
+use step_verdict::Verdict;
+
+// One step, for any input; `records` says whether all lent records are sound. A refusal leaves every word and every value, any step the records in them.
+pub fn decide(
+    s: Setup,
+    words: &mut Words,
+    values: &mut Values,
+    records: bool,
+    c: Copy,
+    r: Request,
+    step: Step,
+) -> Verdict
+    ensures { λ v. ⌜ answered (v .change) (tablesOf (now (words .exit)) (now (values .exit))) (v .answer) ≡ decided s (tablesOf (now (words .entry)) (now (values .entry))) records c r step ⌝ }
+    ensures { λ v. ⌜ (answerNumber (v .answer) ≡ 4 → (now (words .exit) ≡ now (words .entry)) × (now (values .exit) ≡ now (values .entry))) ⌝ }
+    ensures { λ _. ⌜ recordsOf (now (words .exit)) (now (values .exit)) ≡ recordsOf (now (words .entry)) (now (values .entry)) ⌝ }
+{
+    let no = gate::refusal(s, &*words, &*values, records, r, step);
+    if no == 0 {
+        return step_perform::perform(s, &mut *words, &mut *values, c, r, step);
+    }
+    Verdict {
+        change: client_cache::copy::kept(),
+        answer: Answer::Refused(no),
+    }
+}

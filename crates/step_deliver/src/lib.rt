@@ -1,0 +1,139 @@
+// Step 5: "remove the message, then receive it". Server and client each take the kinds that are sent to them, and leave all as it is at the others.
+ghost use mathlib.Core.Bool.{true};
+ghost use mathlib.Core.Path.{_≡_};
+ghost use Prim.Native.Nat.{_≤_, _<_};
+ghost use Rattle.protocol.specs.Setup.{inRange};
+ghost use Rattle.protocol.specs.Sound.{kindSound, tablesSound};
+ghost use Rattle.protocol.specs.SoundLaws.{Growing};
+ghost use Rattle.protocol.specs.Decide.{byClient, answered, deliverDecided};
+ghost use Rattle.state_words.specs.View.{tablesOf, recordsOf};
+ghost use Rattle.step_deliver.specs.Sides.{served, heard};
+use client_cache::copy;
+use client_receive::receive::Terms;
+use client_receive::receive::grant;
+use client_receive::receive::invalidate;
+use client_receive::receive::offer;
+use network_queue::list;
+use network_queue::removal::remove;
+use protocol::message::Kind;
+use protocol::records::Copy;
+use protocol::records::Request;
+use protocol::setup::Setup;
+use protocol::step::Answer;
+use protocol::step::Change;
+use server_ack::receive_ack;
+use server_dropped::receive_dropped;
+use server_renew::receive::receive_renew;
+use state_words::Values;
+use state_words::Words;
+use step_verdict::Verdict;
+
+// RENEW, ACK and DROPPED. How many writes completed.
+fn by_server(s: Setup, words: &mut Words, values: &mut Values, client: usize, k: Kind) -> u32
+    requires { ⌜ inRange s ≡ true ⌝ }
+    requires { ⌜ tablesOf (now words) (now values) .clock ≤ 2147483647 ⌝ }
+    requires { ⌜ Growing s (tablesOf (now words) (now values) .objects) ⌝ }
+    requires { ⌜ client < s .clients ⌝ }
+    requires { ⌜ kindSound s k ≡ true ⌝ }
+    ensures { λ n. ⌜ record { count = n; tables = tablesOf (now (words .exit)) (now (values .exit)) } ≡ served s (tablesOf (now (words .entry)) (now (values .entry))) client k ⌝ }
+    ensures { λ _. ⌜ recordsOf (now (words .exit)) (now (values .exit)) ≡ recordsOf (now (words .entry)) (now (values .entry)) ⌝ }
+{
+    match k {
+        Kind::Renew {
+            object,
+            number,
+            epoch,
+            version,
+        } => {
+            let o = object as usize;
+            receive_renew(s, words, values, client, o, number, epoch, version);
+            0
+        }
+        Kind::Ack {
+            object,
+            epoch,
+            version,
+        } => receive_ack(s, words, values, client, object as usize, epoch, version),
+        Kind::Dropped {
+            volume,
+            number,
+            epoch,
+        } => receive_dropped(s, words, values, client, volume as usize, number, epoch),
+        _ => 0,
+    }
+}
+
+// GRANT, INVALIDATE and OFFER. What becomes of the client's records.
+fn by_client(
+    s: Setup,
+    words: &mut Words,
+    values: &mut Values,
+    c: Copy,
+    r: Request,
+    client: u8,
+    k: Kind,
+) -> Change
+    requires { ⌜ inRange s ≡ true ⌝ }
+    requires { ⌜ client < s .clients ⌝ }
+    requires { ⌜ kindSound s k ≡ true ⌝ }
+    ensures { λ g. ⌜ byClient g (tablesOf (now (words .exit)) (now (values .exit))) ≡ heard s (tablesOf (now (words .entry)) (now (values .entry))) c r client k ⌝ }
+    ensures { λ _. ⌜ recordsOf (now (words .exit)) (now (values .exit)) ≡ recordsOf (now (words .entry)) (now (values .entry)) ⌝ }
+{
+    match k {
+        Kind::Grant {
+            object,
+            number,
+            volume_expiry,
+            epoch,
+            version,
+            object_expiry,
+            payload,
+        } => {
+            let g = Terms {
+                number,
+                volume_expiry,
+                epoch,
+                version,
+                object_expiry,
+                payload,
+            };
+            grant(s, words, &*values, c, r, client, object, g)
+        }
+        Kind::Invalidate {
+            object,
+            epoch,
+            version,
+        } => invalidate(words, values, r, client, object, epoch, version),
+        Kind::Offer {
+            volume,
+            number,
+            epoch,
+        } => offer(words, values, r, client, volume, number, epoch),
+        _ => copy::kept(),
+    }
+}
+
+pub fn deliver(
+    s: Setup,
+    words: &mut Words,
+    values: &mut Values,
+    c: Copy,
+    r: Request,
+    place: usize,
+) -> Verdict
+    requires { ⌜ inRange s ≡ true ⌝ }
+    requires { ⌜ tablesSound s (tablesOf (now words) (now values)) ≡ true ⌝ }
+    requires { ⌜ place < tablesOf (now words) (now values) .queue .len ⌝ }
+    ensures { λ v. ⌜ answered (v .change) (tablesOf (now (words .exit)) (now (values .exit))) (v .answer) ≡ deliverDecided s (tablesOf (now (words .entry)) (now (values .entry))) c r place ⌝ }
+    ensures { λ _. ⌜ recordsOf (now (words .exit)) (now (values .exit)) ≡ recordsOf (now (words .entry)) (now (values .entry)) ⌝ }
+{
+    let m = list::live_message(&*words, &*values, place);
+    remove(&mut *words, &mut *values, place);
+    let k = m.kind;
+    let count = by_server(s, &mut *words, &mut *values, m.client as usize, k);
+    let change = by_client(s, &mut *words, &mut *values, c, r, m.client, k);
+    Verdict {
+        change,
+        answer: Answer::Delivered(m, count),
+    }
+}

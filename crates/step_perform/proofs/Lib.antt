@@ -1,0 +1,3 @@
+pub mod ClientStepPerforming
+pub mod OtherStepPerforming
+pub mod Performing

@@ -1,0 +1,55 @@
+// An accepted step, in place, by its kind. Each part returns as little as it can.
+pub mod client_step;
+pub mod other_step;
+
+ghost use mathlib.Core.Bool.{true};
+ghost use mathlib.Core.Path.{_≡_};
+ghost use Prim.Native.Nat.{_<_};
+ghost use Rattle.protocol.specs.Setup.{inRange};
+ghost use Rattle.protocol.specs.Sound.{tablesSound};
+ghost use Rattle.protocol.specs.Gate.{refusalOfStep};
+ghost use Rattle.protocol.specs.Decide.{kept, answered, readDecided, performed};
+ghost use Rattle.state_words.specs.View.{tablesOf, numbersOf, recordsOf};
+use protocol::records::Copy;
+use protocol::records::Request;
+use protocol::setup::Setup;
+use protocol::step::Step;
+use state_words::Values;
+use state_words::Words;
+use step_verdict::Verdict;
+
+// Step 2, whose verdict changes no record.
+fn read(s: Setup, words: &Words, c: Copy, step: Step) -> Verdict
+    requires { ⌜ inRange s ≡ true ⌝ }
+    requires { ⌜ step .client < s .clients ⌝ }
+    requires { ⌜ step .object < s .objects ⌝ }
+    ensures { λ v. ⌜ v ≡ record { change = kept; answer = readDecided s (numbersOf (now (words .entry))) c (step .client) (step .object) .outcome .answer } ⌝ }
+{
+    step_verdict::keeping(client_steps::read(s, words, c, step.client, step.object))
+}
+
+pub fn perform(
+    s: Setup,
+    words: &mut Words,
+    values: &mut Values,
+    c: Copy,
+    r: Request,
+    step: Step,
+) -> Verdict
+    requires { ⌜ inRange s ≡ true ⌝ }
+    requires { ⌜ tablesSound s (tablesOf (now words) (now values)) ≡ true ⌝ }
+    requires { ⌜ refusalOfStep s (tablesOf (now words) (now values)) r step ≡ 0 ⌝ }
+    ensures { λ v. ⌜ answered (v .change) (tablesOf (now (words .exit)) (now (values .exit))) (v .answer) ≡ performed s (tablesOf (now (words .entry)) (now (values .entry))) c r step ⌝ }
+    ensures { λ _. ⌜ recordsOf (now (words .exit)) (now (values .exit)) ≡ recordsOf (now (words .entry)) (now (values .entry)) ⌝ }
+{
+    if step.kind == 2 {
+        return read(s, &*words, c, step);
+    }
+    if known_kinds::uses_client(step) {
+        return step_verdict::changing(crate::client_step::of_client(s, words, values, c, r, step));
+    }
+    if step.kind == 5 {
+        return step_deliver::deliver(s, words, values, c, r, step.place as usize);
+    }
+    step_verdict::counting(crate::other_step::of_no_client(s, words, values, step))
+}

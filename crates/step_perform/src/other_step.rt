@@ -1,0 +1,46 @@
+// An accepted step that is no client's: 1, 4 and 8, the server's, and 6 and 7, the network's.
+ghost use mathlib.Core.Bool.{true, false};
+ghost use mathlib.Core.Path.{_≡_};
+ghost use Rattle.protocol.specs.declared.records.Copy.{Copy};
+ghost use Rattle.protocol.specs.declared.records.Request.{Request};
+ghost use Rattle.protocol.specs.Setup.{inRange};
+ghost use Rattle.protocol.specs.Sound.{tablesSound};
+ghost use Rattle.protocol.specs.Gate.{usesClient, refusalOfStep};
+ghost use Rattle.protocol.specs.Decide.{counting, performed};
+ghost use Rattle.state_words.specs.View.{tablesOf, recordsOf};
+use network_queue::doubling::double;
+use network_queue::removal::remove;
+use protocol::setup::Setup;
+use protocol::step::Step;
+use server_complete::settle;
+use state_words::Values;
+use state_words::Words;
+
+// Whatever the clients' records are. How many writes completed.
+pub fn of_no_client(s: Setup, words: &mut Words, values: &mut Values, step: Step) -> u32
+    requires { ⌜ inRange s ≡ true ⌝ }
+    requires { ⌜ tablesSound s (tablesOf (now words) (now values)) ≡ true ⌝ }
+    requires { ⌜ ((r : Request) → refusalOfStep s (tablesOf (now words) (now values)) r step ≡ 0) ⌝ }
+    requires { ⌜ usesClient step ≡ false ⌝ }
+    requires { ⌜ (step .kind ≡ 5 → ⊥) ⌝ }
+    ensures { λ n. ⌜ ((c : Copy) (r : Request) → counting (record { count = n; tables = tablesOf (now (words .exit)) (now (values .exit)) }) ≡ performed s (tablesOf (now (words .entry)) (now (values .entry))) c r step) ⌝ }
+    ensures { λ _. ⌜ recordsOf (now (words .exit)) (now (values .exit)) ≡ recordsOf (now (words .entry)) (now (values .entry)) ⌝ }
+{
+    let kind = step.kind;
+    match kind {
+        1 => settle::pass_time(s, words, values, step.clock),
+        4 => server_write::accept::accept_write(s, words, values, step.object as usize, step.value),
+        6 => {
+            remove(words, values, step.place as usize);
+            0
+        }
+        7 => {
+            double(words, values, step.place as usize);
+            0
+        }
+        _ => {
+            server_restart::restart(s, words, values);
+            0
+        }
+    }
+}

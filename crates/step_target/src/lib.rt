@@ -1,0 +1,70 @@
+// Whose records a step can touch.
+ghost use mathlib.Core.Path.{_≡_};
+ghost use Rattle.protocol.specs.Messages.{objectOf};
+ghost use Rattle.protocol.specs.World.{targetAt, target};
+ghost use Rattle.state_words.specs.View.{tablesOf};
+use network_queue::list;
+use protocol::message::Kind;
+use protocol::setup::Setup;
+use protocol::step::Step;
+use protocol::step::Target;
+use state_words::Values;
+use state_words::Words;
+
+// The object that a message is about; 0 stands for it where it is about a volume.
+fn object_of(k: Kind) -> u8
+    ensures { λ r. ⌜ r ≡ objectOf k ⌝ }
+{
+    match k {
+        Kind::Renew {
+            object,
+            number: _,
+            epoch: _,
+            version: _,
+        } => object,
+        Kind::Grant {
+            object,
+            number: _,
+            volume_expiry: _,
+            epoch: _,
+            version: _,
+            object_expiry: _,
+            payload: _,
+        } => object,
+        Kind::Invalidate {
+            object,
+            epoch: _,
+            version: _,
+        } => object,
+        Kind::Ack {
+            object,
+            epoch: _,
+            version: _,
+        } => object,
+        _ => 0,
+    }
+}
+
+// The records of a client, and its copy of an object.
+fn target_at(s: Setup, client: u8, object: u8) -> Target
+    ensures { λ r. ⌜ r ≡ targetAt s client object ⌝ }
+{
+    let first = client as usize * s.objects as usize;
+    Target {
+        client: client as usize,
+        copy: first + object as usize,
+        first: first,
+    }
+}
+
+// The records that the step names, or those of the message that it delivers; for any input.
+pub fn target<'a>(s: Setup, words: &'a Words, values: &'a Values, step: Step) -> Target
+    ensures { λ r. ⌜ r ≡ target s (tablesOf (now (words .entry)) (now (values .entry))) step ⌝ }
+{
+    if step.kind == 5 {
+        let m = list::message_at(words, values, step.place as usize);
+        let k = m.kind;
+        return target_at(s, m.client, object_of(k));
+    }
+    target_at(s, step.client, step.object)
+}

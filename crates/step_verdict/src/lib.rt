@@ -1,0 +1,41 @@
+// The verdict on a step: what becomes of the client's records, and the answer.
+ghost use mathlib.Core.Path.{_≡_};
+ghost use Rattle.protocol.specs.Answers.{completedAnswer};
+ghost use Rattle.protocol.specs.Decide.{kept};
+use protocol::step::Answer;
+use protocol::step::Change;
+
+pub struct Verdict {
+    pub change: Change,
+    pub answer: Answer,
+}
+
+// The client's records stay.
+pub fn keeping(answer: Answer) -> Verdict
+    ensures { λ v. ⌜ v ≡ record { change = kept; answer = answer } ⌝ }
+{
+    Verdict {
+        change: client_cache::copy::kept(),
+        answer,
+    }
+}
+
+// They stay, and so many writes completed.
+pub fn counting(n: u32) -> Verdict
+    ensures { λ v. ⌜ v ≡ record { change = kept; answer = completedAnswer n } ⌝ }
+{
+    if n == 0 {
+        return keeping(Answer::Done);
+    }
+    keeping(Answer::Completed(n))
+}
+
+// Done, and what becomes of them.
+pub fn changing(change: Change) -> Verdict
+    ensures { λ v. ⌜ v ≡ record { change = change; answer = Answer.Done } ⌝ }
+{
+    Verdict {
+        change,
+        answer: Answer::Done,
+    }
+}

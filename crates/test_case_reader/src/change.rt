@@ -1,0 +1,153 @@
+// One change, by the number of its field: 1 to 7 the setup, 10 to 31 the tables, 40 to 50 the message list, 60 to 63 copies, 70 to 74 requests.
+use crate::Case;
+use crate::text::byte;
+use crate::text::word;
+use protocol::setup::Setup;
+use state_words::VALUES;
+use state_words::Values;
+use state_words::WORDS;
+use state_words::Words;
+use state_words::client;
+use state_words::network;
+use state_words::server;
+
+// A setup of zeros.
+pub fn none() -> Case {
+    let volume = [0u8; 32];
+    let setup = Setup {
+        clients: 0,
+        volumes: 0,
+        objects: 0,
+        tv: 0,
+        t: 0,
+        m: 0,
+        volume,
+    };
+    Case {
+        setup,
+        copies: 0,
+        requests: 0,
+    }
+}
+
+fn with(setup: Setup, field: u64, place: usize, number: u64) -> Setup {
+    let mut setup = setup;
+    match field {
+        1 => setup.clients = word(number),
+        2 => setup.volumes = word(number),
+        3 => setup.objects = word(number),
+        4 => setup.tv = word(number),
+        5 => setup.t = word(number),
+        6 => setup.m = word(number),
+        _ => setup.volume[place % 32] = byte(number),
+    }
+    setup
+}
+
+// From here on as many records are lent as the setup has, so that a case about the setup is not one about their number.
+fn lending(setup: Setup) -> Case {
+    let clients = setup.clients as usize;
+    let objects = setup.objects as usize;
+    Case {
+        setup,
+        copies: clients * objects,
+        requests: clients,
+    }
+}
+
+// Where a field stands in the words; past their end where it does not.
+fn in_words(field: u64) -> usize {
+    match field {
+        10 => network::CLOCK,
+        11 => server::VOLUME_EPOCH,
+        12 => server::VOLUME_EXPIRY,
+        13 => server::GUARD,
+        14 => server::SEEN,
+        15 => server::SESSION_EXPIRY,
+        16 => server::UNREACHABLE,
+        17 => server::OFFER,
+        21 => server::VERSION,
+        22 => server::OBJECT_EXPIRY,
+        23 => server::STANDING,
+        25 => server::END,
+        26 => server::LEASE,
+        27 => server::WAITING,
+        30 => client::VIEW_EPOCH,
+        31 => client::VIEW_EXPIRY,
+        40 => network::LENGTH,
+        60 => client::COPY_VERSION,
+        62 => client::COPY_EXPIRY,
+        70 => client::REQUEST_NEXT,
+        71 => client::REQUEST_STANDING,
+        72 => client::REQUEST_NUMBER,
+        73 => client::REQUEST_OBJECT,
+        _ => WORDS,
+    }
+}
+
+// The same of the values.
+fn in_values(field: u64) -> usize {
+    match field {
+        20 => server::VALUE,
+        24 => server::PENDING,
+        50 => network::MESSAGE_VALUE,
+        61 => client::COPY_VALUE,
+        _ => VALUES,
+    }
+}
+
+// Nothing is stored past the end.
+fn put(words: &mut Words, from: usize, place: usize, number: u64) {
+    if from < WORDS {
+        if place < WORDS - from {
+            words[from + place] = word(number);
+        }
+    }
+}
+
+fn put_value(values: &mut Values, from: usize, place: usize, number: u64) {
+    if from < VALUES {
+        if place < VALUES - from {
+            values[from + place] = number;
+        }
+    }
+}
+
+// A message's words, in the frame's order.
+fn put_message(words: &mut Words, field: u64, place: usize, number: u64) {
+    if place < 64 {
+        if 41 <= field {
+            let offset = (field - 41) as usize;
+            if offset < 9 {
+                put(words, network::MESSAGES, place * 9 + offset, number);
+            }
+        }
+    }
+}
+
+pub fn change(
+    case: Case,
+    words: &mut Words,
+    values: &mut Values,
+    field: u64,
+    place: usize,
+    number: u64,
+) -> Case {
+    let mut case = case;
+    if field < 10 {
+        let setup = case.setup;
+        return lending(with(setup, field, place, number));
+    }
+    if field == 63 {
+        case.copies = number as usize;
+        return case;
+    }
+    if field == 74 {
+        case.requests = number as usize;
+        return case;
+    }
+    put(&mut *words, in_words(field), place, number);
+    put_value(&mut *values, in_values(field), place, number);
+    put_message(&mut *words, field, place, number);
+    case
+}

@@ -1,0 +1,73 @@
+ghost use mathlib.Core.Path.{_≡_};
+ghost use Rattle.file_shape.specs.Places.{trailerPlace};
+use protocol::setup::Setup;
+use test_printing::bytes;
+use test_printing::last;
+use test_printing::number;
+use test_printing::step;
+
+fn setup(s: Setup) {
+    number(s.clients as u64);
+    number(s.volumes as u64);
+    number(s.objects as u64);
+    number(s.tv as u64);
+    number(s.t as u64);
+    number(s.m as u64);
+    number(s.volume[0] as u64);
+    number(s.volume[31] as u64);
+}
+
+// The bytes from one place up to another.
+pub fn cut(f: &[u8], from: usize, to: usize) -> &[u8] {
+    if from <= to {
+        if to <= f.len() {
+            return &f[from..to];
+        }
+    }
+    &f[..0]
+}
+
+// The note's length, and its bytes in brackets.
+fn note(s: &[u8]) {
+    number(s.len() as u64);
+    io::write_all(1, b"[");
+    bytes(s);
+    io::write_all(1, b"] ");
+}
+
+// The refusal, the note, and what else was read.
+pub fn file(f: &[u8]) {
+    let r = file_reader::read(f);
+    number(r.refusal as u64);
+    note(file_reader::note(f));
+    let s = r.setup;
+    setup(s);
+    number(r.count as u64);
+    last(r.first as u64);
+}
+
+// What is read at the trailer's place, where no record fits.
+fn after_last(f: &[u8], place: usize)
+    requires { ⌜ place ≡ trailerPlace (now f) ⌝ }
+{
+    step(file_reader::step_at(f, place));
+}
+
+// The first and the last step of a file, found by going through all records, and what is read after them, where the trailer begins.
+pub fn steps(f: &[u8]) {
+    let r = file_reader::read(f);
+    if r.refusal == 0 {
+        let count = r.count;
+        let mut place = r.first;
+        let mut k = 0;
+        while k < count {
+            let x = file_reader::step_at(f, place);
+            place += 16;
+            k += 1;
+            if (k == 1) | (k == count) {
+                step(x);
+            }
+        }
+        after_last(f, place);
+    }
+}

@@ -1,0 +1,141 @@
+// Steps on tables that no run reaches: unsound ones, and ones at or past a limit. The cases stand in the file `stdin`, as numbers among words; the model
+// reads the same file, and what it prints of its answers and its tables is the file `stdout`.
+use state_words::Values;
+use state_words::Words;
+use test_case_reader::Case;
+use test_case_reader::text::Found;
+
+// So many changes, each of three numbers: field, place, value.
+fn changed(
+    bytes: &[u8],
+    from: usize,
+    count: u64,
+    case: Case,
+    words: &mut Words,
+    values: &mut Values,
+) -> Case {
+    let mut case = case;
+    let mut at = from;
+    let mut i = 0;
+    while i < count {
+        let field = test_case_reader::text::number(bytes, at);
+        let place = test_case_reader::text::number(bytes, field.next);
+        let number = test_case_reader::text::number(bytes, place.next);
+        case = test_case_reader::change::change(
+            case,
+            &mut *words,
+            &mut *values,
+            field.value,
+            place.value as usize,
+            number.value,
+        );
+        at = number.next;
+        i += 1;
+    }
+    case
+}
+
+// So many steps, each on what the last one left. For each a line, and what it left.
+fn taken(
+    bytes: &[u8],
+    from: usize,
+    count: u64,
+    id: u64,
+    case: Case,
+    words: &mut Words,
+    values: &mut Values,
+) {
+    let mut at = from;
+    let mut i = 0;
+    while i < count {
+        let words_before = *words;
+        let values_before = *values;
+        let answer = test_step_lending::take(
+            case,
+            &mut *words,
+            &mut *values,
+            test_case_reader::text::step(bytes, at),
+        );
+        test_step_printing::answer::show(id, answer);
+        test_step_printing::show(&words_before, &values_before, &*words, &*values);
+        at = test_case_reader::text::after(bytes, at, 6);
+        i += 1;
+    }
+}
+
+// One case, whose number was read: how many changes and which, how many steps and which. Gives the place after it.
+fn case(bytes: &[u8], id: Found, base: Case, words: &Words, values: &Values) -> usize {
+    let changes = test_case_reader::text::number(bytes, id.next);
+    let steps_at = test_case_reader::text::after(
+        bytes,
+        changes.next,
+        test_case_reader::text::threefold(changes.value),
+    );
+    let steps = test_case_reader::text::number(bytes, steps_at);
+    let mut words = *words;
+    let mut values = *values;
+    let case = changed(
+        bytes,
+        changes.next,
+        changes.value,
+        base,
+        &mut words,
+        &mut values,
+    );
+    taken(
+        bytes,
+        steps.next,
+        steps.value,
+        id.value,
+        case,
+        &mut words,
+        &mut values,
+    );
+    let half = test_case_reader::text::threefold(steps.value);
+    test_case_reader::text::after(
+        bytes,
+        test_case_reader::text::after(bytes, steps.next, half),
+        half,
+    )
+}
+
+fn cases(bytes: &[u8], from: usize, base: Case, words: &Words, values: &Values) {
+    let mut at = from;
+    let mut i = 0u64;
+    while i < 1000 {
+        let id = test_case_reader::text::number(bytes, at);
+        if id.value == 0 {
+            return;
+        }
+        at = case(bytes, id, base, words, values);
+        i += 1;
+    }
+}
+
+// The base's changes stand first.
+fn run(bytes: &[u8]) {
+    let changes = test_case_reader::text::number(bytes, 0);
+    let mut words = [0u32; 3498];
+    let mut values = [0u64; 640];
+    state_words::fresh::fresh(&mut words, &mut values);
+    let base = changed(
+        bytes,
+        changes.next,
+        changes.value,
+        test_case_reader::change::none(),
+        &mut words,
+        &mut values,
+    );
+    let from = test_case_reader::text::after(
+        bytes,
+        changes.next,
+        test_case_reader::text::threefold(changes.value),
+    );
+    cases(bytes, from, base, &words, &values);
+}
+
+fn main() {
+    let mut file = io::large_buffer();
+    let length = io::read_full(0, &mut file);
+    run(&file[..length]);
+}

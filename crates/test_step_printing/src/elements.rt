@@ -1,0 +1,67 @@
+// A field before and after a step: a line `name place: number` for each element that is another one. A place per client and volume, or per client and
+// object, is two numbers.
+ghost use Prim.Native.Nat.{_+_, _≤_};
+ghost use Rattle.state_words.specs.Fields.{WORDS, VALUES};
+use crate::lines::end;
+use crate::lines::number;
+use crate::lines::spaced;
+use crate::lines::text;
+use state_words::Values;
+use state_words::Words;
+
+// How many elements of a field are one client's.
+pub enum Row {
+    One,
+    Volumes,
+    Objects,
+}
+
+fn place(row: Row, i: usize) {
+    match row {
+        Row::One => spaced(i as u64),
+        Row::Volumes => {
+            spaced((i / 8) as u64);
+            spaced((i % 8) as u64);
+        }
+        Row::Objects => {
+            spaced((i / 32) as u64);
+            spaced((i % 32) as u64);
+        }
+    }
+}
+
+fn element(name: &[u8], row: Row, i: usize, before: u64, after: u64) {
+    if before != after {
+        text(b"  ");
+        text(name);
+        place(row, i);
+        number(b": ", after);
+        end();
+    }
+}
+
+fn word(name: &[u8], row: Row, i: usize, before: u32, after: u32) {
+    element(name, row, i, before as u64, after as u64);
+}
+
+// `count` words from `from` on.
+pub fn words(name: &[u8], row: Row, from: usize, count: usize, before: &Words, after: &Words)
+    requires { ⌜ from + count ≤ WORDS ⌝ }
+{
+    let mut i = 0;
+    while i < count {
+        word(name, row, i, before[from + i], after[from + i]);
+        i += 1;
+    }
+}
+
+// The 32 values from `from` on, one an object.
+pub fn values(name: &[u8], from: usize, before: &Values, after: &Values)
+    requires { ⌜ from + 32 ≤ VALUES ⌝ }
+{
+    let mut i = 0;
+    while i < 32 {
+        element(name, Row::One, i, before[from + i], after[from + i]);
+        i += 1;
+    }
+}

@@ -1,0 +1,100 @@
+// The clients' records, those that are not lent too, and the messages: a line for each that is another one than before.
+use crate::lines::end;
+use crate::lines::fields;
+use crate::lines::number;
+use crate::lines::text;
+use protocol::message::Message;
+use protocol::records::Copy;
+use protocol::records::Request;
+use state_words::Values;
+use state_words::Words;
+
+fn message(i: usize, before: Message, after: Message) {
+    let fields_before = message_fields::fields_of(before);
+    let fields_after = message_fields::fields_of(after);
+    if message_fields::same(fields_before, fields_after) {
+        return;
+    }
+    number(b"  message ", i as u64);
+    text(b":");
+    fields(fields_after);
+}
+
+pub fn messages(before: &Words, values_before: &Values, after: &Words, values_after: &Values) {
+    let mut i = 0;
+    while i < 64 {
+        let message_before = network_queue::list::message_at(before, values_before, i);
+        let message_after = network_queue::list::message_at(after, values_after, i);
+        message(i, message_before, message_after);
+        i += 1;
+    }
+}
+
+fn same_copy(before: Copy, after: Copy) -> bool {
+    (before.version == after.version)
+        & (before.value == after.value)
+        & (before.expiry == after.expiry)
+}
+
+fn copy(i: usize, before: Copy, after: Copy) {
+    if same_copy(before, after) {
+        return;
+    }
+    number(b"  copy ", i as u64);
+    number(b": version ", after.version as u64);
+    number(b", value ", after.value);
+    number(b", expiry ", after.expiry as u64);
+    end();
+}
+
+pub fn copies<'a, 'b>(
+    before: &'a Words,
+    values_before: &'a Values,
+    after: &'b Words,
+    values_after: &'b Values,
+) {
+    let mut i = 0;
+    while i < 512 {
+        let copy_before = client_records::copies::copy_at(before, values_before, i);
+        let copy_after = client_records::copies::copy_at(after, values_after, i);
+        copy(i, copy_before, copy_after);
+        i += 1;
+    }
+}
+
+fn same_request(before: Request, after: Request) -> bool {
+    (before.next == after.next)
+        & (before.standing == after.standing)
+        & (before.number == after.number)
+        & (before.object == after.object)
+}
+
+fn stands(standing: bool) {
+    if standing {
+        text(b", standing");
+    } else {
+        text(b", none standing");
+    }
+}
+
+fn request(i: usize, before: Request, after: Request) {
+    if same_request(before, after) {
+        return;
+    }
+    number(b"  request ", i as u64);
+    number(b": next ", after.next as u64);
+    stands(after.standing);
+    number(b", number ", after.number as u64);
+    number(b", object ", after.object as u64);
+    end();
+}
+
+pub fn requests(before: &Words, after: &Words) {
+    let mut i = 0;
+    while i < 16 {
+        let request_before = client_records::requests::request_at(before, i);
+        let request_after = client_records::requests::request_at(after, i);
+        request(i, request_before, request_after);
+        i += 1;
+    }
+}

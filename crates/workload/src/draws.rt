@@ -1,0 +1,116 @@
+// 02, A5: the generator of a workload. A seed draws numbers, and five of them make a step.
+ghost use Prim.Native.Nat.{_*_, _%_, _≤_};
+ghost use mathlib.Core.Bool.{true, cond};
+ghost use mathlib.Core.Path.{_≡_};
+ghost use Rattle.protocol.specs.Setup.{inRange};
+ghost use Rattle.workload.specs.Draws.{next, onlyUsed, totalAfter, drawnAfter};
+use protocol::setup::Setup;
+use protocol::step::Step;
+
+// The product modulo 2 to the 32nd.
+fn product(seed: u32) -> u32
+    ensures { λ r. ⌜ r ≡ (1664525 * seed) % 4294967296 ⌝ }
+{
+    (1664525 * (seed as u64) % 4294967296) as u32
+}
+
+// The next number after a seed. The addition wraps on purpose: the number is kept modulo 2 to the 32nd.
+pub fn next(seed: u32) -> u32
+    ensures { λ r. ⌜ r ≡ next seed ⌝ }
+{
+    std::num::wrapping_add_u32(product(seed), 1013904223)
+}
+
+fn byte_if(used: bool, byte: u8) -> u8
+    ensures { λ r. ⌜ r ≡ cond used byte 0 ⌝ }
+{
+    if used {
+        return byte;
+    }
+    0
+}
+
+fn clock_if(used: bool, clock: u32) -> u32
+    ensures { λ r. ⌜ r ≡ cond used clock 0 ⌝ }
+{
+    if used {
+        return clock;
+    }
+    0
+}
+
+fn value_if(used: bool, value: u64) -> u64
+    ensures { λ r. ⌜ r ≡ cond used value 0 ⌝ }
+{
+    if used {
+        return value;
+    }
+    0
+}
+
+// A step with the fields that its kind does not use left at 0.
+fn only_used(step: Step) -> Step
+    ensures { λ r. ⌜ r ≡ onlyUsed step ⌝ }
+{
+    Step {
+        kind: step.kind,
+        client: byte_if(known_kinds::uses_client(step), step.client),
+        object: byte_if(known_kinds::uses_object(step), step.object),
+        place: byte_if(known_kinds::uses_place(step), step.place),
+        clock: clock_if(known_kinds::uses_clock(step), step.clock),
+        value: value_if(known_kinds::uses_value(step), step.value),
+    }
+}
+
+fn total_after(step: Step, total: u32) -> u32
+    ensures { λ r. ⌜ r ≡ totalAfter step total ⌝ }
+{
+    if known_kinds::uses_clock(step) {
+        return step.clock;
+    }
+    total
+}
+
+// A draw's remainder by a count of clients, objects or places.
+fn remainder(draw: u32, count: u32) -> u8
+    requires { ⌜ 1 ≤ count ⌝ }
+    requires { ⌜ count ≤ 64 ⌝ }
+    ensures { λ r. ⌜ r ≡ draw % count ⌝ }
+{
+    (draw % count) as u8
+}
+
+// A step, the last of its draws, and the total of the clock steps up to it.
+pub struct Drawn {
+    pub step: Step,
+    pub seed: u32,
+    pub total: u32,
+}
+
+// The next step after a seed, for a setup in range. A total of 4,000 steps is at most 16,000.
+pub fn draw_step(seed: u32, setup: Setup, total: u32) -> Drawn
+    requires { ⌜ inRange setup ≡ true ⌝ }
+    requires { ⌜ total ≤ 16000 ⌝ }
+    ensures { λ r. ⌜ r ≡ drawnAfter setup seed total ⌝ }
+{
+    let first = next(seed);
+    let second = next(first);
+    let third = next(second);
+    let fourth = next(third);
+    let fifth = next(fourth);
+    let amount = fifth % 5;
+    let sum = total + amount;
+    let step = only_used(Step {
+        kind: (1 + first % 9) as u8,
+        client: remainder(second, setup.clients),
+        object: remainder(third, setup.objects),
+        place: remainder(fourth, 64),
+        clock: sum,
+        value: amount as u64,
+    });
+    Drawn {
+        step,
+        seed: fifth,
+        total: total_after(step, total),
+    }
+}
