@@ -1,4 +1,4 @@
--- The message in a row and the message at a place, by each way through the function. Of the words w, place 1 has the length of the list.
+-- The message in a row and the message at a place, one law for each branch of the code. Word 1 of w is the length of the list.
 use Prim.Native.Nat.{ℕ, _<_, _≤_}
 use native.Mathlib.Omega.{arith}
 use mathlib.Core.Bool.{Bool, true, false, _&&_}

@@ -1,4 +1,4 @@
--- What a message taken out leaves of the tables, and that it leaves the records. Of the words w, place 1 has the length of the list.
+-- Removing a message: the tables that result, and that no record changes. Word 1 of w is the length of the list.
 use Prim.Native.Nat.{ℕ, _+_, _*_, _-_, _<_, _≤_}
 use native.Mathlib.Omega.{arith}
 use mathlib.Core.List.{List}

@@ -1,4 +1,4 @@
--- A row taken out of the list.
+-- Removing a row from the list.
 use Prim.Native.Nat.{ℕ, _+_, _*_, _-_, _<_, _≤_}
 use native.Mathlib.Omega.{arith}
 use mathlib.Core.Bool.{true, false}
@@ -17,7 +17,7 @@ use Rattle.protocol.specs.Messages.{blank}
 use Rattle.state_words.specs.Rows.{messageFrom}
 use Rattle.network_rows.proofs.Places.{message-same, at-in, at-past}
 
--- a row taken out of the first n
+-- removing row i of the first n
 module _ (n : ℕ) (l v : List ℕ) (i : ℕ) (h : i < n) (g : n ≤ 64) (a : length l ≡ 576) (b : length v ≡ 64) where
   abbrev rows-left : List ℕ
   rows-left = shifted (i * 9) ((n - (i + 1)) * 9) 9 l

@@ -1,4 +1,4 @@
-// A message doubled, in place.
+// Doubling a message of the list, in place (01, "Steps" 7).
 ghost use mathlib.Core.Path.{_≡_};
 ghost use Rattle.protocol.specs.Messages.{doubled};
 ghost use Rattle.protocol.specs.Tables.{withQueue};
@@ -9,7 +9,7 @@ use network_send::push;
 use state_words::Values;
 use state_words::Words;
 
-// "send a copy, to the end"
+// Appends a copy of the message at a live place: "send a copy, to the end". A full list stays as it is.
 pub fn double(words: &mut Words, values: &mut Values, place: usize)
     requires { ⌜ Live (now words) (now values) place ⌝ }
     ensures { λ _. ⌜ tablesOf (now (words .exit)) (now (values .exit)) ≡ withQueue (tablesOf (now (words .entry)) (now (values .entry))) (doubled (tablesOf (now (words .entry)) (now (values .entry)) .queue) place) ⌝ }

@@ -1,4 +1,4 @@
-// The message list in the words and values (01, "Tables"): the message at a place, one taken out, one doubled.
+// The message list in the words and values (01, "Tables"): reading the message at a place, removing one, doubling one.
 pub mod doubling;
 pub mod list;
 pub mod removal;

@@ -13,6 +13,7 @@ use state_words::Values;
 use state_words::Words;
 use state_words::network;
 
+// Returns a RENEW of the client with all other fields 0.
 fn empty_renewal(client: u8) -> Message
     ensures { λ r. ⌜ r ≡ message client (Renew 0 0 0 0) ⌝ }
 {
@@ -27,21 +28,21 @@ fn empty_renewal(client: u8) -> Message
     }
 }
 
-// What an unused place holds.
+// Returns the message that an unused place reads as.
 fn blank() -> Message
     ensures { λ r. ⌜ r ≡ blank ⌝ }
 {
     empty_renewal(0)
 }
 
-// What a row that is no message reads as: no setup has this client.
+// Returns what a malformed row reads as. No setup has client 255, so question 1 refuses the tables.
 fn stray() -> Message
     ensures { λ r. ⌜ r ≡ stray ⌝ }
 {
     empty_renewal(255)
 }
 
-// The message in a row.
+// Returns the message in a row, or `stray` if the row does not encode one.
 fn message_of(words: &Words, values: &Values, place: usize) -> Message
     requires { ⌜ place < 64 ⌝ }
     ensures { λ r. ⌜ r ≡ messageOf (parts wordLengths (now (words .entry)) MESSAGES) (parts valueLengths (now (values .entry)) MESSAGE-VALUE) place ⌝ }
@@ -53,7 +54,7 @@ fn message_of(words: &Words, values: &Values, place: usize) -> Message
     stray()
 }
 
-// The message at a place; past the last there is a blank one.
+// Returns the message at a place; past the end of the list, a blank one.
 pub fn message_at(words: &Words, values: &Values, place: usize) -> Message
     ensures { λ r. ⌜ r ≡ messageAt (tablesOf (now (words .entry)) (now (values .entry)) .queue) place ⌝ }
 {
@@ -66,7 +67,7 @@ pub fn message_at(words: &Words, values: &Values, place: usize) -> Message
     message_of(words, values, place)
 }
 
-// The message at a live place of sound tables: question 1 found that its row is one, so that is not asked again.
+// Returns the message at a live place. Question 1 has already found its row well-formed, so the row is not checked again.
 pub fn live_message(words: &Words, values: &Values, place: usize) -> Message
     requires { ⌜ Live (now words) (now values) place ⌝ }
     ensures { λ r. ⌜ r ≡ messageAt (tablesOf (now (words .entry)) (now (values .entry)) .queue) place ⌝ }

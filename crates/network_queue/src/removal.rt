@@ -1,4 +1,4 @@
-// A message taken out of the message list, in place.
+// Removing a message from the list, in place.
 ghost use mathlib.Core.Path.{_≡_};
 ghost use Prim.Native.Nat.{_<_, _≤_};
 ghost use Rattle.protocol.specs.Decide.{taken};
@@ -8,7 +8,7 @@ use state_words::Words;
 use state_words::network;
 use state_words::pass;
 
-// "A removal closes the gap." The place that it frees is past the last, and so blank.
+// Removes the message at a place: "A removal closes the gap." The row left over past the new end reads as blank, so it need not be cleared.
 pub fn remove(words: &mut Words, values: &mut Values, place: usize)
     requires { ⌜ place < tablesOf (now words) (now values) .queue .len ⌝ }
     requires { ⌜ tablesOf (now words) (now values) .queue .len ≤ 64 ⌝ }

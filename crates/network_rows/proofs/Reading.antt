@@ -1,4 +1,4 @@
--- The words of a row, read.
+-- Reading the words of a row.
 use Prim.Native.Nat.{ℕ, _+_, _*_, _%_, _<_}
 use native.Mathlib.Omega.{arith}
 use mathlib.Core.Bool.{_&&_}

@@ -1,3 +1,3 @@
-// The rows of the message list: one row of nine words, and rows moved down over a gap.
+// The rows of the message list: reading and storing a row of nine words, and moving rows down to close a gap.
 pub mod row;
 pub mod shift;

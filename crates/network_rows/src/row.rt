@@ -1,4 +1,4 @@
-// One row of the message list: the fields of a message as nine words.
+// One row of the message list: the fields of a message as nine words. Its value is kept apart, in the values.
 ghost use mathlib.Core.Path.{_≡_};
 ghost use Prim.Native.Nat.{ℕ, _+_, _*_, _%_, _<_};
 ghost use lib.ListN.{getD};
@@ -13,12 +13,14 @@ use state_words::network;
 
 pub type Row = [u32; 9];
 
+// Returns the lowest byte of a word.
 fn low(n: u32) -> u8
     ensures { λ r. ⌜ r ≡ n % 256 ⌝ }
 {
     (n % 256) as u8
 }
 
+// Returns the row of a message with these fields. The contract adds that the first four are bytes, so that they read back the same.
 pub fn words_of(fields: Fields) -> Row
     ensures { λ r. ⌜ (r ≡ wordsOf fields) × Narrow fields ⌝ }
 {
@@ -35,6 +37,7 @@ pub fn words_of(fields: Fields) -> Row
     ]
 }
 
+// Stores the nine words of a row; the caller stores the value and the length.
 pub fn store(words: &mut Words, place: usize, row: Row)
     requires { ⌜ place < 64 ⌝ }
     ensures { λ _. ⌜ now (words .exit) ≡ storeEach always (λ (k : ℕ). at MESSAGES + (place * 9 + k)) (λ (k : ℕ). getD row k 0) (now (words .entry)) 9 ⌝ }
@@ -46,6 +49,7 @@ pub fn store(words: &mut Words, place: usize, row: Row)
     }
 }
 
+// Returns word k of the row at a place.
 fn word(words: &Words, place: usize, k: usize) -> u32
     requires { ⌜ place < 64 ⌝ }
     requires { ⌜ k < 9 ⌝ }
@@ -54,7 +58,7 @@ fn word(words: &Words, place: usize, k: usize) -> u32
     words[network::MESSAGES + (place * 9 + k)]
 }
 
-// Whether the first four words of a row are bytes.
+// Returns whether the first four words of a row (kind, client, object, value flag) fit in a byte.
 pub fn narrow(words: &Words, place: usize) -> bool
     requires { ⌜ place < 64 ⌝ }
     ensures { λ r. ⌜ r ≡ narrowAt (parts wordLengths (now (words .entry)) MESSAGES) place ⌝ }
@@ -63,7 +67,7 @@ pub fn narrow(words: &Words, place: usize) -> bool
     head & (word(words, place, 2) < 256) & (word(words, place, 3) < 256)
 }
 
-// The fields in a row: of the first four words the lowest byte.
+// Returns the fields in a row, value included. Only the lowest byte of the first four words is read.
 pub fn load(words: &Words, values: &Values, place: usize) -> Fields
     requires { ⌜ place < 64 ⌝ }
     ensures { λ r. ⌜ r ≡ fieldsAt (parts wordLengths (now (words .entry)) MESSAGES) (parts valueLengths (now (values .entry)) MESSAGE-VALUE) place ⌝ }

@@ -1,4 +1,4 @@
--- A row stored at the end of the list.
+-- Storing a row at the end of the list.
 use Prim.Native.Nat.{ℕ, _+_, _*_, _%_, _<_}
 use native.Mathlib.Omega.{arith}
 use mathlib.Core.Bool.{true, false}
@@ -19,7 +19,7 @@ use Rattle.message_fields.specs.Round.{message-back, message-sound}
 use Rattle.state_words.specs.Rows.{wordsOf, Narrow, fieldsAt, narrowAt, messageOf, messageFrom}
 use Rattle.network_rows.proofs.Places.{message-same, at-in, at-past}
 
--- a row that holds these fields
+-- a row with the words of f reads as the fields f
 row-is : (a v : List ℕ) (i : ℕ) (f : Fields) → Narrow f → ((k : ℕ) → k < 9 → getD a (i * 9 + k) 0 ≡ getD (wordsOf f) k 0) → getD v i 0 ≡ f .value → fieldsAt a v i ≡ f
 unfolding fieldsAt
 row-is a v i f n h e =
@@ -28,14 +28,14 @@ row-is a v i f n h e =
     byte : (x : ℕ) → x < 256 → x % 256 ≡ x
     byte x h = omega arith
 
--- .. is the message that has them
+-- .. and so as the message with these fields
 message-is : (a v : List ℕ) (i : ℕ) (m : Message) (f : Fields) → f ≡ fieldsOf m → Narrow f
     → ((k : ℕ) → k < 9 → getD a (i * 9 + k) 0 ≡ getD (wordsOf f) k 0) → getD v i 0 ≡ f .value → messageOf a v i ≡ m
 unfolding messageOf narrowAt
 message-is a v i m f e n h g =
     rw (row-is a v i f n h g, h 0 (omega arith), h 1 (omega arith), h 2 (omega arith), h 3 (omega arith), lt-ltb (f .kind) 256 (n .0), lt-ltb (f .client) 256 (n .1), lt-ltb (f .object) 256 (n .2), lt-ltb (f .present) 256 (n .3), e, message-sound m, message-back m)
 
--- a row stored at the end
+-- storing the row of message m at place i
 module _ (l v : List ℕ) (i : ℕ) (m : Message) (f : Fields) (h : i < 64) (a : length l ≡ 576) (b : length v ≡ 64) (n : Narrow f) (e : f ≡ fieldsOf m) where
   abbrev with-row : List ℕ
   with-row = storeEach always (λ (k : ℕ). i * 9 + k) (λ (k : ℕ). getD (wordsOf f) k 0) l 9
