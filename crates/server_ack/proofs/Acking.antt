@@ -1,4 +1,4 @@
--- What an ACK comes to.
+-- The result of receiving an ACK.
 use Prim.Native.Nat.{ℕ, _+_, _<_}
 use native.Mathlib.Omega.{arith}
 use mathlib.Core.Bool.{Bool, true, false, _&&_}
@@ -36,7 +36,7 @@ module _ (s : Setup) (w : List ℕ) (o e z : ℕ) where
   unfolding ackTaken tablesOf
   ack-rests l h = rw (flag-no wordLengths w STANDING o l h)
 
--- the version of a standing write's object can grow
+-- an object with a standing write has a version that can grow
 pub standing-version : (s : Setup) (w : List ℕ) (o : ℕ) → Growing s (numbersOf w .objects) → o < s .objects → o < 32 → (getD w (at STANDING + o) 0 ≡ 0 → ⊥) → versionAt (numbersOf w) o < 4294967295
 unfolding tablesOf
 standing-version s w o g l k h = g .below o l (flag-yes wordLengths w STANDING o k h)

@@ -13,7 +13,7 @@ use state_words::Values;
 use state_words::Words;
 use state_words::server;
 
-// "needs a standing write, its epoch and its new version"
+// Returns whether the ACK counts: it "needs a standing write, its epoch and its new version".
 fn ack_taken(s: Setup, words: &Words, object: usize, epoch: u32, version: u32) -> bool
     requires { ⌜ inRange s ≡ true ⌝ }
     requires { ⌜ Growing s (numbersOf (now words) .objects) ⌝ }
@@ -28,7 +28,8 @@ fn ack_taken(s: Setup, words: &Words, object: usize, epoch: u32, version: u32) -
     false
 }
 
-// ACK of a client for an object, with its epoch and new version: "Clear that dash's object lease and its waiting; complete if none waits and the clock is at or past guard." How many writes completed.
+// Receives a client's ACK for an object: "Clear that dash's object lease and its waiting; complete if none waits and the clock is at or past guard."
+// An ACK that does not count changes nothing. Returns the number of writes completed.
 pub fn receive_ack(
     s: Setup,
     words: &mut Words,

@@ -1,4 +1,4 @@
--- A write completed: the object's own fields, and the passes over the clients.
+-- Completing a write: the object's own fields, and the loops over the clients.
 use Prim.Native.Nat.{ℕ, _+_, _<_}
 use native.Mathlib.Omega.{arith}
 use mathlib.Core.Bool.{Bool, true, false}
@@ -19,7 +19,7 @@ use Rattle.state_words.specs.View.{tablesOf, numbersOf, recordsOf}
 use Rattle.server_due.specs.Triggers.{oneStaged}
 use Rattle.server_waiting.specs.Waiting.{waitingFor, waitingIn}
 
--- the test reads no value
+-- the test does not depend on the values
 ready-same : (s : Setup) (w : List ℕ) (o : ℕ) (x : List ℕ) → ready s (numbersOf w) o ≡ ready s (tablesOf w x) o
 unfolding ready waited guardPassed tablesOf
 ready-same s w o x = refl
@@ -44,7 +44,7 @@ module _ (w x : List ℕ) (o : ℕ) (h : o < 32) where
   pub posts : (tablesOf words-posted values-posted ≡ withObjects (tablesOf w x) (posted (tablesOf w x) o)) × (recordsOf words-posted values-posted ≡ recordsOf w x)
   posts = (tables-posted, records-posted)
 
--- w becomes a, b and c in the passes
+-- the three loops turn the words w into a, then b, then c
 module _ (s : Setup) (w a b c x : List ℕ) (o v n : ℕ) (p : Placed s o v) (i : n ≡ s .clients)
     (e : a ≡ storeEach (waitingFor (waitingIn w) o) (λ (d : ℕ). at UNREACHABLE + byVolume d v) (λ (d : ℕ). 1) w n)
     (f : b ≡ storeEach always (λ (d : ℕ). at LEASE + byObject d o) (λ (d : ℕ). 0) a n)
@@ -67,7 +67,7 @@ module _ (s : Setup) (w a b c x : List ℕ) (o v n : ℕ) (p : Placed s o v) (i 
       let k : (d : ℕ) → d < n → byObject d o < 512 = (λ d k. omega arith) in
       rw (g, stored-each wordLengths WAITING always (λ (d : ℕ). byObject d o) (λ (d : ℕ). 0) n k b, f, stored-each wordLengths LEASE always (λ (d : ℕ). byObject d o) (λ (d : ℕ). 0) n k a, e, stored-each wordLengths UNREACHABLE (waitingFor (waitingIn w) o) (λ (d : ℕ). byVolume d v) (λ (d : ℕ). 1) n j w)
 
-  -- the version is still the one that was
+  -- the loops do not change the version
   pub released-version : versionAt (tablesOf c x) o ≡ versionAt (tablesOf w x) o
   unfolding tablesOf
   released-version = ap (λ (f : ℕ → List ℕ). getD (f VERSION) o 0) fields-released

@@ -1,4 +1,4 @@
--- Writes completed in object order, and a clock step.
+-- Completing writes in object order, and the clock step.
 use Prim.Native.Nat.{ℕ, _+_, _-_, _<_, _≤_}
 use native.Mathlib.Omega.{arith}
 use mathlib.Core.Bool.{true, false}
@@ -23,7 +23,7 @@ use Rattle.server_due.specs.declared.Trigger.{Trigger}
 use Rattle.server_due.specs.declared.Trigger.the-variants.{Clock, Volume}
 use Rattle.server_due.specs.Triggers.{triggered, triggerStaged}
 
--- the tests read no value
+-- the tests do not depend on the values
 triggered-same : (s : Setup) (p : Trigger) (w x : List ℕ) → triggered s p (numbersOf w) ≡ triggered s p (tablesOf w x)
 unfolding triggered due ready waited guardPassed tablesOf
 triggered-same s Clock w x = fun-ext (λ o. refl)
@@ -38,7 +38,7 @@ module _ (s : Setup) (p : Trigger) where
   idle : (c : Counted) (j : ℕ) → triggered s p (c .tables) j ≡ false → completeIf (triggered s p) s c j ≡ c
   idle c j h = rw h
 
-  -- o is the next object that is completed, as the words tell
+  -- o is the next object whose write completes, as found in the words
   module _ (w x : List ℕ) (from o : ℕ) (l : from ≤ s .objects) (f : Found (triggered s p (numbersOf w)) from (s .objects) o) where
     found : Found (triggered s p (tablesOf w x)) from (s .objects) o
     found = rw (← triggered-same s p w x) f
@@ -65,7 +65,7 @@ module _ (s : Setup) (p : Trigger) where
 pub settle-grows : (s : Setup) (t u : Tables) (o : ℕ) → Growing s (t .objects) → u ≡ completed s t o → Growing s (u .objects)
 settle-grows s t u o g e = rw e (completed-keeps s t o g)
 
--- ---- a clock step
+-- ---- the clock step
 
 module _ (s : Setup) (w x : List ℕ) (clock : ℕ) where
   pub clock-grows : Growing s (tablesOf w x .objects) → Growing s (tablesOf (set w 0 clock) x .objects)

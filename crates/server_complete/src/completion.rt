@@ -1,4 +1,4 @@
-// Completing one write at the server (01, "Steps"): what it does to the tables, and whether it is time.
+// Completing the standing write of one object (01, "Steps"): at once, or only if it is ready.
 ghost use mathlib.Core.Path.{_≡_};
 ghost use mathlib.Core.Bool.{true};
 ghost use Prim.Native.Nat.{_<_};
@@ -14,7 +14,7 @@ use state_words::Values;
 use state_words::Words;
 use state_words::server;
 
-// "stores the value, adds 1 to the version, .. and ends the standing write"
+// Updates the object's own fields: "stores the value, adds 1 to the version, .. and ends the standing write".
 fn post(words: &mut Words, values: &mut Values, object: usize)
     requires { ⌜ object < 32 ⌝ }
     requires { ⌜ versionAt (tablesOf (now words) (now values)) object < 4294967295 ⌝ }
@@ -28,7 +28,8 @@ fn post(words: &mut Words, values: &mut Values, object: usize)
     words[server::END + object] = 0;
 }
 
-// "Completing stores the value, adds 1 to the version, marks still waiting dashes unreachable, clears every dash's server lease on that object and ends the standing write."
+// Completes the object's write: "Completing stores the value, adds 1 to the version, marks still waiting dashes unreachable, clears every dash's server
+// lease on that object and ends the standing write."
 pub fn complete(s: Setup, words: &mut Words, values: &mut Values, object: usize)
     requires { ⌜ inRange s ≡ true ⌝ }
     requires { ⌜ object < s .objects ⌝ }
@@ -44,7 +45,8 @@ pub fn complete(s: Setup, words: &mut Words, values: &mut Values, object: usize)
     post(&mut *words, &mut *values, object);
 }
 
-// "complete if none waits and the clock is at or past guard": after a write, and after an ACK. How many writes completed.
+// Completes the object's write, if it is ready, after a write or an ACK: "complete if none waits and the clock is at or past guard".
+// Returns the number of writes completed.
 pub fn settle_one(s: Setup, words: &mut Words, values: &mut Values, object: usize) -> u32
     requires { ⌜ inRange s ≡ true ⌝ }
     requires { ⌜ object < s .objects ⌝ }

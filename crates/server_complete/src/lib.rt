@@ -1,3 +1,3 @@
-// Writes completed at the server: one of them, and all that are due, in object order (01, "Steps" 1).
+// Completing writes at the server (01, "Steps"): the write of one object, or in object order all that a clock step or a DROPPED completes.
 pub mod completion;
 pub mod settle;

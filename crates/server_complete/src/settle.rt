@@ -1,4 +1,4 @@
-// Going through the standing writes in object order.
+// Completing standing writes in object order, after a clock step or a DROPPED.
 ghost use mathlib.Core.Path.{_≡_};
 ghost use mathlib.Core.Bool.{true};
 ghost use Rattle.protocol.specs.Setup.{inRange};
@@ -15,7 +15,7 @@ use state_words::Words;
 use state_words::network;
 use state_words::pass;
 
-// "In object order, complete each standing write" that is triggered, and count them.
+// Completes the writes that the trigger selects: "In object order, complete each standing write". Returns how many completed.
 pub fn settle(s: Setup, trigger: Trigger, words: &mut Words, values: &mut Values) -> u32
     requires { ⌜ inRange s ≡ true ⌝ }
     requires { ⌜ Growing s (tablesOf (now words) (now values) .objects) ⌝ }
@@ -37,7 +37,7 @@ pub fn settle(s: Setup, trigger: Trigger, words: &mut Words, values: &mut Values
     count
 }
 
-// Step 1: the clock, and the writes that are then due.
+// Sets the clock and completes the writes that are then due (step 1). Returns how many completed.
 pub fn pass_time(s: Setup, words: &mut Words, values: &mut Values, clock: u32) -> u32
     requires { ⌜ inRange s ≡ true ⌝ }
     requires { ⌜ Growing s (tablesOf (now words) (now values) .objects) ⌝ }

@@ -1,4 +1,4 @@
--- What a DROPPED comes to.
+-- The result of receiving a DROPPED.
 use Prim.Native.Nat.{ℕ, _+_, _<_, _≤_}
 use native.Mathlib.Omega.{arith}
 use mathlib.Core.Bool.{Bool, true, false, not, _&&_}
@@ -25,12 +25,12 @@ pub drop-takes : (w : List ℕ) (d v n e : ℕ) → d < 16 → v < 8
 unfolding dropTaken tablesOf
 drop-takes w d v n e h l = rw (part-at wordLengths w VOLUME-EPOCH v l, part-at wordLengths w OFFER (byVolume d v) (omega arith))
 
--- whatever the values are
+-- the test does not depend on the values
 drop-same : (w x : List ℕ) (d v n e : ℕ) → dropTaken (numbersOf w) d v n e ≡ dropTaken (tablesOf w x) d v n e
 unfolding dropTaken tablesOf
 drop-same w x d v n e = refl
 
--- w becomes a and b in the passes
+-- after the stores to w in `unleased`, the two loops give a, then b
 module _ (s : Setup) (w x a b : List ℕ) (d v : ℕ) (i : d < 16) (l : v < 8) (k : s .objects ≤ 32) where
   abbrev unleased : List ℕ
   unleased = set (set (set w (at SESSION-EXPIRY + byVolume d v) 0) (at UNREACHABLE + byVolume d v) 0) (at OFFER + byVolume d v) 0

@@ -19,7 +19,7 @@ use state_words::Words;
 use state_words::pass;
 use state_words::server;
 
-// The client's words for the objects of the volume, of the field that starts at `field`, become 0.
+// Zeroes one field of the client for each object of the volume; `field` is where the field starts.
 fn clear_in_volume(s: Setup, words: &mut Words, field: usize, client: usize, volume: usize)
     requires { ⌜ inRange s ≡ true ⌝ }
     requires { ⌜ field + 512 ≤ WORDS ⌝ }
@@ -40,7 +40,7 @@ fn clear_in_volume(s: Setup, words: &mut Words, field: usize, client: usize, vol
     }
 }
 
-// "needs the epoch and a nonzero equal offer number"
+// Returns whether the DROPPED counts: it "needs the epoch and a nonzero equal offer number".
 fn drop_taken(words: &Words, client: usize, volume: usize, number: u32, epoch: u32) -> bool
     requires { ⌜ client < 16 ⌝ }
     requires { ⌜ volume < 8 ⌝ }
@@ -50,7 +50,8 @@ fn drop_taken(words: &Words, client: usize, volume: usize, number: u32, epoch: u
     (epoch == words[server::VOLUME_EPOCH + volume]) & ((number != 0) & (number == offer))
 }
 
-// DROPPED of a client for a volume, with its number and epoch: "Clear the dash's leases in the volume, mark, offer and waiting there; then, in object order, complete each standing write of the volume on ACK's condition." How many writes completed.
+// Receives a client's DROPPED for a volume: "Clear the dash's leases in the volume, mark, offer and waiting there; then, in object order, complete each
+// standing write of the volume on ACK's condition." A DROPPED that does not count changes nothing. Returns the number of writes completed.
 pub fn receive_dropped(
     s: Setup,
     words: &mut Words,

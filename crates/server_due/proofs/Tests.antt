@@ -1,4 +1,4 @@
--- When a write is ready, when it is due, and whether a trigger completes it. These tests read no value.
+-- When a write is ready, when it is due, and whether a trigger completes it. None of these tests depends on the values.
 use Prim.Native.Nat.{ℕ, _+_, _<_}
 use native.Mathlib.Omega.{arith}
 use mathlib.Core.Bool.{Bool, true, false, not, _&&_, _||_}

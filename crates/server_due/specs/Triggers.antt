@@ -1,4 +1,4 @@
--- What makes the server go through its standing writes, and which of them it then completes.
+-- Which standing writes the server completes after a clock step, a DROPPED, a write or an ACK.
 use Prim.Native.Nat.{ℕ}
 use mathlib.Core.Bool.{Bool}
 use Rattle.protocol.specs.declared.setup.Setup.{Setup}
@@ -16,6 +16,6 @@ triggered s (Volume v) = readyIn s v
 abbrev pub triggerStaged : Setup → Trigger → Tables → Staged
 triggerStaged s p t = record { tables = t; test = triggered s p; from = 0; many = s .objects }
 
--- one object alone, after a write and after an ACK
+-- a write or an ACK can complete the write of its own object alone
 abbrev pub oneStaged : Setup → Tables → ℕ → Staged
 oneStaged s t o = record { tables = t; test = ready s; from = o; many = 1 }

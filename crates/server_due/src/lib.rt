@@ -1,4 +1,4 @@
-// Which standing writes are ready or due (01, "Steps" 1 and 4), and what makes the server go through them.
+// Finding the standing writes that may complete (01, "Steps" 1 and 4): those that are ready and, at a clock step, those past their latest end.
 ghost use mathlib.Core.Path.{_≡_};
 ghost use mathlib.Core.Bool.{true};
 ghost use Prim.Native.Nat.{_≤_, _<_};
@@ -15,14 +15,13 @@ use state_words::Words;
 use state_words::network;
 use state_words::server;
 
-// What makes the server go through its standing writes: a clock step, which completes those that are due, or a DROPPED, which completes those of a
-// volume that are ready.
+// The event that makes the server look for writes to complete. A clock step completes all that are due; a DROPPED, those of its volume that are ready.
 pub enum Trigger {
     Clock,
     Volume(usize),
 }
 
-// "none waits and the clock is at or past guard"
+// Returns whether the object has a standing write that is ready: "none waits and the clock is at or past guard".
 pub fn ready(s: Setup, words: &Words, object: usize) -> bool
     requires { ⌜ inRange s ≡ true ⌝ }
     requires { ⌜ object < s .objects ⌝ }
@@ -37,7 +36,7 @@ pub fn ready(s: Setup, words: &Words, object: usize) -> bool
     false
 }
 
-// "no waiting dash and clock at or past guard, or whose latest end is below the clock"
+// Returns whether the object has a standing write that is due: "no waiting dash and clock at or past guard, or whose latest end is below the clock".
 pub fn due(s: Setup, words: &Words, object: usize) -> bool
     requires { ⌜ inRange s ≡ true ⌝ }
     requires { ⌜ object < s .objects ⌝ }
@@ -50,7 +49,7 @@ pub fn due(s: Setup, words: &Words, object: usize) -> bool
     (words[server::STANDING + object] != 0) & over
 }
 
-// Whether the write of the object is completed then.
+// Returns whether the trigger completes the object's write.
 pub fn triggered(s: Setup, trigger: Trigger, words: &Words, object: usize) -> bool
     requires { ⌜ inRange s ≡ true ⌝ }
     requires { ⌜ object < s .objects ⌝ }
@@ -67,7 +66,7 @@ pub fn triggered(s: Setup, trigger: Trigger, words: &Words, object: usize) -> bo
     }
 }
 
-// The next object whose write is completed, or the number of objects.
+// Returns the first object from `from` on whose write the trigger completes, or the number of objects if there is none.
 pub fn next_triggered(s: Setup, trigger: Trigger, words: &Words, from: usize) -> usize
     requires { ⌜ inRange s ≡ true ⌝ }
     requires { ⌜ from ≤ s .objects ⌝ }

@@ -1,4 +1,4 @@
--- What an OFFER and a GRANT store in the words w and values x; then the message m is sent, which leaves u and y.
+-- What an OFFER and a GRANT store in the words w; the values are x. Sending the message m then gives u and y.
 use Prim.Native.Nat.{ℕ, _+_, _<_}
 use native.Mathlib.Omega.{arith}
 use mathlib.Core.List.{List}
@@ -15,7 +15,7 @@ use Rattle.lease_tests.specs.Parts.{Placed}
 use Rattle.state_words.specs.Fields.{wordLengths, at, CLOCK, VOLUME-EXPIRY, SESSION-EXPIRY, UNREACHABLE, OFFER, OBJECT-EXPIRY, LEASE}
 use Rattle.state_words.specs.View.{tablesOf, numbersOf, recordsOf}
 
--- whatever the values are
+-- the OFFER does not depend on the values
 offering-same : (w x : List ℕ) (d v n : ℕ) → offering (numbersOf w) d v n ≡ offering (tablesOf w x) d v n
 unfolding tablesOf
 offering-same w x d v n = refl

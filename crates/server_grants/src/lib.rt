@@ -1,4 +1,4 @@
-// RENEW answered by the server with a GRANT or an OFFER (01, "Messages received"): what it notes in the tables, and sends.
+// Answering a RENEW with a GRANT or an OFFER (01, "Messages received"): each updates the tables and sends its message.
 ghost use mathlib.Core.Path.{_≡_};
 ghost use mathlib.Core.Bool.{true};
 ghost use Prim.Native.Nat.{_≤_, _<_};
@@ -13,7 +13,7 @@ use state_words::Words;
 use state_words::network;
 use state_words::server;
 
-// "mark unreachable, offer number := number, send OFFER"
+// Answers with an OFFER, since the client has to drop its leases first: "mark unreachable, offer number := number, send OFFER".
 pub fn offer(words: &mut Words, values: &mut Values, client: usize, volume: usize, number: u32)
     requires { ⌜ client < 16 ⌝ }
     requires { ⌜ volume < 8 ⌝ }
@@ -26,7 +26,7 @@ pub fn offer(words: &mut Words, values: &mut Values, client: usize, volume: usiz
     push(&mut *words, &mut *values, message);
 }
 
-// "volume expiry and VE := clock + tv, object expiry and OE := clock + t, send GRANT"
+// Renews both leases and answers with a GRANT: "volume expiry and VE := clock + tv, object expiry and OE := clock + t, send GRANT".
 pub fn grant(
     s: Setup,
     words: &mut Words,

@@ -1,4 +1,4 @@
--- "number not above the highest seen", and the number noted.
+-- The test "number not above the highest seen", and storing the new number.
 use Prim.Native.Nat.{ℕ, _+_, _<_, _≤_}
 use mathlib.Core.List.{List}
 use mathlib.Core.Path.{_≡_, refl, ap, _∙_}

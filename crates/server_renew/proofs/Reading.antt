@@ -1,4 +1,4 @@
--- What is read of the words for a RENEW, whatever the values are.
+-- What the rules for a RENEW read from the words. None of it depends on the values.
 use Prim.Native.Nat.{ℕ, _+_, _<_}
 use native.Mathlib.Nat.{sub-zero}
 use native.Mathlib.Omega.{arith}
@@ -33,7 +33,7 @@ module _ (w x : List ℕ) where
   unfolding tablesOf
   rests o l h = flag-no wordLengths w STANDING o l h
 
-  -- whatever the values are
+  -- these depend on the words alone
   pub drop-same : (d v e : ℕ) → mustDrop (numbersOf w) d v e ≡ mustDrop (tablesOf w x) d v e
   unfolding mustDrop tablesOf
   drop-same d v e = refl
@@ -46,7 +46,7 @@ module _ (w x : List ℕ) where
   unfolding tablesOf
   resending-same s o d = refl
 
-  -- the version of an object that is waited for can grow, since a write stands there
+  -- the lowest object whose write waits for the client has a standing write, so its version can grow
   pub low-version : (s : Setup) (d v low : ℕ) → low ≡ lowestWaited s (numbersOf w) d v → Growing s (tablesOf w x .objects) → low < s .objects → versionAt (numbersOf w) low < 4294967295
   unfolding lowestWaited tablesOf
   low-version s d v low l g i =

@@ -1,4 +1,4 @@
--- RENEW's rules in order: which one it is that fits.
+-- The rules for a RENEW in order: one law for each rule that may be the first to fit.
 use Prim.Native.Nat.{ℕ, _<_, _≤_}
 use mathlib.Core.Bool.{Bool, true, false}
 use mathlib.Core.List.{List}

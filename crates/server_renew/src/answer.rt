@@ -1,4 +1,4 @@
-// The rules by which the server answers a RENEW, in order (01, "Messages received").
+// The rules for answering a RENEW, in order (01, "Messages received").
 ghost use mathlib.Core.Path.{_≡_};
 ghost use mathlib.Core.Bool.{true};
 ghost use Prim.Native.Nat.{_≤_, _<_};
@@ -16,7 +16,7 @@ use state_words::Values;
 use state_words::Words;
 use state_words::server;
 
-// "Epoch differs or dash unreachable"
+// Returns whether the client has to drop its leases first: "Epoch differs or dash unreachable".
 fn must_drop(words: &Words, client: usize, volume: usize, epoch: u32) -> bool
     requires { ⌜ client < 16 ⌝ }
     requires { ⌜ volume < 8 ⌝ }
@@ -26,7 +26,7 @@ fn must_drop(words: &Words, client: usize, volume: usize, epoch: u32) -> bool
         | (words[server::UNREACHABLE + (client * 8 + volume)] != 0)
 }
 
-// "take the first rule that fits"
+// Answers a RENEW whose number is new: "take the first rule that fits".
 pub fn renew_by(
     s: Setup,
     words: &mut Words,

@@ -1,3 +1,3 @@
-// RENEW received at the server (01, "Messages received"): one that is not newer than the last is passed over; the first rule that fits answers the others.
+// RENEW received at the server (01, "Messages received"): an old or doubled one is ignored, a new one is answered by the first rule that fits.
 pub mod answer;
 pub mod receive;

@@ -11,7 +11,8 @@ use state_words::Values;
 use state_words::Words;
 use state_words::server;
 
-// RENEW of a client for an object, with its number, known epoch and held version.
+// Receives a client's RENEW for an object. `epoch` is the one that the client knows, `held` the version that it holds. A number that is not above the
+// highest seen is ignored, so a doubled RENEW does nothing.
 pub fn receive_renew(
     s: Setup,
     words: &mut Words,

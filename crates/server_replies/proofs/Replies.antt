@@ -1,4 +1,4 @@
--- The messages that answer a RENEW, and which object waits for its client.
+-- The replies to a RENEW, and the test whether the write of an object waits for the client.
 use Prim.Native.Nat.{ℕ, _+_, _<_}
 use native.Mathlib.Omega.{arith}
 use mathlib.Core.Bool.{_&&_}

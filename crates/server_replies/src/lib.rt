@@ -1,4 +1,4 @@
-// The messages that a RENEW is answered with (01, "Messages received"), and the object that an INVALIDATE is resent for.
+// Building the replies to a RENEW (01, "Messages received"), and finding the object whose INVALIDATE is resent.
 pub mod lowest;
 
 ghost use mathlib.Core.Path.{_≡_};
@@ -19,7 +19,7 @@ use state_words::Words;
 use state_words::network;
 use state_words::server;
 
-// "send OFFER"
+// Returns the OFFER, with the number of the RENEW and the volume's epoch: "send OFFER".
 pub fn offering(words: &Words, client: usize, volume: usize, number: u32) -> Message
     requires { ⌜ client < 16 ⌝ }
     requires { ⌜ volume < 8 ⌝ }
@@ -35,7 +35,7 @@ pub fn offering(words: &Words, client: usize, volume: usize, number: u32) -> Mes
     }
 }
 
-// "resend INVALIDATE"
+// Returns the INVALIDATE for the standing write of an object, with its epoch and new version: "resend INVALIDATE".
 pub fn resending(s: Setup, words: &Words, client: usize, object: usize) -> Message
     requires { ⌜ inRange s ≡ true ⌝ }
     requires { ⌜ client < 16 ⌝ }
@@ -54,7 +54,7 @@ pub fn resending(s: Setup, words: &Words, client: usize, object: usize) -> Messa
     }
 }
 
-// "with value unless versions are equal"
+// Returns the object's value, or `Same` if the client holds this version already: "with value unless versions are equal".
 fn payload<'a>(words: &'a Words, values: &'a Values, object: usize, held: u32) -> Payload
     requires { ⌜ object < 32 ⌝ }
     ensures { λ r. ⌜ r ≡ payloadFor (tablesOf (now (words .entry)) (now (values .entry))) object held ⌝ }
@@ -65,7 +65,7 @@ fn payload<'a>(words: &'a Words, values: &'a Values, object: usize, held: u32) -
     Payload::Value(values[server::VALUE + object])
 }
 
-// "send GRANT"
+// Returns the GRANT, with the new expiry of each lease: "send GRANT".
 pub fn granting<'a>(
     s: Setup,
     words: &'a Words,

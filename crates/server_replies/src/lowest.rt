@@ -1,4 +1,4 @@
-// "Dash waited for in this volume", and "its lowest such object".
+// The test "Dash waited for in this volume", and the search for "its lowest such object".
 ghost use mathlib.Core.Path.{_≡_};
 ghost use mathlib.Core.Bool.{true};
 ghost use Prim.Native.Nat.{_<_};
@@ -10,7 +10,7 @@ use protocol::setup::Setup;
 use state_words::Words;
 use state_words::server;
 
-// Whether the object is of the volume, and its standing write waits for the client.
+// Returns whether the object is in the volume and its standing write waits for the client.
 fn waited_in(s: Setup, words: &Words, client: usize, volume: usize, object: usize) -> bool
     requires { ⌜ inRange s ≡ true ⌝ }
     requires { ⌜ client < s .clients ⌝ }
@@ -22,7 +22,7 @@ fn waited_in(s: Setup, words: &Words, client: usize, volume: usize, object: usiz
     (own == volume) & ((words[server::STANDING + object] != 0) & (words[server::WAITING + i] != 0))
 }
 
-// The first object of the volume whose standing write waits for the client, or the number of objects.
+// Returns the first object of the volume whose standing write waits for the client, or the number of objects if there is none.
 pub fn lowest_waited(s: Setup, words: &Words, client: usize, volume: usize) -> usize
     requires { ⌜ inRange s ≡ true ⌝ }
     requires { ⌜ client < s .clients ⌝ }

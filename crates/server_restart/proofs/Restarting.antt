@@ -1,4 +1,4 @@
--- What each part of a restart comes to, and all of it.
+-- The result of each part of a restart, and of the whole.
 use Prim.Native.Nat.{ℕ, _+_, _-_, _<_, _≤_}
 use native.Mathlib.Omega.{arith}
 use mathlib.Core.List.{List}
@@ -26,7 +26,7 @@ pub epoch-grows : (n : ℕ) (w : List ℕ) (v : ℕ) → EpochsGrow n (numbersOf
 unfolding tablesOf
 epoch-grows n w v g h k = rw (part-at wordLengths w VOLUME-EPOCH v k) (g .below v h)
 
--- ---- one turn of each loop
+-- ---- one iteration of each loop
 
 pub grow-keeps : (w₀ w : List ℕ) (v y : ℕ) → Above w₀ w (at VOLUME-EPOCH + v) → Above w₀ (set w (at VOLUME-EPOCH + v) y) (at VOLUME-EPOCH + (v + 1))
 grow-keeps w₀ w v y a = record { same = λ q k. getD-set-other w (at VOLUME-EPOCH + v) q y 0 (λ e. omega arith) ∙ a .same q (omega arith) }
@@ -46,10 +46,10 @@ module _ (w₀ w : List ℕ) (v n : ℕ) (i : n ≤ 8) (h : v < n) where
       fold-again (storeAt always (λ (v : ℕ). at GUARD + v) (λ (v : ℕ). getD (parts wordLengths w₀ VOLUME-EXPIRY) v 0)) n v w _ A h
       (rw (part-at wordLengths w VOLUME-EXPIRY v (omega arith), o .others VOLUME-EXPIRY (λ e. omega arith))) f
 
--- ---- fields cleared
+-- ---- clearing fields
 
 module _ (w u : List ℕ) (h : length w ≡ WORDS) where
-  -- a fill of field k of a list as long as w
+  -- clearing n words of field k keeps the length
   cleared : (k n : ℕ) (v : List ℕ) → length v ≡ WORDS → length (filling (at k) n 0 v) ≡ WORDS
   cleared k n v l = length-filled (at k) n 0 v _ refl ∙ l
 
@@ -98,7 +98,7 @@ module _ (w u : List ℕ) (h : length w ≡ WORDS) where
       let a = cleared LEASE 512 w h in
       rw (filled-field wordLengths held u WAITING 0 (omega (arith, a)) e, filled-field wordLengths w held LEASE 0 (omega (arith, h)) refl)
 
--- ---- all of it: the words w become a, b, c, d and u, the values x become y
+-- ---- the whole restart: the words go from w through a, b, c and d to u, the values from x to y
 
 module _ (s : Setup) (w a b c d u x y : List ℕ) (n : ℕ) (h : length w ≡ WORDS) (l : length x ≡ VALUES) (i : n ≡ s .volumes) (j : n ≤ 8)
     (e₁ : a ≡ storeEach always (λ (v : ℕ). at VOLUME-EPOCH + v) (λ (v : ℕ). getD (parts wordLengths w VOLUME-EPOCH) v 0 + 1) w n)

@@ -1,4 +1,4 @@
--- What a restart asks for, and which fields it clears.
+-- What a restart requires of the epochs, and the fields that it clears.
 use Prim.Native.Nat.{ℕ, _<_}
 use mathlib.Core.List.{List}
 use Rattle.laws.specs.Parts.{filling}

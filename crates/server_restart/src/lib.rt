@@ -1,4 +1,4 @@
-// The server's restart (01, "Steps" 8).
+// Restarting the server (01, "Steps" 8).
 ghost use mathlib.Core.Path.{_≡_};
 ghost use mathlib.Core.Bool.{true};
 ghost use Prim.Native.Nat.{ℕ, _+_, _≤_, _<_};
@@ -16,7 +16,7 @@ use state_words::Words;
 use state_words::pass;
 use state_words::server;
 
-// "every epoch grows by 1"
+// Adds 1 to the epochs of the first n volumes: "every epoch grows by 1".
 fn grow_epochs(words: &mut Words, n: usize)
     requires { ⌜ n ≤ 8 ⌝ }
     requires { ⌜ EpochsGrow n (numbersOf (now words)) ⌝ }
@@ -29,7 +29,7 @@ fn grow_epochs(words: &mut Words, n: usize)
     }
 }
 
-// "guard becomes VE"
+// Sets every guard: "guard becomes VE". So no write completes while a volume lease from before the restart may be alive.
 fn guard_expiries(words: &mut Words)
     ensures { λ _. ⌜ now (words .exit) ≡ storeEach always (λ (v : ℕ). at GUARD + v) (λ (v : ℕ). getD (parts wordLengths (now (words .entry)) VOLUME-EXPIRY) v 0) (now (words .entry)) 8 ⌝ }
 {
@@ -40,6 +40,7 @@ fn guard_expiries(words: &mut Words)
     }
 }
 
+// Zeroes what the server knows of each client: highest number seen, volume leases, unreachable marks and offers.
 fn clear_sessions(words: &mut Words)
     ensures { λ _. ⌜ now (words .exit) ≡ sessionsCleared (now (words .entry)) ⌝ }
 {
@@ -49,7 +50,7 @@ fn clear_sessions(words: &mut Words)
     pass::fill(&mut *words, server::OFFER, 128, 0);
 }
 
-// No lease on an object and no standing write: values and versions remain.
+// Zeroes each object's OE and ends its standing write. Values and versions stay.
 fn clear_objects(words: &mut Words)
     ensures { λ _. ⌜ now (words .exit) ≡ objectsCleared (now (words .entry)) ⌝ }
 {
@@ -58,6 +59,7 @@ fn clear_objects(words: &mut Words)
     pass::fill(&mut *words, server::END, 32, 0);
 }
 
+// Zeroes all object leases and waiting marks.
 fn clear_holders(words: &mut Words)
     ensures { λ _. ⌜ now (words .exit) ≡ holdersCleared (now (words .entry)) ⌝ }
 {
@@ -65,7 +67,7 @@ fn clear_holders(words: &mut Words)
     pass::fill(&mut *words, server::WAITING, 512, 0);
 }
 
-// Step 8: "values, versions, VE remain; every epoch grows by 1; guard becomes VE; its other fields become fresh. Messages remain."
+// Restarts the server, step 8: "values, versions, VE remain; every epoch grows by 1; guard becomes VE; its other fields become fresh. Messages remain."
 pub fn restart(s: Setup, words: &mut Words, values: &mut Values)
     requires { ⌜ inRange s ≡ true ⌝ }
     requires { ⌜ EpochsGrow (s .volumes) (tablesOf (now words) (now values)) ⌝ }

@@ -1,4 +1,4 @@
--- What each turn of a pass over the clients comes to.
+-- One iteration of each loop over the clients.
 use Prim.Native.Nat.{ℕ, _+_, _-_, _<_, _≤_}
 use native.Mathlib.Omega.{arith}
 use mathlib.Core.Bool.{Bool, cond, false}
@@ -16,7 +16,7 @@ use Rattle.lease_tests.specs.Parts.{waitsBy, outlastBy}
 use Rattle.state_words.specs.Fields.{wordLengths, at, CLOCK, SESSION-EXPIRY, UNREACHABLE, LEASE, WAITING}
 use Rattle.server_waiting.specs.Waiting.{waitingFor, waitingIn, waitsIn, leasedIn}
 
--- a mark, or none, is no change of who is waited for
+-- marking a client unreachable, or not, does not change which clients are waited for
 pub mark-keeps : (w₀ w u : List ℕ) (b : Bool) (v n d y : ℕ) → v < 8 → n ≤ 16 → d < n → parts wordLengths w WAITING ≡ parts wordLengths w₀ WAITING
     → u ≡ cond b (set w (at UNREACHABLE + byVolume d v) y) w → parts wordLengths u WAITING ≡ parts wordLengths w₀ WAITING
 mark-keeps w₀ w u b v n d y i k h same e =

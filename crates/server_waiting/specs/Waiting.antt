@@ -1,4 +1,4 @@
--- Whom a write waits for, and until when, by the words.
+-- Which clients a write waits for, and until when, as read from the words.
 use Prim.Native.Nat.{ℕ, min}
 use mathlib.Core.Bool.{Bool, false}
 use mathlib.Core.List.{List}
@@ -9,19 +9,20 @@ use Rattle.protocol.specs.Tables.{byVolume, byObject}
 use Rattle.lease_tests.specs.Parts.{waitsBy}
 use Rattle.state_words.specs.Fields.{wordLengths, CLOCK, SESSION-EXPIRY, UNREACHABLE, LEASE, WAITING}
 
--- whether client d is waited for on object o
+-- whether the write of object o waits for client d
 abbrev pub waitingFor : List Bool → ℕ → ℕ → Bool
 waitingFor waiting o d = getD waiting (byObject d o) false
 
+-- the waiting marks in the words
 abbrev pub waitingIn : List ℕ → List Bool
 waitingIn words = flags (parts wordLengths words WAITING)
 
--- `waits`: whether a write of object o, which is of volume v, is to wait for client d
+-- `waits`, read from the words: whether a new write of object o, in volume v, has to wait for client d
 abbrev pub waitsIn : List ℕ → ℕ → ℕ → ℕ → Bool
 waitsIn words v o d =
     waitsBy (getD (parts wordLengths words CLOCK) 0 0) (getD (parts wordLengths words LEASE) (byObject d o) 0)
     (getD (flags (parts wordLengths words UNREACHABLE)) (byVolume d v) false) (getD (parts wordLengths words SESSION-EXPIRY) (byVolume d v) 0)
 
--- `leasedUntil`: until when client d may show its copy of object o
+-- `leasedUntil`, read from the words: until when client d may show its copy of object o, in volume v
 abbrev pub leasedIn : List ℕ → ℕ → ℕ → ℕ → ℕ
 leasedIn words v o d = min (getD (parts wordLengths words SESSION-EXPIRY) (byVolume d v) 0) (getD (parts wordLengths words LEASE) (byObject d o) 0)

@@ -1,4 +1,4 @@
-// Whom the standing write of an object waits for, and the leases on it, client by client: passes over the first n clients.
+// Which clients the standing write of an object waits for, and their leases on it. Each function covers the first n clients.
 ghost use mathlib.Core.Path.{_≡_};
 ghost use Prim.Native.Nat.{ℕ, _+_, _≤_, _<_};
 ghost use Rattle.laws.specs.Flags.{wordOf};
@@ -14,7 +14,7 @@ use state_words::network;
 use state_words::pass;
 use state_words::server;
 
-// The clients' words for an object, of the field that starts at `field`, become 0.
+// Zeroes one field of the object for each client; `field` is where the field starts.
 pub fn clear_object(words: &mut Words, field: usize, object: usize, n: usize)
     requires { ⌜ field + 512 ≤ WORDS ⌝ }
     requires { ⌜ object < 32 ⌝ }
@@ -28,7 +28,7 @@ pub fn clear_object(words: &mut Words, field: usize, object: usize, n: usize)
     }
 }
 
-// "marks still waiting dashes unreachable"
+// Marks the clients that the write still waits for as unreachable in the volume: "marks still waiting dashes unreachable".
 pub fn mark_waiting(words: &mut Words, volume: usize, object: usize, n: usize)
     requires { ⌜ volume < 8 ⌝ }
     requires { ⌜ object < 32 ⌝ }
@@ -45,7 +45,7 @@ pub fn mark_waiting(words: &mut Words, volume: usize, object: usize, n: usize)
     }
 }
 
-// The next client that is waited for, or n.
+// Returns the first client from `from` on that the write waits for, or n if there is none.
 pub fn next_waiting(words: &Words, object: usize, from: usize, n: usize) -> usize
     requires { ⌜ object < 32 ⌝ }
     requires { ⌜ from ≤ n ⌝ }
@@ -65,7 +65,7 @@ pub fn next_waiting(words: &Words, object: usize, from: usize, n: usize) -> usiz
     }
 }
 
-// Whether a client is waited for.
+// Returns whether the write waits for any client.
 pub fn waited(words: &Words, object: usize, n: usize) -> bool
     requires { ⌜ object < 32 ⌝ }
     requires { ⌜ n ≤ 16 ⌝ }
@@ -74,7 +74,7 @@ pub fn waited(words: &Words, object: usize, n: usize) -> bool
     next_waiting(words, object, 0, n) < n
 }
 
-// Step 4: which clients a write of an object of this volume waits for.
+// Sets which clients a new write of the object waits for (step 4); `volume` is the object's volume.
 pub fn await_clients(words: &mut Words, volume: usize, object: usize, n: usize)
     requires { ⌜ volume < 8 ⌝ }
     requires { ⌜ object < 32 ⌝ }

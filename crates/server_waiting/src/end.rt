@@ -1,4 +1,4 @@
-// Until when the write of an object waits: a pass over the first n clients.
+// The latest end of a write, from the leases of the clients that it waits for.
 ghost use mathlib.Core.Path.{_≡_};
 ghost use Prim.Native.Nat.{_≤_, _<_};
 ghost use Rattle.laws.specs.Greatest.{greatest};
@@ -7,7 +7,7 @@ use lease_tests::time;
 use state_words::Words;
 use state_words::server;
 
-// 02, A3: the greatest of `least` and, "over the waiting dashes, the lesser of that dash's volume and object expiry".
+// Returns the latest end (02, A3): the greatest of `least` and, "over the waiting dashes, the lesser of that dash's volume and object expiry".
 pub fn latest_end(words: &Words, volume: usize, object: usize, least: u32, n: usize) -> u32
     requires { ⌜ volume < 8 ⌝ }
     requires { ⌜ object < 32 ⌝ }

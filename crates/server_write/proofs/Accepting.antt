@@ -1,4 +1,4 @@
--- A write accepted: it stands, the INVALIDATEs are sent, and it may complete.
+-- Accepting a write: it is opened, the INVALIDATEs are sent, and it may complete.
 use Prim.Native.Nat.{ℕ, _+_, _<_, min, max}
 use native.Mathlib.Omega.{arith}
 use mathlib.Core.Bool.{false}
@@ -20,9 +20,9 @@ use Rattle.state_words.specs.View.{tablesOf, recordsOf}
 use Rattle.server_due.specs.Triggers.{oneStaged}
 use Rattle.server_waiting.specs.Waiting.{waitingFor, waitingIn, waitsIn, leasedIn}
 
--- ---- the write stands
+-- ---- opening the write
 
--- a is w after the pass that settles whom the write waits for
+-- a is w after the loop that sets which clients the write waits for
 module _ (s : Setup) (w a x : List ℕ) (o v n : ℕ) (p : Placed s o v) (i : n ≡ s .clients)
     (f : a ≡ storeEach always (λ (d : ℕ). at WAITING + byObject d o) (λ (d : ℕ). wordOf (waitsIn w v o d)) w n) where
   fits : (d : ℕ) → d < n → byObject d o < 512
@@ -45,7 +45,7 @@ module _ (s : Setup) (w a x : List ℕ) (o v n : ℕ) (p : Placed s o v) (i : n 
   leases-awaited : leasedIn a v o ≡ leasedIn w v o
   leases-awaited = fun-ext (λ d. ap (λ (g : ℕ → List ℕ). min (getD (g SESSION-EXPIRY) (byVolume d v) 0) (getD (g LEASE) (byObject d o) 0)) fields-awaited)
 
-  -- the clock is as it was
+  -- the clock does not change
   pub clock-awaited : getD a 0 0 ≡ tablesOf w x .clock
   unfolding tablesOf
   clock-awaited = rw (part-at wordLengths a CLOCK 0 (omega arith), fields-awaited)
@@ -82,7 +82,7 @@ module _ (s : Setup) (w a x : List ℕ) (o v n : ℕ) (p : Placed s o v) (i : n 
       pub begins : (tablesOf words-begun (set x (atValue PENDING + o) y) ≡ begun s (tablesOf w x) o y) × (recordsOf words-begun (set x (atValue PENDING + o) y) ≡ recordsOf w x)
       begins = (tables-begun, records-begun)
 
--- ---- all of it
+-- ---- the whole step
 
 module _ (s : Setup) (w x a b : List ℕ) (o y : ℕ) (e : (tablesOf a b ≡ begun s (tablesOf w x) o y) × (recordsOf a b ≡ recordsOf w x)) where
   pub begun-version : versionAt (tablesOf a b) o ≡ versionAt (tablesOf w x) o

@@ -1,4 +1,4 @@
--- The INVALIDATEs sent: whom to, and what is left of the tables.
+-- Sending the INVALIDATEs: which clients get one, and what else stays unchanged.
 use Prim.Native.Nat.{ℕ, _+_, _-_, _<_, _≤_}
 use mathlib.Core.Bool.{Bool, false}
 use mathlib.Core.List.{List}
@@ -25,7 +25,7 @@ waiting-same : (w x u v : List ℕ) (q : Queue) → tablesOf u v ≡ withQueue (
 unfolding tablesOf
 waiting-same w x u v q e = ap (λ (t : Tables). t .holders .waiting) e
 
--- nothing but the message list may differ: what the loop keeps
+-- the loop's invariant: nothing has changed except the message list
 pub record Sending (w₀ x₀ w x : List ℕ) : Type 0 where
   pub tables : tablesOf w x ≡ withQueue (tablesOf w₀ x₀) (tablesOf w x .queue)
   pub records : recordsOf w x ≡ recordsOf w₀ x₀
@@ -66,7 +66,7 @@ module _ (w₀ x₀ w x : List ℕ) (o e z N from d : ℕ) (A : Queue) (s : Send
   notify-end h =
       (s .tables ∙ ap (withQueue (tablesOf w₀ x₀)) (fold-end (notifyOne (waitingIn w) o e z) N d (tablesOf w x .queue) A h passed), s .records)
 
--- whom an INVALIDATE is sent to, and what it says
+-- the loop, with the epoch and new version read from the words, sends what `notified` says
 pub notifies : (s : Setup) (w x : List ℕ) (o v : ℕ) (t : Tables) → Placed s o v
     → t ≡ invalidated (tablesOf w x) o (getD w (at VOLUME-EPOCH + v) 0) (getD w (at VERSION + o) 0 + 1) (s .clients) → t ≡ withQueue (tablesOf w x) (notified s (tablesOf w x) o)
 unfolding notified tablesOf

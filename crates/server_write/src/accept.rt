@@ -1,4 +1,4 @@
-// A write accepted at the server (01, "Steps" 4, with the latest end of 02, A3): it stands, each INVALIDATE is sent, and it may complete.
+// Accepting a write at the server (01, "Steps" 4, with the latest end of 02, A3).
 ghost use mathlib.Core.Path.{_≡_};
 ghost use mathlib.Core.Bool.{true};
 ghost use Prim.Native.Nat.{_≤_, _<_};
@@ -18,7 +18,8 @@ use state_words::network;
 use state_words::pass;
 use state_words::server;
 
-// The write of `value` stands, with whom it waits for and its latest end: "the greatest of clock + m, guard, and, over the waiting dashes, .." (02, A3).
+// Opens the write of `value`: stores which clients it waits for and its latest end (02, A3), "the greatest of clock + m, guard, and, over the waiting
+// dashes, ..".
 fn begin(s: Setup, words: &mut Words, values: &mut Values, object: usize, value: u64)
     requires { ⌜ inRange s ≡ true ⌝ }
     requires { ⌜ tablesOf (now words) (now values) .clock ≤ 2147483647 ⌝ }
@@ -37,7 +38,8 @@ fn begin(s: Setup, words: &mut Words, values: &mut Values, object: usize, value:
     values[server::PENDING + object] = value;
 }
 
-// Step 4: the write stands, each INVALIDATE is sent, and it completes "if none waits and the clock is at or past guard". How many writes completed.
+// Accepts a write (step 4): opens it, sends each INVALIDATE and completes it "if none waits and the clock is at or past guard". Returns the number of
+// writes completed.
 pub fn accept_write(
     s: Setup,
     words: &mut Words,

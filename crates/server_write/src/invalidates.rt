@@ -1,4 +1,4 @@
-// The INVALIDATEs that a write sends to whom it waits for (01, "Steps" 4).
+// Sending an INVALIDATE to each client that a write waits for (01, "Steps" 4).
 ghost use mathlib.Core.Path.{_≡_};
 ghost use mathlib.Core.Bool.{true};
 ghost use Prim.Native.Nat.{_≤_, _<_};
@@ -17,7 +17,7 @@ use state_words::Values;
 use state_words::Words;
 use state_words::server;
 
-// "Send each INVALIDATE in dash order", with this epoch and new version, to those of the first n clients that are waited for.
+// Sends an INVALIDATE with this epoch and new version to those of the first n clients that the write waits for: "Send each INVALIDATE in dash order".
 fn invalidate(
     words: &mut Words,
     values: &mut Values,
@@ -54,7 +54,7 @@ fn invalidate(
     }
 }
 
-// To each client that the write of the object waits for.
+// Sends an INVALIDATE to each client that the object's write waits for. The new version is the one that the write will have once complete.
 pub fn notify(s: Setup, words: &mut Words, values: &mut Values, object: usize)
     requires { ⌜ inRange s ≡ true ⌝ }
     requires { ⌜ object < s .objects ⌝ }

@@ -1,3 +1,3 @@
-// A write accepted at the server (01, "Steps" 4), and the INVALIDATEs that it sends.
+// Accepting a write at the server (01, "Steps" 4), and sending its INVALIDATEs.
 pub mod accept;
 pub mod invalidates;
