@@ -1,4 +1,4 @@
--- The answers to the questions put together, of step x by the words w. y are the values, which none reads; k is the number of a "no".
+-- Combining the answers to the questions about step x, read from the words w. The values are y; k is the number of the first "no", or 0.
 use Prim.Native.Nat.{ℕ}
 use mathlib.Core.Bool.{Bool, true, false, _&&_}
 use mathlib.Core.List.{List}
@@ -12,7 +12,7 @@ use Rattle.protocol.specs.Gate.{known, exists, timely, vacant, growable, orRefu
 use Rattle.state_words.specs.View.{tablesOf, numbersOf}
 
 module _ (s : Setup) (w : List ℕ) (r : Request) (x : Step) where
-  -- the answers q to questions 2 to 6, put together
+  -- the answers q to questions 2 to 6, combined; none depends on the values
   pub questioned : (y : List ℕ) (q₂ q₃ q₄ q₅ q₆ : Bool) (k₆ k₅ k₄ k₃ k : ℕ) → q₂ ≡ known x → q₃ ≡ exists s (numbersOf w) x → q₄ ≡ timely (numbersOf w) x
       → q₅ ≡ vacant (numbersOf w) x → q₆ ≡ growable s (numbersOf w) r x → k₆ ≡ orRefuse q₆ 6 0 → k₅ ≡ orRefuse q₅ 5 k₆ → k₄ ≡ orRefuse q₄ 4 k₅ → k₃ ≡ orRefuse q₃ 3 k₄
       → k ≡ orRefuse q₂ 2 k₃ → k ≡ refusalOfStep s (tablesOf w y) r x

@@ -1,4 +1,4 @@
-// The questions at the gate, in order (01, "Questions at the gate"), of the tables in the words and values: the first "no" gives its number, and 0 is none.
+// The gate: asks its questions in order, about the tables in the words and values (01, "Questions at the gate").
 ghost use mathlib.Core.Path.{_≡_};
 ghost use Rattle.protocol.specs.Gate.{refusal};
 ghost use Rattle.state_words.specs.View.{tablesOf};
@@ -11,7 +11,8 @@ use state_words::Words;
 
 pub mod steps;
 
-// All six questions, for any input; `records` says whether all records are sound.
+// Returns the number of the first of the six questions whose answer is "no", or 0 if the step is accepted. Takes any input; `records` says whether all
+// client records are sound.
 pub fn refusal(
     s: Setup,
     words: &Words,

@@ -1,4 +1,4 @@
-// Questions 2 to 6 in order, once the setup is in range. They read no value.
+// Questions 2 to 6 in order, once the setup is in range. None of them reads the values.
 ghost use mathlib.Core.Bool.{true};
 ghost use mathlib.Core.Path.{_≡_};
 ghost use Rattle.protocol.specs.Setup.{inRange};
@@ -10,7 +10,7 @@ use protocol::step::Step;
 use state_words::Values;
 use state_words::Words;
 
-// The number where the answer is "no", else what the later questions give.
+// Returns `number` if the answer is "no", else the result of the later questions.
 pub fn or_refuse(ok: bool, number: u8, next: u8) -> u8
     ensures { λ r. ⌜ r ≡ orRefuse ok number next ⌝ }
 {
@@ -20,7 +20,7 @@ pub fn or_refuse(ok: bool, number: u8, next: u8) -> u8
     number
 }
 
-// Questions 2 ("Is the kind 1 to 9?") to 6: the number of the first "no". The values are lent for the contract alone, which speaks of whole tables.
+// Returns the number of the first "no" to questions 2 ("Is the kind 1 to 9?") to 6, or 0. Only the contract needs `values`: it is about whole tables.
 pub fn refusal_of_step(s: Setup, words: &Words, values: &Values, request: Request, step: Step) -> u8
     requires { ⌜ inRange s ≡ true ⌝ }
     ensures { λ r. ⌜ r ≡ refusalOfStep s (tablesOf (now (words .entry)) (now (values .entry))) request step ⌝ }

@@ -1,4 +1,4 @@
--- Question 1 of one message, by its kind.
+-- Question 1 for one message, kind by kind.
 use Prim.Native.Nat.{ℕ}
 use mathlib.Core.Bool.{_&&_}
 use mathlib.Core.Path.{_≡_}

@@ -1,2 +1,2 @@
-// Question 1 of one message, by value (01, "Questions at the gate").
+// Question 1 for one message, passed by value (01, "Questions at the gate").
 pub mod messages;

@@ -4,7 +4,7 @@ use protocol::message::Kind;
 use protocol::message::Message;
 use protocol::setup::Setup;
 
-// "named items existing", and a GRANT's expiries fit.
+// Returns whether the fields of this kind are sound: "named items existing", and a GRANT's expiries in range.
 fn kind_sound(s: Setup, kind: Kind) -> bool
     ensures { λ r. ⌜ r ≡ kindSound s kind ⌝ }
 {
@@ -49,6 +49,7 @@ fn kind_sound(s: Setup, kind: Kind) -> bool
     }
 }
 
+// Returns whether the message's client exists and the fields of its kind are sound.
 pub fn message_sound(s: Setup, message: Message) -> bool
     ensures { λ r. ⌜ r ≡ messageSound s message ⌝ }
 {

@@ -1,4 +1,4 @@
--- Question 6 of step x by the words w: what is read is what the tables say.
+-- Question 6 about step x: the answer read from the words w is that of the tables.
 use Prim.Native.Nat.{ℕ, _+_, _<_, _≤_}
 use native.Mathlib.Omega.{arith}
 use mathlib.Core.Bool.{Bool, true, not, _&&_, _||_}

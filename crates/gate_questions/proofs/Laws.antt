@@ -1,4 +1,4 @@
--- Questions 3 to 5 of step x by the words w: what each reads is what the tables say.
+-- Questions 3 to 5 about step x: the answers read from the words w are those of the tables.
 use Prim.Native.Nat.{_+_, _<_, _≤_, ℕ}
 use mathlib.Core.Bool.{Bool, true, not, _&&_, _||_}
 use mathlib.Core.List.{List}

@@ -1,4 +1,4 @@
-// Question 6 at the gate (01, "Questions at the gate"), of the tables in the words: what must grow can. It reads no value.
+// Question 6 at the gate (01, "Questions at the gate"): the numbers that the step increases can grow. Reads the words, not the values.
 ghost use mathlib.Core.Bool.{true, not, _||_};
 ghost use mathlib.Core.Path.{_≡_};
 ghost use Prim.Native.Nat.{ℕ, _≤_};
@@ -14,7 +14,8 @@ use protocol::step::Step;
 use state_words::Words;
 use state_words::server;
 
-// 6. "Is the version .. that must grow below 4,294,967,295?" An object that does not exist has version 0.
+// Returns whether the version that a write increases can grow: "Is the version .. that must grow below 4,294,967,295?" Other steps pass, and so does an
+// object that has no place in the words.
 fn version_grows(words: &Words, step: Step) -> bool
     ensures { λ r. ⌜ r ≡ (not (isWrite step) || canGrow (versionAt (numbersOf (now (words .entry))) (step .object))) ⌝ }
 {
@@ -25,7 +26,7 @@ fn version_grows(words: &Words, step: Step) -> bool
     true
 }
 
-// 6. ".. every epoch ..".
+// Returns whether the epochs of the first n volumes can all grow: ".. every epoch ..".
 fn epochs_grow(words: &Words, n: usize) -> bool
     requires { ⌜ n ≤ 8 ⌝ }
     ensures { λ r. ⌜ r ≡ allFrom (λ (v : ℕ). canGrow (epochAt (numbersOf (now (words .entry))) v)) 0 n ⌝ }
@@ -39,6 +40,7 @@ fn epochs_grow(words: &Words, n: usize) -> bool
     ok
 }
 
+// Answers question 6: a write increases a version, a server restart every epoch, an ask the client's next request number.
 pub fn growable(s: Setup, words: &Words, request: Request, step: Step) -> bool
     requires { ⌜ inRange s ≡ true ⌝ }
     ensures { λ r. ⌜ r ≡ growable s (numbersOf (now (words .entry))) request step ⌝ }

@@ -1,4 +1,4 @@
-// Questions 3 to 6 at the gate (01, "Questions at the gate"), of the tables in the words, once the setup is in range. They read no value.
+// Questions 3 to 6 at the gate (01, "Questions at the gate"), once the setup is in range. They read the words, not the values.
 pub mod growth;
 
 ghost use mathlib.Core.Path.{_≡_};
@@ -10,7 +10,7 @@ use state_words::Words;
 use state_words::network;
 use state_words::server;
 
-// 3. "Do the dash, object and place it uses exist?"
+// Answers question 3: "Do the dash, object and place it uses exist?"
 pub fn exists(s: Setup, words: &Words, step: Step) -> bool
     ensures { λ r. ⌜ r ≡ exists s (numbersOf (now (words .entry))) step ⌝ }
 {
@@ -19,7 +19,7 @@ pub fn exists(s: Setup, words: &Words, step: Step) -> bool
         & (!known_kinds::uses_place(step) | ((step.place as u32) < words[network::LENGTH]))
 }
 
-// 4. "Is T from the clock to 2,147,483,647?"
+// Answers question 4: "Is T from the clock to 2,147,483,647?" Steps other than clock steps pass.
 pub fn timely(words: &Words, step: Step) -> bool
     ensures { λ r. ⌜ r ≡ timely (numbersOf (now (words .entry))) step ⌝ }
 {
@@ -27,7 +27,7 @@ pub fn timely(words: &Words, step: Step) -> bool
         | ((words[network::CLOCK] <= step.clock) & (step.clock <= 2147483647))
 }
 
-// 5. "For a write, is none standing there?" An object that does not exist has none.
+// Answers question 5: "For a write, is none standing there?" Other steps pass, and so does an object that has no place in the words.
 pub fn vacant(words: &Words, step: Step) -> bool
     ensures { λ r. ⌜ r ≡ vacant (numbersOf (now (words .entry))) step ⌝ }
 {

@@ -1,4 +1,4 @@
--- An answer so far, and one more test.
+-- Adding one more test to the answer so far.
 use mathlib.Core.Bool.{Bool, true, false, _&&_}
 use mathlib.Core.Path.{_≡_, sym, _∙_}
 use Rattle.laws.specs.Choice.{and-yes}

@@ -1,8 +1,8 @@
--- How many records there are.
+-- The number of records fits in 64 bits.
 use Prim.Native.Nat.{ℕ, zero, suc, _*_, _^_, _≤_, _<_}
 use native.Mathlib.Omega.{arith}
 
--- it fits: two counts of 32 bits, multiplied
+-- the product of two 32-bit counts fits in 64 bits
 pub mul-fits : (a b : ℕ) → a < 4294967296 → b < 4294967296 → a * b < 2 ^ 64
 mul-fits a b h k = omega (arith, mul-most a b 4294967295 (omega arith))
   where

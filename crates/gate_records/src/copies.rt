@@ -6,14 +6,14 @@ ghost use Rattle.protocol.specs.Sound.{timeFits};
 use protocol::records::Copy;
 use protocol::setup::Setup;
 
-// "expiries .. at most 2,148,483,647".
+// Returns whether the copy's expiry is in range: "expiries .. at most 2,148,483,647".
 pub fn copy_sound(copy: Copy) -> bool
     ensures { λ r. ⌜ r ≡ timeFits (copy .expiry) ⌝ }
 {
     copy.expiry <= 2148483647
 }
 
-// "dash by dash in object order; another length is unsound"
+// Returns whether there is one copy for each client and object: "dash by dash in object order; another length is unsound".
 pub fn as_many(s: Setup, len: usize) -> bool
     ensures { λ r. ⌜ r ≡ eqb len (s .clients * s .objects) ⌝ }
 {
@@ -22,7 +22,7 @@ pub fn as_many(s: Setup, len: usize) -> bool
     len == clients * objects
 }
 
-// An answer so far, and one copy more.
+// Returns the answer so far, updated with one more copy.
 pub fn still_sound(ok: bool, c: Copy) -> bool
     ensures { λ r. ⌜ r ≡ (ok && timeFits (c .expiry)) ⌝ }
 {

@@ -5,14 +5,14 @@ ghost use Rattle.protocol.specs.Sound.{requestSound};
 use protocol::records::Request;
 use protocol::setup::Setup;
 
-// "next numbers at least 1", and the object of a standing request exists.
+// Returns whether the request is sound: "next numbers at least 1", and the object of a standing request exists.
 pub fn request_sound(s: Setup, request: Request) -> bool
     ensures { λ r. ⌜ r ≡ requestSound s request ⌝ }
 {
     (1 <= request.next) & (!request.standing | ((request.object as u32) < s.objects))
 }
 
-// One request a client; another length is unsound.
+// Returns whether there is one request for each client; another length is unsound.
 pub fn as_many(s: Setup, len: usize) -> bool
     ensures { λ r. ⌜ r ≡ eqb len (s .clients) ⌝ }
 {
@@ -20,7 +20,7 @@ pub fn as_many(s: Setup, len: usize) -> bool
     len == clients
 }
 
-// An answer so far, and one request more.
+// Returns the answer so far, updated with one more request.
 pub fn still_sound(ok: bool, r: Request, s: Setup) -> bool
     ensures { λ b. ⌜ b ≡ (ok && requestSound s r) ⌝ }
 {

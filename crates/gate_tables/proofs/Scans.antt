@@ -1,4 +1,4 @@
--- Question 1 by the words w and values x: what each pass reads of an item is what the tables say of it.
+-- Question 1 about the words w and values x: what each loop reads of an item is what the tables hold.
 use Prim.Native.Nat.{ℕ, _+_, _-_, _<_, _≤_}
 use native.Mathlib.Omega.{arith}
 use mathlib.Core.Bool.{Bool, false, _&&_, _||_}
@@ -57,7 +57,7 @@ module _ (s : Setup) (w x : List ℕ) where
   unfolding queueSound
   queue-short r h e = rw (length-word w x, le-leb _ _ h) e
 
-  -- the passes, put together: none reads a value
+  -- the answers of all loops combined; only the one about the message list depends on the values
   pub scanned : (volumes objects sessions holders queue : Bool) → volumes ≡ allFrom (volumeSound (numbersOf w)) 0 (s .volumes)
       → objects ≡ allFrom (objectSound (numbersOf w)) 0 (s .objects) → sessions ≡ allFrom (sessionsSound s (numbersOf w)) 0 (s .clients)
       → holders ≡ allFrom (holdersSound s (numbersOf w)) 0 (s .clients) → queue ≡ queueSound s (tablesOf w x .queue)

@@ -8,7 +8,7 @@ use state_words::Values;
 use state_words::Words;
 use state_words::network;
 
-// "at most 64 messages", each sound.
+// Returns whether the message list is sound: "at most 64 messages", each of them sound.
 pub fn queue_sound(s: Setup, words: &Words, values: &Values) -> bool
     ensures { λ r. ⌜ r ≡ queueSound s (tablesOf (now (words .entry)) (now (values .entry)) .queue) ⌝ }
 {

@@ -1,4 +1,4 @@
-// Question 1 of all tables and messages, once the setup is in range. Each pass goes over what exists, and has no branch.
+// Question 1 for all tables and messages, once the setup is in range. Each loop here covers only what exists, and its body has no branch.
 ghost use mathlib.Core.Bool.{true};
 ghost use mathlib.Core.Path.{_≡_};
 ghost use Prim.Native.Nat.{_<_, _≤_};
@@ -14,7 +14,7 @@ use state_words::client;
 use state_words::network;
 use state_words::server;
 
-// "server epochs .. at least 1", VE and guard.
+// Returns whether the first n volumes are sound: "server epochs .. at least 1", VE and guard in range.
 fn volumes_fit(words: &Words, n: usize) -> bool
     requires { ⌜ n ≤ 8 ⌝ }
     ensures { λ r. ⌜ r ≡ allFrom (volumeSound (numbersOf (now (words .entry)))) 0 n ⌝ }
@@ -31,7 +31,8 @@ fn volumes_fit(words: &Words, n: usize) -> bool
     ok
 }
 
-// Versions at least 1, OE, the latest end, and "a version with a standing write below 4,294,967,295".
+// Returns whether the first n objects are sound: versions at least 1, OEs and the latest ends of standing writes in range, and "a version with a
+// standing write below 4,294,967,295".
 fn objects_fit(words: &Words, n: usize) -> bool
     requires { ⌜ n ≤ 32 ⌝ }
     ensures { λ r. ⌜ r ≡ allFrom (objectSound (numbersOf (now (words .entry)))) 0 n ⌝ }
@@ -49,7 +50,7 @@ fn objects_fit(words: &Words, n: usize) -> bool
     ok
 }
 
-// One client's volume leases, at the server and at the client.
+// Returns whether the expiries of one client's volume leases are in range, both at the server and at the client.
 fn sessions_fit(words: &Words, client: usize, n: usize) -> bool
     requires { ⌜ client < 16 ⌝ }
     requires { ⌜ n ≤ 8 ⌝ }
@@ -66,7 +67,7 @@ fn sessions_fit(words: &Words, client: usize, n: usize) -> bool
     ok
 }
 
-// One client's object leases at the server.
+// Returns whether the expiries of one client's object leases at the server are in range.
 fn holders_fit(words: &Words, client: usize, n: usize) -> bool
     requires { ⌜ client < 16 ⌝ }
     requires { ⌜ n ≤ 32 ⌝ }
@@ -81,6 +82,7 @@ fn holders_fit(words: &Words, client: usize, n: usize) -> bool
     ok
 }
 
+// Returns whether the volume leases of all clients are in range.
 fn all_sessions_fit(s: Setup, words: &Words) -> bool
     requires { ⌜ inRange s ≡ true ⌝ }
     ensures { λ r. ⌜ r ≡ allFrom (sessionsSound s (numbersOf (now (words .entry)))) 0 (s .clients) ⌝ }
@@ -95,6 +97,7 @@ fn all_sessions_fit(s: Setup, words: &Words) -> bool
     ok
 }
 
+// Returns whether the object leases of all clients are in range.
 fn all_holders_fit(s: Setup, words: &Words) -> bool
     requires { ⌜ inRange s ≡ true ⌝ }
     ensures { λ r. ⌜ r ≡ allFrom (holdersSound s (numbersOf (now (words .entry)))) 0 (s .clients) ⌝ }
@@ -109,6 +112,7 @@ fn all_holders_fit(s: Setup, words: &Words) -> bool
     ok
 }
 
+// Answers question 1 for the tables and the message list. The setup and the client records are checked elsewhere.
 pub fn tables_sound(s: Setup, words: &Words, values: &Values) -> bool
     requires { ⌜ inRange s ≡ true ⌝ }
     ensures { λ r. ⌜ r ≡ tablesSound s (tablesOf (now (words .entry)) (now (values .entry))) ⌝ }

@@ -1,4 +1,4 @@
--- Rattle proves this by itself; the file is here so that a must-fail edit is refused at the fact that fails.
+-- Rattle needs no help with this proof. The file is here so that a must-fail edit is refused at the fact that fails.
 use borrow.Author.Needs.{needs}
 use Rattle.gate_records.proofs.both.Statement.{statement}
 use Rattle.gate_records.proofs.both.Tie as tie
