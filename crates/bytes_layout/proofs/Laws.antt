@@ -1,4 +1,4 @@
--- The numbers and stores of straight-line code are those of the definitions.
+-- The code's reads and stores, byte by byte, agree with the definitions.
 use Prim.Native.Nat.{ℕ, suc, _+_, _*_, _/_, _%_}
 use native.Mathlib.Omega.{arith}
 use mathlib.Core.List.{List}
@@ -7,7 +7,7 @@ use lib.ListN.{getD, set, length-set}
 use lib.Seq.{sets}
 use Rattle.bytes_layout.specs.Number.{littleEndian, bytesOf, bytesAt, numberAt, fourBytes, Stored}
 
--- the places after p, as the code counts them and as the definitions do
+-- the offsets after p, as the definitions count them and as the code does
 two : (p : ℕ) → p + 1 + 1 ≡ p + 2
 two p = omega arith
 
@@ -25,7 +25,7 @@ module _ (l : List ℕ) (p : ℕ) where
       let k : p + 1 + 1 + 1 + 1 ≡ p + 4 = omega arith in
       rw (k, g, e, f) (omega arith)
 
--- what four stores leave
+-- four stores of one byte are one store of four
 pub store-four : (l : List ℕ) (p a b c d : ℕ) → Stored l (set (set (set (set l p a) (p + 1) b) (p + 2) c) (p + 3) d) p (fourBytes a b c d)
 store-four l p a b c d =
     let i : p + 1 ≡ suc p = omega arith in
@@ -33,7 +33,7 @@ store-four l p a b c d =
     let k : p + 3 ≡ suc (suc (suc p)) = omega arith in
     record { stored = rw (i, j, k); long = simp length-set }
 
--- and where each is the byte that the code computed
+-- .. and a store of a number, if each is the byte that the code computes
 pub store-number : (l m : List ℕ) (p x a b c d : ℕ) → a ≡ x % 256 → b ≡ x / 256 % 256 → c ≡ x / 65536 % 256 → d ≡ x / 16777216 % 256
     → Stored l m p (fourBytes a b c d) → Stored l m p (bytesOf 4 x)
 unfolding bytesOf
@@ -42,11 +42,11 @@ store-number l m p x a b c d e f g h s =
     let w : x / 65536 / 256 ≡ x / 16777216 = omega arith in
     record { stored = s .stored ∙ rw (e, f, g, h, v, w); long = s .long }
 
--- a higher part leaves the lowest byte, and moves down with the others
+-- adding 256 * k keeps the lowest byte and adds k to the rest
 byte : (x y k : ℕ) → x ≡ y + 256 * k → (x % 256 ≡ y % 256) × (x / 256 ≡ y / 256 + k)
 byte x y k e = (omega arith, omega arith)
 
--- eight bytes are the four of the lower half and the four of the upper
+-- a number's eight bytes are the four of its lower half, then the four of its upper half
 halves : (l : List ℕ) (p x : ℕ) → sets (sets l p (bytesOf 4 (x % 4294967296))) (p + 4) (bytesOf 4 (x / 4294967296)) ≡ sets l p (bytesOf 8 x)
 unfolding bytesOf
 halves l p x =

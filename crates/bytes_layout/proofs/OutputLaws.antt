@@ -1,4 +1,4 @@
--- Bytes copied one after the other.
+-- The loop of `write_bytes`: after one more byte, and after the last one.
 use Prim.Native.Nat.{ℕ, suc, _+_, _<_, _≤_}
 use native.Mathlib.Numerals.{add-one}
 use native.Mathlib.Omega.{arith}

@@ -1,5 +1,5 @@
--- A call that writes bytes to the start of a lent output, or is refused and leaves it as it was: "the first "no" gives its number, nothing else, and every
--- lent table and buffer is unchanged".
+-- Calls that write bytes to the start of a lent output, or are refused and leave it unchanged: "the first "no" gives its number, nothing else, and
+-- every lent table and buffer is unchanged".
 use Prim.Native.Nat.{ℕ}
 use native.Mathlib.Omega.{arith}
 use mathlib.Core.Bool.{false, cond}
@@ -13,25 +13,25 @@ use Rattle.laws.specs.Choice.{true-or-false}
 use Rattle.bytes_layout.specs.declared.output.Report.{Report}
 use Rattle.bytes_layout.specs.declared.output.Report.the-variants.{Written, Refused}
 
--- the number of the answer in 01 or 02: 0 where the bytes were written
+-- the number of the answer in 01 or 02: 0 if the bytes were written, else the refusal
 abbrev pub reportNumber : Report → ℕ
 reportNumber (Written n) = 0
 reportNumber (Refused k) = k
 
--- how many bytes were written
+-- the number of bytes written, 0 for a refusal
 abbrev pub reportLength : Report → ℕ
 reportLength (Written n) = n
 reportLength (Refused k) = 0
 
--- the answer of a call that writes n bytes unless this number refuses it, 0 for none
+-- the report of a call that writes n bytes if `refusal` is 0, and is otherwise refused with that number
 unfoldable pub reportOf : ℕ → ℕ → Report
 reportOf refusal n = cond (eqb refusal 0) (Written n) (Refused refusal)
 
--- what such a call writes
+-- the bytes that the call writes: none if it is refused
 unfoldable pub unlessRefused : ℕ → List ℕ → List ℕ
 unlessRefused refusal b = cond (eqb refusal 0) b []
 
--- what a call answers that writes b unless it is refused, and what it leaves of the output
+-- the report r of a call that writes b unless it is refused, and the output before and after it
 pub record Reports (refusal : ℕ) (b before after : List ℕ) (r : Report) : Type 0 where
   pub answer : r ≡ reportOf refusal (length b)
   pub number : reportNumber r ≡ refusal
@@ -39,7 +39,7 @@ pub record Reports (refusal : ℕ) (b before after : List ℕ) (r : Report) : Ty
   pub bytes : after ≡ sets before 0 (unlessRefused refusal b)
 
 module _ (refusal : ℕ) (b before : List ℕ) where
-  -- ---- what each way through such a call comes to
+  -- ---- the two ways through the call: everything is written, or nothing is
   pub all-written : (after : List ℕ) → refusal ≡ 0 → after ≡ sets before 0 b → Reports refusal b before after (Written (length b))
   unfolding reportOf unlessRefused
   all-written after e f = record { answer = rw e; number = sym e; long = rw e; bytes = rw e f }
@@ -48,7 +48,7 @@ module _ (refusal : ℕ) (b before : List ℕ) where
   unfolding reportOf unlessRefused
   none-written k e f = record { answer = rw (e, f); number = sym e; long = rw (e, f); bytes = rw (e, f) }
 
-  -- ---- and what its caller goes by
+  -- ---- what the caller learns from the report
   module _ (after : List ℕ) (r : Report) (d : Reports refusal b before after r) where
     pub written-all : (n : ℕ) → r ≡ Written n → (refusal ≡ 0) × ((n ≡ length b) × (after ≡ sets before 0 b))
     unfolding reportOf unlessRefused

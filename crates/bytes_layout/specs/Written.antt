@@ -1,4 +1,4 @@
--- Bytes written one after the other into a lent output.
+-- Writing bytes to a lent output in order.
 use Prim.Native.Nat.{ℕ, suc, _+_, _≤_}
 use native.Mathlib.Omega.{arith}
 use mathlib.Core.List.{List, [], _∷_, _++_}
@@ -7,7 +7,7 @@ use lib.ListN.{length, set, length-append}
 use lib.Seq.{sets, set-comm}
 use Rattle.bytes_layout.specs.Number.{Stored, stored-then}
 
--- m is l with the bytes b at place p, and r is the place after them
+-- m is l with the bytes b stored at offset p, and r is the offset after them
 pub record Written (l m : List ℕ) (p : ℕ) (b : List ℕ) (r : ℕ) : Type 0 where
   pub next : r ≡ p + length b
   pub bytes : Stored l m p b
@@ -18,7 +18,7 @@ written-then l m r p q e a b f g = record {
   bytes = stored-then l m r p q a b (f .bytes) (g .bytes) (sym (f .next));
 }
 
--- a store past bytes written can come first
+-- a store past the written bytes can be moved before them
 pub sets-past : (l : List ℕ) (p q d : ℕ) (b : List ℕ) → p + length b ≤ q → sets (set l q d) p b ≡ set (sets l p b) q d
 sets-past l p q d [] h = refl
 sets-past l p q d (x ∷ b) h =

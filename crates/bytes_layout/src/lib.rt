@@ -1,4 +1,5 @@
-// Numbers of 4 and 8 bytes, the lowest byte first (01, "Frame, run file and listing"), and bytes in a lent output. Callers see to it that there is room.
+// Reads and writes little-endian numbers of 4 and 8 bytes (01, "Frame, run file and listing"), and copies bytes to a lent output. Callers ensure that
+// there is room.
 pub mod output;
 
 ghost use Prim.Native.Nat.{_+_, _*_, _/_, _%_, _≤_};
@@ -6,7 +7,7 @@ ghost use mathlib.Core.Path.{_≡_};
 ghost use lib.ListN.{length};
 ghost use Rattle.bytes_layout.specs.Number.{numberAt, bytesOf, fourBytes, Stored};
 
-// The number that four bytes make.
+// Joins four bytes into a number, lowest byte first.
 fn join(a: u8, b: u8, c: u8, d: u8) -> u32
     ensures { λ r. ⌜ r ≡ a + 256 * (b + 256 * (c + 256 * d)) ⌝ }
 {

@@ -1,5 +1,5 @@
-// Which fields a step uses, by its kind (01, "Steps"). The gate asks of the fields that are used, the reader of run files of the others,
-// and neither is above the other: so it stands in a crate below both.
+// Tells which fields a step uses, by its kind (01, "Steps"). The gate checks the fields that are used, and the reader of run files the others. Neither
+// depends on the other, so this is a crate below both.
 ghost use mathlib.Core.Path.{_≡_};
 ghost use Rattle.protocol.specs.Gate.{isClock, isWrite, usesClient, usesObject, usesPlace, known};
 use protocol::step::Step;
@@ -29,13 +29,14 @@ pub fn uses_place(step: Step) -> bool
     (step.kind == 5) | (step.kind == 6) | (step.kind == 7)
 }
 
-// The clock is a clock step's alone, the value a write's.
+// Returns whether this is a clock step; no other step uses the clock.
 pub fn uses_clock(step: Step) -> bool
     ensures { λ r. ⌜ r ≡ isClock step ⌝ }
 {
     step.kind == 1
 }
 
+// Returns whether this is a write; no other step uses the value.
 pub fn uses_value(step: Step) -> bool
     ensures { λ r. ⌜ r ≡ isWrite step ⌝ }
 {

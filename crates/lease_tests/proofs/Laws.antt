@@ -1,4 +1,4 @@
--- What is known of an object's volume.
+-- In a setup in range, every object has a volume within the bounds.
 use Prim.Native.Nat.{ℕ, _<_}
 use native.Mathlib.Omega.{arith}
 use mathlib.Core.Bool.{true}

@@ -1,4 +1,4 @@
--- Where an object's tables are, the tests of time and a turn of the latest end, by the numbers that they read.
+-- An object's volume, the tests against the clock and one client's part in the latest end, as functions of the numbers that they read.
 use Prim.Native.Nat.{ℕ, min, max, _<_, _≤_}
 use mathlib.Core.Bool.{Bool, cond, not, _&&_, _||_}
 use mathlib.Core.Path.{_≡_}
@@ -6,7 +6,7 @@ use Rattle.protocol.specs.declared.setup.Setup.{Setup}
 use Rattle.protocol.specs.Setup.{volumeOf}
 use Rattle.protocol.specs.Leases.{serverAlive}
 
--- what an object's volume is known to be, and the bounds that come with it
+-- v is the volume of object o, with the bounds that hold for a setup in range
 pub record Placed (s : Setup) (o v : ℕ) : Type 0 where
   pub is : v ≡ volumeOf s o
   pub exists : v < s .volumes
@@ -15,10 +15,10 @@ pub record Placed (s : Setup) (o v : ℕ) : Type 0 where
   pub clients : s .clients ≤ 16
   pub objects : s .objects ≤ 32
 
--- `waits`, by the numbers that it reads
+-- `waits` as a function of the numbers that it reads
 abbrev pub waitsBy : ℕ → ℕ → Bool → ℕ → Bool
 waitsBy clock lease unreachable expiry = serverAlive clock lease && (not unreachable || serverAlive clock expiry)
 
--- one client's turn in `latestEnd`, likewise
+-- one client's part in `latestEnd`, likewise
 abbrev pub outlastBy : ℕ → Bool → ℕ → ℕ → ℕ
 outlastBy end waiting volume object = cond waiting (max end (min volume object)) end

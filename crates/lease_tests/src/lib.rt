@@ -1,3 +1,3 @@
-// The tests of time, and the volume of an object.
+// Compares leases, guards and latest ends with the clock, and looks up an object's volume.
 pub mod place;
 pub mod time;

@@ -1,4 +1,4 @@
-// The tests of time, and a turn of the latest end.
+// Compares leases, guards and latest ends with the clock, and computes the latest end client by client.
 ghost use mathlib.Core.Path.{_≡_};
 ghost use mathlib.Core.Bool.{not};
 ghost use Prim.Native.Nat.{min, max};
@@ -26,7 +26,7 @@ pub fn end_over(clock: u32, end: u32) -> bool
     end < clock
 }
 
-// "object lease is alive and which either are not marked unreachable or have a live volume lease"
+// Returns whether a write waits for a client: "object lease is alive and which either are not marked unreachable or have a live volume lease".
 pub fn waits(clock: u32, object_lease: u32, unreachable: bool, volume_lease: u32) -> bool
     ensures { λ r. ⌜ r ≡ waitsBy clock «object_lease» unreachable «volume_lease» ⌝ }
 {
@@ -53,7 +53,7 @@ fn smaller(a: u32, b: u32) -> u32
     b
 }
 
-// A turn of the latest end (02, A3): "over the waiting dashes, the lesser of that dash's volume and object expiry", where that is later than `end`.
+// Extends the latest end by one client (02, A3): "over the waiting dashes, the lesser of that dash's volume and object expiry", if that is later.
 pub fn outlast(end: u32, waiting: bool, volume_lease: u32, object_lease: u32) -> u32
     ensures { λ r. ⌜ r ≡ outlastBy end waiting «volume_lease» «object_lease» ⌝ }
 {

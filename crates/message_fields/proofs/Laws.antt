@@ -1,4 +1,4 @@
--- What each way through a function found, put together.
+-- One lemma for each path through a function: the facts found along the path give its contract.
 use Prim.Native.Nat.{ℕ}
 use mathlib.Core.Bool.{Bool, true, false, _&&_, _||_}
 use mathlib.Core.Path.{_≡_}

@@ -1,4 +1,4 @@
--- 01, "Frame, run file and listing": the fields of a message by its kind, and the message of fields.
+-- 01, "Frame, run file and listing": the fields of a message by its kind, and the message with given fields.
 use Prim.Native.Nat.{ℕ}
 use mathlib.Core.Bool.{Bool, cond, _&&_}
 use lib.Dec.{eqb}
@@ -13,8 +13,8 @@ use Rattle.message_fields.specs.declared.Fields.{Fields}
 abbrev pub row : ℕ → ℕ → ℕ → ℕ → ℕ → ℕ → ℕ → ℕ → ℕ → ℕ → Fields
 row k d o p n x e w y v = record { kind = k; client = d; object = o; present = p; number = n; «volume_expiry» = x; epoch = e; version = w; «object_expiry» = y; value = v }
 
--- "RENEW has object, number, epoch and version; GRANT every field; INVALIDATE and ACK object, epoch and version; OFFER and DROPPED volume, number and epoch.
--- Fields a kind lacks are 0. A GRANT without value has value 0."
+-- "RENEW has object, number, epoch and version; GRANT every field; INVALIDATE and ACK object, epoch and version; OFFER and DROPPED volume, number and
+-- epoch. Fields a kind lacks are 0. A GRANT without value has value 0."
 --   kind client object present number volume-expiry epoch version object-expiry value
 unfoldable pub kindFields : ℕ → Kind → Fields
 kindFields d (Renew o n e w) = row 1 d o 0 n 0 e w 0 0
@@ -28,7 +28,7 @@ kindFields d (Dropped v n e) = row 6 d v 0 n 0 e 0 0 0
 abbrev pub fieldsOf : Message → Fields
 fieldsOf m = kindFields (m .client) (m .kind)
 
--- the message that these fields would be, whatever stands in those that its kind lacks
+-- the message with these fields, ignoring those that its kind lacks
 abbrev pub payloadIn : Fields → Payload
 payloadIn f = cond (eqb (f .present) 0) Same (Value (f .value))
 
@@ -56,6 +56,6 @@ same a b =
     && eqb (a .«object_expiry») (b .«object_expiry»)
     && eqb (a .value) (b .value)
 
--- Kind, value present and zero fields are right exactly where that message has these fields; `Questions` writes that out, kind by kind, and `Round` shows what follows from it
+-- Fields are sound if the message read from them has exactly these fields. `Questions` spells that out kind by kind, and `Round` shows what follows.
 abbrev pub sound : Fields → Bool
 sound f = same (fieldsOf (messageIn f)) f

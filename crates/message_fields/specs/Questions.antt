@@ -1,4 +1,4 @@
--- The test of a frame's fields is 01's, written out: "kind, value present and zero fields right?"
+-- The test of a frame's fields is the question of 01, spelled out: "kind, value present and zero fields right?"
 use Prim.Native.Nat.{ℕ}
 use native.Mathlib.Decide.{ℕ-discrete}
 use mathlib.Core.Bool.{Bool, true, false, cond, _&&_, _||_, and-true, and-false}
@@ -14,15 +14,15 @@ use Rattle.message_fields.specs.Fields.{row, kindFields, kindIn, same, s
 abbrev pub none : ℕ → Bool
 none n = eqb 0 n
 
--- a GRANT's value is marked by 1, or it is 0 and the mark too
+-- a GRANT's value flag is 1, or flag and value are both 0
 abbrev pub payloadRight : Fields → Bool
 payloadRight f = cond (eqb (f .present) 0) (none (f .value)) (eqb 1 (f .present))
 
--- the fields that a GRANT alone has are 0
+-- the fields that only a GRANT has are 0
 abbrev pub noLease : Fields → Bool
 noLease f = none (f .present) && none (f .«volume_expiry») && none (f .«object_expiry») && none (f .value)
 
--- what each kind lacks is 0; there is no other kind
+-- the fields that a kind lacks are 0; no other kind is right
 unfoldable pub right : Fields → Bool
 right f =
     cond (eqb (f .kind) 1) (noLease f)
@@ -33,7 +33,7 @@ right f =
 self : (n : ℕ) → eqb n n ≡ true
 self n = eq-eqb n n refl
 
--- a test may be asked after the next one, two or three
+-- a test may move past the next one, two or three
 past-one : (a b c : Bool) → (a && b && c) ≡ (a && c && b)
 past-one true true c = sym (and-true c)
 past-one true false c = sym (and-false c)
@@ -106,6 +106,6 @@ module _ (d o p n x e w y v : ℕ) where
       pick (no a) (no b) (no c) (no f) (no g) (yes h) = at 6 h dropped
       pick (no a) (no b) (no c) (no f) (no g) (no h) = other k a b c f g h
 
--- So a frame is accepted exactly where its fields are right.
+-- So a frame is accepted exactly when its fields are right.
 pub asked : (f : Fields) → sound f ≡ right f
 asked f = each (f .client) (f .object) (f .present) (f .number) (f .«volume_expiry») (f .epoch) (f .version) (f .«object_expiry») (f .value) (f .kind)

@@ -1,4 +1,4 @@
--- A message's fields are those of no other message.
+-- A message can be read back from its fields, so no two messages have the same fields.
 use Prim.Native.Nat.{ℕ}
 use mathlib.Core.Bool.{true}
 use mathlib.Core.Path.{_≡_, refl, ap, _∙_}
@@ -39,11 +39,11 @@ unfolding same
 same-self f =
     rw (eq-eqb (f .kind) _ refl, eq-eqb (f .client) _ refl, eq-eqb (f .object) _ refl, eq-eqb (f .present) _ refl, eq-eqb (f .number) _ refl, eq-eqb (f .«volume_expiry») _ refl, eq-eqb (f .epoch) _ refl, eq-eqb (f .version) _ refl, eq-eqb (f .«object_expiry») _ refl, eq-eqb (f .value) _ refl)
 
--- so a message's fields are right
+-- so the fields of every message are sound
 pub message-sound : (m : Message) → sound (fieldsOf m) ≡ true
 message-sound m = ap (λ (n : Message). same (fieldsOf n) (fieldsOf m)) (message-back m) ∙ same-self (fieldsOf m)
 
--- fields that pass the test of sameness are the same
+-- fields for which `same` holds are equal
 pub same-true : (f g : Fields) → same f g ≡ true → f ≡ g
 unfolding same
 same-true f g e =

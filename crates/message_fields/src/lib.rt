@@ -1,4 +1,4 @@
-// A message's fields as numbers, by its kind, and the message that they are.
+// Converts a message to its fields as numbers, by its kind, and back.
 ghost use mathlib.Core.Path.{_≡_};
 ghost use Rattle.protocol.specs.declared.message.Kind.the-variants.{Grant};
 ghost use Rattle.message_fields.specs.Fields.{row, kindFields, fieldsOf, payloadIn, kindIn, messageIn, same, sound};
@@ -7,13 +7,13 @@ use protocol::message::Kind;
 use protocol::message::Message;
 use protocol::message::Payload;
 
-// All ten, in the frame's order: a field that a message's kind lacks is 0.
+// Holds all ten fields in the frame's order. In a message, fields that its kind lacks are 0.
 pub struct Fields {
     pub kind: u8,
     pub client: u8,
-    // the volume of an OFFER or a DROPPED
+    // the volume in an OFFER or a DROPPED
     pub object: u8,
-    // whether a GRANT has a value
+    // 1 if a GRANT has a value, else 0
     pub present: u8,
     pub number: u32,
     pub volume_expiry: u32,
@@ -23,7 +23,7 @@ pub struct Fields {
     pub value: u64,
 }
 
-// "Fields a kind lacks are 0": the other four are a GRANT's.
+// Builds fields without the four that only a GRANT has: "Fields a kind lacks are 0".
 fn without_lease(kind: u8, client: u8, object: u8, number: u32, epoch: u32, version: u32) -> Fields
     ensures { λ r. ⌜ r ≡ row kind client object 0 number 0 epoch version 0 0 ⌝ }
 {
@@ -41,7 +41,7 @@ fn without_lease(kind: u8, client: u8, object: u8, number: u32, epoch: u32, vers
     }
 }
 
-// The GRANT with these four too: "A GRANT without value has value 0."
+// Adds a GRANT's own four fields: "A GRANT without value has value 0."
 fn with_lease(f: Fields, volume_expiry: u32, object_expiry: u32, payload: Payload) -> Fields
     ensures { λ r. ⌜ r ≡ kindFields (f .client) (Grant (f .object) (f .number) «volume_expiry» (f .epoch) (f .version) «object_expiry» payload) ⌝ }
 {
@@ -148,6 +148,7 @@ fn grant_in(f: Fields) -> Kind
     }
 }
 
+// Returns the kind with these fields. Unknown kind numbers read as RENEW; `sound` rejects them.
 fn kind_in(f: Fields) -> Kind
     ensures { λ r. ⌜ r ≡ kindIn f ⌝ }
 {
@@ -190,7 +191,7 @@ fn kind_in(f: Fields) -> Kind
     }
 }
 
-// The message that these fields would be, whatever stands in those that its kind lacks.
+// Returns the message with these fields, ignoring those that its kind lacks.
 pub fn message_in(f: Fields) -> Message
     ensures { λ r. ⌜ r ≡ messageIn f ⌝ }
 {
@@ -214,6 +215,7 @@ pub fn same(a: Fields, b: Fields) -> bool
     times & (a.version == b.version) & (a.object_expiry == b.object_expiry) & (a.value == b.value)
 }
 
+// Returns whether a GRANT's value flag is right: 1, or 0 with value 0.
 fn payload_right(f: Fields) -> bool
     ensures { λ r. ⌜ r ≡ payloadRight f ⌝ }
 {
@@ -223,14 +225,14 @@ fn payload_right(f: Fields) -> bool
     1 == f.present
 }
 
-// Whether the fields that a GRANT alone has are 0.
+// Returns whether the fields that only a GRANT has are 0.
 fn no_lease(f: Fields) -> bool
     ensures { λ r. ⌜ r ≡ noLease f ⌝ }
 {
     (0 == f.present) & (0 == f.volume_expiry) & (0 == f.object_expiry) & (0 == f.value)
 }
 
-// Whether these are the fields of a message: the kind is one, and what it lacks is 0.
+// Returns whether these are the fields of a message: the kind is known, the fields that it lacks are 0, and a GRANT's value flag is right.
 pub fn sound(f: Fields) -> bool
     ensures { λ r. ⌜ r ≡ sound f ⌝ }
 {

@@ -3,7 +3,7 @@ ghost use Rattle.protocol.specs.Tables.{freshRequest, noCopy};
 use protocol::records::Copy;
 use protocol::records::Request;
 
-// A client's copy before anything was granted: none.
+// Returns a client's copy before the first grant: no copy.
 pub fn fresh_copy() -> Copy
     ensures { λ r. ⌜ r ≡ noCopy ⌝ }
 {
@@ -14,7 +14,7 @@ pub fn fresh_copy() -> Copy
     }
 }
 
-// A client's counter and request before it asked for anything.
+// Returns a client's request record before it has asked for anything: no standing request, and the next number is 1.
 pub fn fresh_request() -> Request
     ensures { λ r. ⌜ r ≡ freshRequest ⌝ }
 {

@@ -1,4 +1,4 @@
-// A setup in range, and fresh records (01, "Tables").
+// Checks that a setup is in range, and makes fresh records (01, "Tables").
 pub mod fresh;
 
 ghost use Prim.Native.Nat.{_<_};
@@ -15,7 +15,7 @@ fn between(low: u32, high: u32, n: u32) -> bool
     (low <= n) & (n <= high)
 }
 
-// An object's volume exists, and a slot past the objects holds 0.
+// Returns whether slot `o` may hold volume `v`: an object's volume exists, and a slot past the last object holds 0.
 fn volume_fits(o: usize, v: u8, objects: u32, volumes: u32) -> bool
     ensures { λ r. ⌜ r ≡ cond (ltb o objects) (ltb v volumes) (eqb v 0) ⌝ }
 {
@@ -25,6 +25,7 @@ fn volume_fits(o: usize, v: u8, objects: u32, volumes: u32) -> bool
     v == 0
 }
 
+// Checks all 32 slots.
 fn volumes_fit(s: Setup) -> bool
     ensures { λ r. ⌜ r ≡ allFrom (volumeFits s) 0 32 ⌝ }
 {
@@ -37,7 +38,7 @@ fn volumes_fit(s: Setup) -> bool
     ok
 }
 
-// Whether the setup is in range, whatever it holds.
+// Returns whether the setup is in range. Accepts any input.
 pub fn in_range(s: Setup) -> bool
     ensures { λ r. ⌜ r ≡ inRange s ⌝ }
 {

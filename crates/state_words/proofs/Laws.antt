@@ -1,4 +1,4 @@
--- Fresh words and values are fresh tables and fresh records.
+-- Fresh words and values hold fresh tables and fresh records.
 use Prim.Native.Nat.{ℕ, _+_, _≤_}
 use native.Mathlib.Omega.{arith}
 use mathlib.Core.Bool.{Bool, true, false, cond}
@@ -31,7 +31,7 @@ no-requests n =
     tabulate-one (requestAt (replicate n 1) (replicate n 0) (replicate n 0) (replicate n 0)) freshRequest 0 n
     (λ j a b. rw (replicate-at {A = ℕ} n j 0, getD-replicate {A = ℕ} n j 1 0 (omega arith)))
 
--- w and x hold nothing but 0; epochs, versions and next numbers are filled in then
+-- w and x are all 0 at first; then epochs, versions and next request numbers are filled in
 module _ (w x a b c : List ℕ) (l : length w ≡ WORDS)
     (none : (k : ℕ) → start wordLengths k + size wordLengths k ≤ WORDS → parts wordLengths w k ≡ replicate (size wordLengths k) 0)
     (empty : (k : ℕ) → start valueLengths k + size valueLengths k ≤ VALUES → parts valueLengths x k ≡ replicate (size valueLengths k) 0)
@@ -55,13 +55,13 @@ pub fresh-filled : (a b c : List ℕ) → a ≡ filling (at VOLUME-EPOCH) 8 1 (r
 fresh-filled a b c e f g =
     (tables-filled (replicate WORDS 0) (replicate VALUES 0) a b c (length-replicate {A = ℕ} WORDS 0) (part-replicate wordLengths WORDS 0) (part-replicate valueLengths VALUES 0) e f g, records-filled (replicate WORDS 0) (replicate VALUES 0) a b c (length-replicate {A = ℕ} WORDS 0) (part-replicate wordLengths WORDS 0) (part-replicate valueLengths VALUES 0) e f g)
 
--- ---- for a setup: w and x become v and y, and the answer is n
+-- ---- `fresh_for`: w and x become v and y, and n is returned
 abbrev Answers : Setup → List ℕ → List ℕ → List ℕ → List ℕ → ℕ → Type 0
 Answers s w x v y n =
     (n ≡ cond (inRange s) 0 7)
     × ((inRange s ≡ true → (tablesOf v y ≡ freshTables) × (recordsOf v y ≡ freshRecords)) × (inRange s ≡ false → (v ≡ w) × (y ≡ x)))
 
--- b is what `in_range` answered
+-- b is the result of `in_range`
 module _ (s : Setup) (b : Bool) (h : b ≡ inRange s) (w x : List ℕ) where
   pub fresh-yes : (v y : List ℕ) → b ≡ true → (tablesOf v y ≡ freshTables) × (recordsOf v y ≡ freshRecords) → Answers s w x v y 0
   fresh-yes v y a f = (rw (← h, a), ((λ i. f), (λ i. not-both a (h ∙ i))))

@@ -1,9 +1,9 @@
--- Where each field stands in the words and in the values: its number, and by the tables of lengths where it starts.
+-- The fields in the words and in the values: each has a number, and the lengths of those before it give its offset.
 use Prim.Native.Nat.{ℕ}
 use mathlib.Core.List.{List, [], _∷_}
 use Rattle.laws.specs.Parts.{start}
 
--- the fields' lengths, in the order of their numbers: a new field goes at the end of its side
+-- the fields' lengths, in the order of their numbers; a new field goes at the end of its side (network, server, clients)
 abbrev pub wordLengths : List ℕ
 wordLengths =
     1 ∷ 1 ∷ 576
@@ -23,7 +23,7 @@ LENGTH = 1
 abbrev pub MESSAGES : ℕ
 MESSAGES = 2
 
--- the server's
+-- the server's words
 abbrev pub VOLUME-EPOCH : ℕ
 VOLUME-EPOCH = 3
 
@@ -63,7 +63,7 @@ LEASE = 14
 abbrev pub WAITING : ℕ
 WAITING = 15
 
--- the clients'
+-- the clients' words
 abbrev pub VIEW-EPOCH : ℕ
 VIEW-EPOCH = 16
 
@@ -88,7 +88,7 @@ REQUEST-NUMBER = 22
 abbrev pub REQUEST-OBJECT : ℕ
 REQUEST-OBJECT = 23
 
--- .. and of the values: the network's, the server's two, the clients'
+-- the values: the network's, the server's two, the clients'
 abbrev pub MESSAGE-VALUE : ℕ
 MESSAGE-VALUE = 0
 
@@ -101,14 +101,14 @@ PENDING = 2
 abbrev pub COPY-VALUE : ℕ
 COPY-VALUE = 3
 
--- how many words and values there are
+-- the number of words, and of values
 abbrev pub WORDS : ℕ
 WORDS = 3498
 
 abbrev pub VALUES : ℕ
 VALUES = 640
 
--- where a field starts
+-- the offset of a field
 abbrev pub at : ℕ → ℕ
 at k = start wordLengths k
 

@@ -1,4 +1,4 @@
--- The rows below the list's length. In sound tables each is a message; tables with one that is none are unsound, and every step on them is refused with 1.
+-- The rows below the list's length. In sound tables each of them is a message. If one is not, the tables are unsound, and every step is refused with 1.
 -- Letters: s setup, w words, x values, i a place, b whether the records are sound, r a request, y a step; the others are proofs.
 use Prim.Native.Nat.{ℕ, _<_}
 use native.Mathlib.Omega.{arith}
@@ -24,11 +24,11 @@ use Rattle.state_words.specs.Fields.{wordLengths, valueLengths, MESSAGES
 use Rattle.state_words.specs.Rows.{isMessage, stray, messageOf, messageFrom}
 use Rattle.state_words.specs.View.{tablesOf}
 
--- whether the row at a place is a message
+-- whether row i is a message
 abbrev pub messageThere : List ℕ → List ℕ → ℕ → Bool
 messageThere w x i = isMessage (parts wordLengths w MESSAGES) (parts valueLengths x MESSAGE-VALUE) i
 
--- a place below the list's length, with a message
+-- row i is below the list's length and is a message
 pub record Live (w x : List ℕ) (i : ℕ) : Type 0 where
   pub inside : i < 64
   pub below : i < tablesOf w x .queue .len
@@ -43,7 +43,7 @@ module _ (s : Setup) (w x : List ℕ) (i : ℕ) (h : i < tablesOf w x .queue .le
     inside : i < 64
     inside = omega (arith, sound-length s (tablesOf w x) e)
 
-    -- no setup has the client that a stray row reads as
+    -- a stray row reads as a client that no setup has
     never-stray : messageThere w x i ≡ false → ⊥
     never-stray n =
         let m = rw (reads-stray inside n) at (sound-message s (tablesOf w x) e i h) in

@@ -1,4 +1,4 @@
--- The numbers of the tables that a bound is asked of, where they stand in the words.
+-- The entries of the tables that bounds are about, as words: the clock, the list's length and the versions.
 use Prim.Native.Nat.{ℕ, _+_, _<_}
 use native.Mathlib.Omega.{arith}
 use mathlib.Core.List.{List}

@@ -1,4 +1,4 @@
--- The message list: `LENGTH` says how many there are, row i of `MESSAGES` has the nine words of message i, and `MESSAGE-VALUE` its value.
+-- The message list: `LENGTH` holds the number of messages, row i of `MESSAGES` the nine words of message i, and entry i of `MESSAGE-VALUE` its value.
 use Prim.Native.Nat.{ℕ, _+_, _*_, _%_, _<_}
 use mathlib.Core.Bool.{Bool, cond, _&&_}
 use mathlib.Core.List.{List, [], _∷_}
@@ -21,7 +21,7 @@ wordsOf f = f .kind ∷ f .client ∷ f .object ∷ f .present ∷ f .number ∷
 abbrev pub Narrow : Fields → Type 0
 Narrow f = (f .kind < 256) × (f .client < 256) × (f .object < 256) × (f .present < 256)
 
--- the fields in row i: of the first four words the lowest byte
+-- the fields in row i; of the first four words, only the lowest byte counts
 unfoldable pub fieldsAt : List ℕ → List ℕ → ℕ → Fields
 fieldsAt rows values i =
     row (getD rows (i * 9 + 0) 0 % 256) (getD rows (i * 9 + 1) 0 % 256) (getD rows (i * 9 + 2) 0 % 256) (getD rows (i * 9 + 3) 0 % 256)
@@ -32,11 +32,11 @@ unfoldable pub narrowAt : List ℕ → ℕ → Bool
 narrowAt rows i =
     ltb (getD rows (i * 9 + 0) 0) 256 && ltb (getD rows (i * 9 + 1) 0) 256 && ltb (getD rows (i * 9 + 2) 0) 256 && ltb (getD rows (i * 9 + 3) 0) 256
 
--- whether row i is a message: those are bytes, and kind, value present and the fields that the kind lacks are right
+-- whether row i is a message: its first four words are bytes, and kind, value present and the fields that the kind lacks are right
 abbrev pub isMessage : List ℕ → List ℕ → ℕ → Bool
 isMessage rows values i = narrowAt rows i && sound (fieldsAt rows values i)
 
--- what a row that is no message reads as: no setup has client 255, so question 1 refuses the tables (`LiveRows`)
+-- what a row reads as if it is not a message: no setup has client 255, so question 1 refuses the tables (`LiveRows`)
 abbrev pub stray : Message
 stray = message 255 (Renew 0 0 0 0)
 
@@ -44,11 +44,11 @@ stray = message 255 (Renew 0 0 0 0)
 unfoldable pub messageOf : List ℕ → List ℕ → ℕ → Message
 messageOf rows values i = cond (isMessage rows values i) (messageIn (fieldsAt rows values i)) stray
 
--- the message at place i of n; a place past the last is blank, whatever its row holds
+-- message i of n; rows past the last message read as blank, whatever they hold
 unfoldable pub messageFrom : ℕ → List ℕ → List ℕ → ℕ → Message
 messageFrom n rows values i = cond (ltb i n) (messageOf rows values i) blank
 
--- the message list of these fields
+-- the message list in these fields
 abbrev pub queueIn : (ℕ → List ℕ) → (ℕ → List ℕ) → Queue
 queueIn words values = record {
   items = tabulate (messageFrom (getD (words LENGTH) 0 0) (words MESSAGES) (values MESSAGE-VALUE)) 0 64;

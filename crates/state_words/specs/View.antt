@@ -1,4 +1,4 @@
--- What the words and the values stand for: the tables of 01, the clients' records, and the world that both are.
+-- What the words and the values represent: the tables of 01, the clients' records, and the world that consists of both.
 use Prim.Native.Nat.{ℕ, _*_, _%_}
 use mathlib.Core.List.{List, []}
 use lib.ListN.{getD, take, replicate}
@@ -14,7 +14,7 @@ use Rattle.protocol.specs.World.{World}
 use Rattle.state_words.specs.Fields.{wordLengths, valueLengths, CLOCK, VOLUME-EPOCH, VOLUME-EXPIRY, GUARD, SEEN, SESSION-EXPIRY, UNREACHABLE, OFFER, VERSION, OBJECT-EXPIRY, STANDING, END, LEASE, WAITING, VIEW-EPOCH, VIEW-EXPIRY, COPY-VERSION, COPY-EXPIRY, REQUEST-NEXT, REQUEST-STANDING, REQUEST-NUMBER, REQUEST-OBJECT, VALUE, PENDING, COPY-VALUE}
 use Rattle.state_words.specs.Rows.{queueIn}
 
--- the tables whose fields these are
+-- the tables in these fields
 abbrev pub tablesIn : (ℕ → List ℕ) → (ℕ → List ℕ) → Tables
 tablesIn words values = record {
   clock = getD (words CLOCK) 0 0;
@@ -36,7 +36,7 @@ tablesIn words values = record {
 unfoldable pub tablesOf : List ℕ → List ℕ → Tables
 tablesOf words values = tablesIn (parts wordLengths words) (parts valueLengths values)
 
--- the tables as far as the words tell: for what reads no value
+-- the tables from the words alone, for code that reads no value
 abbrev pub numbersOf : List ℕ → Tables
 numbersOf words = tablesOf words []
 
@@ -45,7 +45,7 @@ numbersOf words = tablesOf words []
 abbrev pub copyAt : List ℕ → List ℕ → List ℕ → ℕ → Copy
 copyAt version value expiry i = record { version = getD version i 0; value = getD value i 0; expiry = getD expiry i 0 }
 
--- the object of a request is a byte
+-- only the lowest byte of a request's object counts
 abbrev pub requestAt : List ℕ → List ℕ → List ℕ → List ℕ → ℕ → Request
 requestAt next standing number object d = record {
   next = getD next d 0;
@@ -70,11 +70,11 @@ recordsOf words values = recordsIn (parts wordLengths words) (parts valueLengths
 abbrev pub freshRecords : Records
 freshRecords = record { copies = replicate 512 noCopy; requests = replicate 16 freshRequest }
 
--- the requests, which are words alone
+-- the requests, which consist of words only
 abbrev pub requestsOf : List ℕ → List Request
 requestsOf words = recordsOf words [] .requests
 
--- the world of a setup, whose records are the first of those
+-- the world of a setup; its records are the first of those in the words and values
 abbrev pub worldOf : Setup → List ℕ → List ℕ → World
 worldOf s words values = record {
   tables = tablesOf words values;

@@ -1,4 +1,4 @@
--- The world of a setup in range: there is room for it, and fresh words are its fresh world.
+-- The world of a setup in range: its records fit in the words, and fresh words hold its fresh world.
 use Prim.Native.Nat.{ℕ, zero, suc, _*_, _≤_}
 use native.Mathlib.Nat.{mul-le-mul}
 use native.Mathlib.Omega.{arith}

@@ -1,4 +1,4 @@
-// The clients' fields: what each knows of a volume; the copies, client by client in object order; one request a client.
+// Offsets of the clients' fields: what each client knows of each volume; the copies, client by client in object order; one request per client.
 pub const VIEW_EPOCH: usize = 2154;
 
 pub const VIEW_EXPIRY: usize = 2282;
@@ -15,5 +15,5 @@ pub const REQUEST_NUMBER: usize = 3466;
 
 pub const REQUEST_OBJECT: usize = 3482;
 
-// of the values: one a copy
+// in the values: one per copy
 pub const COPY_VALUE: usize = 128;

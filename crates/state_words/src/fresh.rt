@@ -11,7 +11,7 @@ use crate::pass;
 use crate::server;
 use protocol::setup::Setup;
 
-// Epochs, versions and the next request numbers start at 1.
+// Writes the fresh state: the server's epochs and versions and the clients' next request numbers are 1, all else is 0.
 pub fn fresh(words: &mut Words, values: &mut Values)
     ensures { λ _. ⌜ tablesOf (now (words .exit)) (now (values .exit)) ≡ freshTables ⌝ }
     ensures { λ _. ⌜ recordsOf (now (words .exit)) (now (values .exit)) ≡ freshRecords ⌝ }
@@ -23,7 +23,7 @@ pub fn fresh(words: &mut Words, values: &mut Values)
     pass::fill(&mut *words, client::REQUEST_NEXT, 16, 1);
 }
 
-// The same where the setup is in range, and 0; else 7, and nothing is changed.
+// Writes the fresh state and returns 0 if the setup is in range; otherwise changes nothing and returns 7.
 pub fn fresh_for(s: Setup, words: &mut Words, values: &mut Values) -> u8
     ensures refusal { λ r. ⌜ r ≡ cond (inRange s) 0 7 ⌝ }
     ensures accepts { λ _. ⌜ (inRange s ≡ true → (tablesOf (now (words .exit)) (now (values .exit)) ≡ freshTables) × (recordsOf (now (words .exit)) (now (values .exit)) ≡ freshRecords)) ⌝ }

@@ -1,16 +1,16 @@
-// The whole state in two lent arrays of numbers: where each field stands, and stores into one field.
+// Lays out the whole state in two lent arrays of numbers: the offset of each field, and stores into one field.
 pub mod client;
 pub mod fresh;
 pub mod network;
 pub mod pass;
 pub mod server;
 
-// every number of 32 bits and every flag
+// the words hold all 32-bit numbers and all flags
 pub const WORDS: usize = 3498;
 
 pub type Words = [u32; WORDS];
 
-// every value of 64 bits
+// the values hold all 64-bit numbers
 pub const VALUES: usize = 640;
 
 pub type Values = [u64; VALUES];

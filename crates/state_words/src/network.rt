@@ -1,11 +1,11 @@
-// What lies between the server and the clients: the clock that all go by, and the messages on their way.
+// Offsets of the fields between server and clients: the clock that all of them use, and the messages in transit.
 pub const CLOCK: usize = 0;
 
-// how many messages there are
+// the number of messages
 pub const LENGTH: usize = 1;
 
 // 64 rows of nine words
 pub const MESSAGES: usize = 2;
 
-// of the values: one a message
+// in the values: one per message
 pub const MESSAGE_VALUE: usize = 0;

@@ -9,7 +9,7 @@ ghost use Rattle.state_words.specs.Fields.{WORDS, VALUES};
 use crate::Values;
 use crate::Words;
 
-// One word stored, if it is to be.
+// Stores one word if `yes` is true.
 pub fn put_if(words: &mut Words, yes: bool, place: usize, number: u32)
     requires { ⌜ place < WORDS ⌝ }
     ensures { λ _. ⌜ now (words .exit) ≡ cond yes (set (now (words .entry)) place number) (now (words .entry)) ⌝ }
@@ -20,7 +20,7 @@ pub fn put_if(words: &mut Words, yes: bool, place: usize, number: u32)
     }
 }
 
-// A flag as a word.
+// Returns the flag as a word, 1 or 0.
 pub fn word(yes: bool) -> u32
     ensures { λ r. ⌜ r ≡ wordOf yes ⌝ }
 {
@@ -30,7 +30,7 @@ pub fn word(yes: bool) -> u32
     0
 }
 
-// The n words from `field` on become `number`.
+// Sets the n words from `field` on to `number`.
 pub fn fill(words: &mut Words, field: usize, n: usize, number: u32)
     requires { ⌜ field + n ≤ WORDS ⌝ }
     ensures { λ _. ⌜ now (words .exit) ≡ filling field n number (now (words .entry)) ⌝ }
@@ -42,7 +42,7 @@ pub fn fill(words: &mut Words, field: usize, n: usize, number: u32)
     }
 }
 
-// The same of the values.
+// Does the same for the values.
 pub fn fill_values(values: &mut Values, field: usize, n: usize, number: u64)
     requires { ⌜ field + n ≤ VALUES ⌝ }
     ensures { λ _. ⌜ now (values .exit) ≡ filling field n number (now (values .entry)) ⌝ }
@@ -54,7 +54,7 @@ pub fn fill_values(values: &mut Values, field: usize, n: usize, number: u64)
     }
 }
 
-// Does nothing. An array that is lent as a slice tells a proof its length.
+// No-op; lending the array as a slice gives the proof its length.
 pub fn sized(_words: &[u32]) {}
 
 pub fn sized_values(_values: &[u64]) {}

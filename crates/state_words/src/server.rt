@@ -1,4 +1,4 @@
-// The server's fields: per volume, per client, per client and volume, per object, per client and object.
+// Offsets of the server's fields: per volume, per client, per client and volume, per object, per client and object.
 pub const VOLUME_EPOCH: usize = 578;
 
 pub const VOLUME_EXPIRY: usize = 586;
@@ -25,7 +25,7 @@ pub const LEASE: usize = 1130;
 
 pub const WAITING: usize = 1642;
 
-// of the values: an object's value, and what is to become of it
+// in the values: an object's value, and the value of the write that is under way
 pub const VALUE: usize = 64;
 
 pub const PENDING: usize = 96;
