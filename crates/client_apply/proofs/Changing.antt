@@ -1,4 +1,5 @@
--- A setup's records are the first of those that there is room for: what is stored there or swept, and that nothing is past the last.
+-- A setup's records are the first ones that the words have room for. Stores and sweeps inside the setup change its records; those past its last record
+-- change nothing.
 use Prim.Native.Nat.{ℕ, zero, suc, _+_, _-_, _*_, _<_, _≤_}
 use native.Mathlib.Nat.{mul-le-mul-right, suc-mul}
 use native.Mathlib.Omega.{arith}
@@ -31,7 +32,7 @@ use Rattle.client_records.specs.Stores.{RequestPut, withCopy, sweptOver}
 use Rattle.client_apply.specs.Changes.{copyPut, copyChanged, sweptOf, requestTurned, changedAt}
 use Rattle.client_apply.proofs.Requests.{request-stored}
 
--- the setup's records are among those that there is room for
+-- the words have room for the setup's records
 module _ (s : Setup) (i : inRange s ≡ true) where
   pub copy-there : (place : ℕ) → place < s .clients * s .objects → place < 512
   copy-there place h = omega (arith, few-copies s i)
@@ -39,7 +40,7 @@ module _ (s : Setup) (i : inRange s ≡ true) where
   pub client-there : (d : ℕ) → d < s .clients → d < 16
   client-there d h = omega (arith, ranges s i .clients .1)
 
--- where a client's copies end
+-- a client's copies end within the setup's copies
 own-end : (s : Setup) (d : ℕ) → d < s .clients → d * s .objects + s .objects ≤ s .clients * s .objects
 own-end s d h =
     let k : suc d * s .objects ≤ s .clients * s .objects = mul-le-mul-right (s .objects) h in
@@ -92,7 +93,7 @@ module _ (u v : World) (place : ℕ) (g : CopyChange) where
 
 -- ---- the sweep
 module _ (s : Setup) (g : Sweep) (first : ℕ) where
-  -- inside the first n
+  -- a sweep inside the first n elements may be done before or after taking them
   sweep-inside : (n j m : ℕ) (l : List Copy) → j + m ≤ n → take n (foldFrom (sweepAt s g first) l j m) ≡ foldFrom (sweepAt s g first) (take n l) j m
   unfolding foldFrom
   sweep-inside n j zero l h = refl

@@ -1,4 +1,4 @@
--- A request stored in the words.
+-- Storing a request in the words replaces that record and changes no table.
 use Prim.Native.Nat.{ℕ, _%_, _<_}
 use native.Mathlib.Omega.{arith}
 use mathlib.Core.List.{List}

@@ -1,4 +1,4 @@
--- The world with one of its records replaced; past the last nothing is.
+-- The world with one of its records replaced; indices past the last record change nothing.
 use Prim.Native.Nat.{ℕ}
 use lib.ListN.{getD, set}
 use Rattle.laws.specs.Loop.{foldFrom}
@@ -25,7 +25,7 @@ sweptOf s g first n u = record { tables = u .tables; copies = foldFrom (sweepAt 
 abbrev pub requestTurned : World → ℕ → Turn → World
 requestTurned u d g = record { tables = u .tables; copies = u .copies; requests = set (u .requests) d (turned (getD (u .requests) d noRequest) g) }
 
--- the world with a change made to the records at a step's places (`copiesAfter`, `requestsAfter`)
+-- the world with a change applied to the records that a step targets (as in `copiesAfter` and `requestsAfter`)
 abbrev pub changedAt : Setup → World → Target → Change → World
 changedAt s u a g = record {
   tables = u .tables;

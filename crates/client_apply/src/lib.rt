@@ -1,4 +1,5 @@
-// The clients' records in the words that a step can touch, and what a decision makes of them. A place that the setup has not holds no record, and nothing is stored there.
+// Reads the client records that a step can touch from the words, and applies a decision to them. Indices outside the setup read as empty and are never
+// written.
 ghost use mathlib.Core.Bool.{true};
 ghost use mathlib.Core.Path.{_≡_};
 ghost use Prim.Native.Nat.{_*_};
@@ -23,6 +24,7 @@ use protocol::step::Turn;
 use state_words::Values;
 use state_words::Words;
 
+// Returns the copy that the step can touch.
 pub fn copy_of<'a>(s: Setup, words: &'a Words, values: &'a Values, at: Target) -> Copy
     requires { ⌜ inRange s ≡ true ⌝ }
     ensures { λ r. ⌜ r ≡ getD (worldOf s (now (words .entry)) (now (values .entry)) .copies) (at .copy) noCopy ⌝ }
@@ -33,7 +35,7 @@ pub fn copy_of<'a>(s: Setup, words: &'a Words, values: &'a Values, at: Target) -
     copy::none()
 }
 
-// The values are lent for the contract alone.
+// Returns the request that the step can touch. Only the contract needs the values.
 pub fn request_of<'a>(s: Setup, words: &'a Words, values: &'a Values, at: Target) -> Request
     requires { ⌜ inRange s ≡ true ⌝ }
     ensures { λ r. ⌜ r ≡ getD (worldOf s (now (words .entry)) (now (values .entry)) .requests) (at .client) noRequest ⌝ }
@@ -49,7 +51,7 @@ pub fn request_of<'a>(s: Setup, words: &'a Words, values: &'a Values, at: Target
     }
 }
 
-// A copy stored where the setup has one.
+// Stores a copy if its place is within the setup.
 fn put_copy(s: Setup, words: &mut Words, values: &mut Values, place: usize, c: Copy)
     requires { ⌜ inRange s ≡ true ⌝ }
     ensures { λ _. ⌜ worldOf s (now (words .exit)) (now (values .exit)) ≡ copyPut (worldOf s (now (words .entry)) (now (values .entry))) place c ⌝ }
@@ -60,7 +62,7 @@ fn put_copy(s: Setup, words: &mut Words, values: &mut Values, place: usize, c: C
     }
 }
 
-// Most steps keep the copy: nothing is read or stored then.
+// Applies a change to one copy. Most steps keep it; then nothing is read or stored.
 fn change_copy(s: Setup, words: &mut Words, values: &mut Values, place: usize, u: CopyChange)
     requires { ⌜ inRange s ≡ true ⌝ }
     ensures { λ _. ⌜ worldOf s (now (words .exit)) (now (values .exit)) ≡ copyChanged (worldOf s (now (words .entry)) (now (values .entry))) place u ⌝ }
@@ -72,7 +74,7 @@ fn change_copy(s: Setup, words: &mut Words, values: &mut Values, place: usize, u
     }
 }
 
-// The sweep of all copies of a client that the setup has.
+// Sweeps all copies of a client if the setup has that client.
 fn sweep_client(s: Setup, words: &mut Words, values: &mut Values, at: Target, g: Sweep)
     requires { ⌜ inRange s ≡ true ⌝ }
     requires { ⌜ at .first ≡ at .client * s .objects ⌝ }
@@ -91,6 +93,7 @@ fn sweep_client(s: Setup, words: &mut Words, values: &mut Values, at: Target, g:
     }
 }
 
+// Sweeps a client's copies, or skips the pass if they are kept.
 fn sweep(s: Setup, words: &mut Words, values: &mut Values, at: Target, g: Sweep)
     requires { ⌜ inRange s ≡ true ⌝ }
     requires { ⌜ at .first ≡ at .client * s .objects ⌝ }
@@ -103,7 +106,7 @@ fn sweep(s: Setup, words: &mut Words, values: &mut Values, at: Target, g: Sweep)
     }
 }
 
-// The turn of the request of a client that the setup has. The values are lent for the contract alone.
+// Applies a turn to a client's request if the setup has that client. Only the contract needs the values.
 fn turn_client(s: Setup, words: &mut Words, values: &Values, client: usize, u: Turn)
     requires { ⌜ inRange s ≡ true ⌝ }
     requires { ⌜ CanTurn (getD (worldOf s (now words) (now values) .requests) client noRequest) u ⌝ }
@@ -117,6 +120,7 @@ fn turn_client(s: Setup, words: &mut Words, values: &Values, client: usize, u: T
     }
 }
 
+// Applies a turn to a client's request, or skips the store if it is kept.
 fn turn(s: Setup, words: &mut Words, values: &Values, client: usize, u: Turn)
     requires { ⌜ inRange s ≡ true ⌝ }
     requires { ⌜ CanTurn (getD (worldOf s (now words) (now values) .requests) client noRequest) u ⌝ }
@@ -129,7 +133,7 @@ fn turn(s: Setup, words: &mut Words, values: &Values, client: usize, u: Turn)
     }
 }
 
-// What a change makes of the records.
+// Applies a change to the records of the target's client.
 pub fn change(s: Setup, words: &mut Words, values: &mut Values, at: Target, g: Change)
     requires { ⌜ inRange s ≡ true ⌝ }
     requires { ⌜ at .first ≡ at .client * s .objects ⌝ }

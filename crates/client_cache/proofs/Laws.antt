@@ -1,4 +1,4 @@
--- What each way through the tests of a copy or a request found, put together.
+-- One lemma for each path through the functions on a copy or a request.
 use Prim.Native.Nat.{ℕ, _≤_, _<_}
 use mathlib.Core.Bool.{true, false, _&&_}
 use mathlib.Core.List.{List}
@@ -17,7 +17,7 @@ use Rattle.protocol.specs.Setup.{volumeOf}
 use Rattle.protocol.specs.Tables.{noCopy}
 use Rattle.protocol.specs.Client.{numbered, ended, turned, CanTurn, forgotten, swept}
 
--- an element past the end
+-- an element past the end reads as 0
 pub past-end : (l : List ℕ) (i n : ℕ) → length l ≡ n → n ≤ i → 0 ≡ getD l i 0
 past-end l i n e h = sym (List·getD-eq-default l 0 {n = i} (rw e h))
 
@@ -28,7 +28,7 @@ module _ (r q : Request) (u : Turn) where
   pub turn-ends : u ≡ request.End → q ≡ ended r → q ≡ turned r u
   turn-ends e f = rw e f
 
-  -- a number is left
+  -- a request that can take a number has one left
   pub number-left : (o : ℕ) → u ≡ request.Take o → CanTurn r u → r .next < 4294967295
   number-left o e h = rw e at h
 

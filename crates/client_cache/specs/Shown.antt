@@ -1,4 +1,4 @@
--- Step 2 by what it reads: the client's clock, its volume lease's expiry and the copy.
+-- Step 2 as a function of what it reads: the client's clock, the expiry of its volume lease, and the copy.
 use Prim.Native.Nat.{ℕ}
 use mathlib.Core.Bool.{Bool, not, _&&_}
 use lib.Dec.{eqb}

@@ -13,14 +13,14 @@ use protocol::step::CopyChange;
 use protocol::step::Sweep;
 use protocol::step::Turn;
 
-// "A lease is alive when its expiry is greater than the clock.": by the client's clock.
+// Returns whether a lease is alive by the client's clock: "A lease is alive when its expiry is greater than the clock."
 fn alive(clock: u32, expiry: u32) -> bool
     ensures { λ r. ⌜ r ≡ clientAlive clock expiry ⌝ }
 {
     clock < expiry
 }
 
-// Step 2: "copy present and both leases alive", by the client's clock and its volume lease's expiry.
+// Step 2: returns whether "copy present and both leases alive" holds. `lease` is the expiry of the client's volume lease.
 pub fn showable(clock: u32, lease: u32, c: Copy) -> bool
     ensures { λ r. ⌜ r ≡ shownAt clock lease c ⌝ }
 {
@@ -39,7 +39,7 @@ fn payload_or(held: u64, payload: Payload) -> u64
     }
 }
 
-// GRANT: "store its fields .. and end the request".
+// Returns the change that a GRANT makes: "store its fields .. and end the request".
 pub fn store_grant(c: Copy, version: u32, expiry: u32, payload: Payload) -> Change
     ensures { λ g. ⌜ g ≡ grantStored c version expiry payload ⌝ }
 {
@@ -56,7 +56,7 @@ pub fn store_grant(c: Copy, version: u32, expiry: u32, payload: Payload) -> Chan
     }
 }
 
-// "erase the copy (version, value and expiry 0)".
+// Returns an erased copy: "erase the copy (version, value and expiry 0)".
 pub fn none() -> Copy
     ensures { λ r. ⌜ r ≡ noCopy ⌝ }
 {
@@ -67,7 +67,7 @@ pub fn none() -> Copy
     }
 }
 
-// What a change makes of a copy.
+// Returns the copy after a change.
 pub fn change(c: Copy, u: CopyChange) -> Copy
     ensures { λ r. ⌜ r ≡ changed c u ⌝ }
 {
@@ -78,7 +78,7 @@ pub fn change(c: Copy, u: CopyChange) -> Copy
     }
 }
 
-// An object's volume, and 0 where there is no slot.
+// Returns the object's volume, or 0 if there is no slot for it.
 fn volume_of(s: Setup, o: usize) -> u8
     ensures { λ r. ⌜ r ≡ volumeOf s o ⌝ }
 {
@@ -88,7 +88,7 @@ fn volume_of(s: Setup, o: usize) -> u8
     0
 }
 
-// What becomes of a client's copy of an object when all its copies are swept. An OFFER leaves version and value.
+// Returns a client's copy of an object after a sweep. `Expire`, for an OFFER, keeps version and value.
 pub fn sweep(s: Setup, g: Sweep, c: Copy, object: usize) -> Copy
     ensures { λ r. ⌜ r ≡ swept s g c object ⌝ }
 {
@@ -108,7 +108,7 @@ pub fn sweep(s: Setup, g: Sweep, c: Copy, object: usize) -> Copy
     }
 }
 
-// The client's records stay.
+// Returns the change that keeps all of a client's records.
 pub fn kept() -> Change
     ensures { λ g. ⌜ g ≡ kept ⌝ }
 {

@@ -1,3 +1,3 @@
-// What a client keeps of an object, and of what it asks for, by value: one copy and one request, whether the copy may be shown, and what becomes of them.
+// A client's copy of an object and its request, by value: whether the copy may be shown, and how both change.
 pub mod copy;
 pub mod request;

@@ -29,7 +29,7 @@ pub fn end(r: Request) -> Request
     }
 }
 
-// What a turn makes of a request.
+// Returns the request after a turn.
 pub fn turn(r: Request, u: Turn) -> Request
     requires { ⌜ CanTurn r u ⌝ }
     ensures { λ q. ⌜ q ≡ turned r u ⌝ }
@@ -41,14 +41,14 @@ pub fn turn(r: Request, u: Turn) -> Request
     }
 }
 
-// "needs the standing number".
+// Returns whether this is the number of the standing request: "needs the standing number".
 pub fn stands(r: Request, number: u32) -> bool
     ensures { λ b. ⌜ b ≡ stands r number ⌝ }
 {
     r.standing & (r.number == number)
 }
 
-// INVALIDATE: "forget a standing request for that object".
+// Returns the turn that an INVALIDATE makes: "forget a standing request for that object".
 pub fn forget(r: Request, object: u8) -> Turn
     ensures { λ u. ⌜ u ≡ forgotten r object ⌝ }
 {

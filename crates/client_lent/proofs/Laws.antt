@@ -1,4 +1,4 @@
--- Places past the end are neither read nor written: a pass may stop at the end.
+-- Indices past the end are neither read nor written, so a sweep may stop at the end of the list.
 use Prim.Native.Nat.{ℕ, zero, suc, _+_, _-_, _≤_, _<_}
 use native.Mathlib.Omega.{arith}
 use mathlib.Core.List.{List}

@@ -1,8 +1,8 @@
--- A row of elements that a walk has in hand (of a `&mut [T]` that it has opened, or of a local array) is lent to a callee for a lifetime κ′, and comes back.
---     lend-mut, back-mut     as a `&κ′ mut [T]`: it comes back at the list that the callee's contract says
---     lies-in, lies-out      a local's cell with what its value owns, as what lies in memory, which `Denote/Lend.antt`'s `lends-ref` lends
---     lend-shr, back-shr     as a `&κ′ [T]`: it comes back as it was
--- n is the length that the machine has; the list that is lent is as long.
+-- A walk lends a row of elements that it holds (of an opened `&mut [T]` or of a local array) to a callee for a lifetime κ′, and gets it back.
+--     lend-mut, back-mut     as a `&κ′ mut [T]`: the row comes back with the list that the callee's contract states
+--     lies-in, lies-out      turn a local's cell and what its value owns into the form in memory that `lends-ref` of `Denote/Lend.antt` lends, and back
+--     lend-shr, back-shr     as a `&κ′ [T]`: the row comes back unchanged
+-- n is the length that the machine holds; the lent list has the same length.
 -- Assumes `Given`.
 use mathlib.Core.Path.{_≡_, refl, subst}
 use Prim.Native.Nat.{ℕ}
@@ -46,7 +46,7 @@ module _ {M : Type 1} (𝓤 : URA M) (H : Heap 𝓤) (A : Atoms 𝓤) (W : Given
       qed W (‵ (fdead κ′) ∷ ‵ (flent κ′ (Held R n b o δ)) ∷ ‵ (finally R δ zs) ∷ []) ∵ updating ! $
       use3 W (later (‵ (Arr (mem R) n .lies zs b o))) (slice-back 𝓤 H A W R κ′ δ zs n b o) $ await ! tt $ fsplit ! $ drop ! $ use1 W (‵ (row R fullShare zs b o)) (whole-out 𝓤 H A W R zs b o) $ at-once ! $ done !
 
-  -- a row is cut in two, and joined again
+  -- cutting a row in two, and joining it again
   pub cut-row : (xs ys : List (R .Denot)) → ent 𝓤 (sem 𝓤 H A (row R fullShare (xs ++ ys) b o)) (sep 𝓤 (sem 𝓤 H A (row R fullShare xs b o)) (sem 𝓤 H A (cells (mem R) ys b (at o (mem R .size) (length xs)))))
   cut-row xs ys =
       qed W (‵ (row R fullShare (xs ++ ys) b o) ∷ []) ∵ use1 W (‵ (cells (mem R) (xs ++ ys) b o)) (whole-in 𝓤 H A W R (xs ++ ys) b o) $
@@ -64,7 +64,7 @@ module _ {M : Type 1} (𝓤 : URA M) (H : Heap 𝓤) (A : Atoms 𝓤) (W : Given
       → ent 𝓤 (sem 𝓤 H A (row R fullShare ys b o)) (H .⇛ (ex 𝓤 (λ (δ : GName). sep 𝓤 (sem 𝓤 H A (ShrSlice ℓ κ′ R .own (at-list δ ys) (vals (length ys)))) (sem 𝓤 H A (flent κ′ (Part ys))))))
   lend-shr ys g = qed W (‵ (row R fullShare ys b o) ∷ []) ∵ feqI ! ℕ (length ys) (length ys) refl $ fjoin ! $ by ! (lends-shr-slice 𝓤 H A W R ℓ κ′ fullShare ys b o g)
 
-  -- the same where the machine's length is n
+  -- the same, where n is the length that the machine holds
   pub lend-shr-at : (n : ℕ) (ys : List (R .Denot)) → length ys ≡ n → Room R n
       → ent 𝓤 (sem 𝓤 H A (row R fullShare ys b o)) (H .⇛ (ex 𝓤 (λ (δ : GName). sep 𝓤 (sem 𝓤 H A (ShrSlice ℓ κ′ R .own (at-list δ ys) (vals n))) (sem 𝓤 H A (flent κ′ (Part ys))))))
   lend-shr-at n ys e = subst (λ (m : ℕ). Room R m → ent 𝓤 (sem 𝓤 H A (row R fullShare ys b o)) (H .⇛ (ex 𝓤 (λ (δ : GName). sep 𝓤 (sem 𝓤 H A (ShrSlice ℓ κ′ R .own (at-list δ ys) (vals m))) (sem 𝓤 H A (flent κ′ (Part ys))))))) e (λ g. lend-shr ys g)

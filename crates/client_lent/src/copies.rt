@@ -10,7 +10,7 @@ use protocol::records::Copy;
 use protocol::setup::Setup;
 use protocol::step::CopyChange;
 
-// One copy; where there is no such place, no copy.
+// Returns the copy at index i; indices past the end read as no copy.
 pub fn look(copies: &[Copy], i: usize) -> Copy
     ensures { λ r. ⌜ r ≡ getD (now (copies .entry)) i noCopy ⌝ }
 {
@@ -24,7 +24,7 @@ pub fn look(copies: &[Copy], i: usize) -> Copy
     }
 }
 
-// One copy stored; nothing where there is no such place.
+// Stores a copy at index i, or does nothing if i is past the end.
 pub fn store(copies: &mut [Copy], i: usize, c: Copy)
     ensures { λ _. ⌜ now (copies .exit) ≡ set (now (copies .entry)) i c ⌝ }
 {
@@ -41,7 +41,7 @@ pub fn erase(copies: &mut [Copy], i: usize)
     store(&mut *copies, i, c);
 }
 
-// What becomes of one copy, in the list of all; nothing where there is no such place.
+// Applies a change to the copy at index i, or does nothing if i is past the end.
 pub fn change(copies: &mut [Copy], i: usize, u: CopyChange)
     ensures { λ _. ⌜ now (copies .exit) ≡ set (now (copies .entry)) i (changed (getD (now (copies .entry)) i noCopy) u) ⌝ }
 {
@@ -56,7 +56,7 @@ pub fn change(copies: &mut [Copy], i: usize, u: CopyChange)
     }
 }
 
-// Question 1, as far as it asks about copies: as many as there are clients and objects, and every expiry in range.
+// Answers question 1 for the copies: there is one per client and object, and every expiry is in range.
 pub fn sound(copies: &[Copy], s: Setup) -> bool
     ensures { λ r. ⌜ r ≡ copiesSound s (now (copies .entry)) ⌝ }
 {

@@ -1,4 +1,4 @@
-// The clients' records as a caller lends them: thin functions over one record and over the slices of all. Covered functions, on values, decide.
+// Thin functions over the client records that a caller lends: one record, or the slice of all. Covered functions, called on values, make the decisions.
 pub mod copies;
 pub mod requests;
 pub mod sweep;

@@ -11,7 +11,7 @@ use gate_records::requests::still_sound;
 use protocol::records::Request;
 use protocol::setup::Setup;
 
-// One client's request; where there is no such client, none.
+// Returns the request of client i; indices past the end read as no request.
 pub fn look(requests: &[Request], i: usize) -> Request
     ensures { λ r. ⌜ r ≡ getD (now (requests .entry)) i noRequest ⌝ }
 {
@@ -26,7 +26,7 @@ pub fn look(requests: &[Request], i: usize) -> Request
     }
 }
 
-// The next number is taken for a request about an object, which stands from now on.
+// Takes the next number for a request for the object, which becomes the standing request. Returns the number.
 pub fn take_number(r: &mut Request, object: u8) -> u32
     requires { ⌜ now r .next < 4294967295 ⌝ }
     ensures { λ n. ⌜ (n ≡ now (r .entry) .next) × (now (r .exit) ≡ numbered (now (r .entry)) object) ⌝ }
@@ -36,14 +36,14 @@ pub fn take_number(r: &mut Request, object: u8) -> u32
     n.number
 }
 
-// No request stands from now on.
+// Ends the standing request.
 pub fn end_request(r: &mut Request)
     ensures { λ _. ⌜ now (r .exit) ≡ ended (now (r .entry)) ⌝ }
 {
     *r = end(*r);
 }
 
-// Question 1, as far as it asks about requests: one a client, next numbers at least 1, and the object of a standing request exists.
+// Answers question 1 for the requests: there is one per client, next numbers are at least 1, and the object of a standing request exists.
 pub fn sound(requests: &[Request], s: Setup) -> bool
     ensures { λ b. ⌜ b ≡ requestsSound s (now (requests .entry)) ⌝ }
 {

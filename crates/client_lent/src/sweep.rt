@@ -8,7 +8,7 @@ use protocol::records::Copy;
 use protocol::setup::Setup;
 use protocol::step::Sweep;
 
-// One pass over one client's copies, which begin at `first`: the expiries of one volume's objects become 0, or all copies are erased.
+// Sweeps one client's copies, which begin at `first`: sets the expiries of one volume's objects to 0, or erases all copies.
 pub fn sweep(copies: &mut [Copy], s: Setup, g: Sweep, first: usize)
     ensures { λ _. ⌜ now (copies .exit) ≡ client.sweptAll s g first (now (copies .entry)) ⌝ }
 {

@@ -7,7 +7,7 @@ use crate::requests::take_number;
 use protocol::records::Request;
 use protocol::step::Turn;
 
-// One request, lent on.
+// Applies a turn to one request.
 pub fn apply(r: &mut Request, u: Turn)
     requires { ⌜ CanTurn (now r) u ⌝ }
     ensures { λ _. ⌜ now (r .exit) ≡ turned (now (r .entry)) u ⌝ }
@@ -23,7 +23,7 @@ pub fn apply(r: &mut Request, u: Turn)
     }
 }
 
-// What becomes of one client's request, in the list of all; nothing where there is no such client.
+// Applies a turn to the request of client i, or does nothing if i is past the end.
 pub fn update(requests: &mut [Request], i: usize, u: Turn)
     requires { ⌜ CanTurn (getD (now requests) i noRequest) u ⌝ }
     ensures { λ _. ⌜ now (requests .exit) ≡ set (now (requests .entry)) i (turned (getD (now (requests .entry)) i noRequest) u) ⌝ }

@@ -1,4 +1,5 @@
--- What each message that a client receives comes to. Letters: s setup, w and x the words and values before, d client, o object, v volume, c copy, r request.
+-- The effect of each message that a client receives.
+-- Letters: s setup, w and x the words and values before, d client, o object, v volume, c copy, r request.
 use Prim.Native.Nat.{ℕ, _<_}
 use native.Mathlib.Omega.{arith}
 use mathlib.Core.Bool.{Bool, true, false}

@@ -1,4 +1,4 @@
--- What a client knows of a volume stored in the words, and a GRANT by its terms.
+-- Storing what a client knows of a volume in the words, and receiving a GRANT with given terms.
 use Prim.Native.Nat.{ℕ, _+_}
 use mathlib.Core.List.{List}
 use lib.ListN.{set}

@@ -1,3 +1,3 @@
-// What a client receives (01, "Messages received"), and what it knows of a volume.
+// Receives messages at a client (01, "Messages received"), and stores what it knows of a volume.
 pub mod receive;
 pub mod view;

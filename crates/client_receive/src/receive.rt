@@ -1,4 +1,4 @@
-// What becomes of a client's copy and request when it receives a message; what it knows of the volume and what it sends changes in the words.
+// Receives a message at a client: stores what it learns of the volume and sends its reply in the words, and returns the change to its records.
 ghost use mathlib.Core.Path.{_≡_};
 ghost use mathlib.Core.Bool.{true};
 ghost use Prim.Native.Nat.{_<_};
@@ -24,7 +24,7 @@ use protocol::step::Turn;
 use state_words::Values;
 use state_words::Words;
 
-// The terms of a GRANT.
+// Holds the fields of a GRANT other than client and object.
 pub struct Terms {
     pub number: u32,
     pub volume_expiry: u32,

@@ -1,4 +1,4 @@
-// What a client knows of a volume, in the words.
+// What a client knows of a volume, as stored in the words.
 ghost use mathlib.Core.Path.{_≡_};
 ghost use Prim.Native.Nat.{_<_};
 ghost use Rattle.protocol.specs.Tables.{byVolume};
@@ -6,7 +6,7 @@ ghost use Rattle.client_receive.specs.Views.{viewStored};
 use state_words::Words;
 use state_words::client;
 
-// Its epoch, and when the volume lease ends.
+// Stores the volume's epoch and the expiry of the client's volume lease.
 pub fn put(words: &mut Words, client: usize, volume: usize, epoch: u32, expiry: u32)
     requires { ⌜ client < 16 ⌝ }
     requires { ⌜ volume < 8 ⌝ }

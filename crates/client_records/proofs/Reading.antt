@@ -1,4 +1,4 @@
--- A copy read from the words and stored there; a request read.
+-- Reading and storing a copy in the words, reading a request, and sweeping copies.
 use Prim.Native.Nat.{ℕ, _+_, _-_, _%_, _<_, _≤_}
 use native.Mathlib.Omega.{arith}
 use mathlib.Core.List.{List}
@@ -65,7 +65,7 @@ request-read w d h =
     rw (part-at wordLengths w REQUEST-NEXT d h, part-at wordLengths w REQUEST-STANDING d h, part-at wordLengths w REQUEST-NUMBER d h, part-at wordLengths w REQUEST-OBJECT d h)
     (sym (tabulate-at (requestAt (parts wordLengths w REQUEST-NEXT) (parts wordLengths w REQUEST-STANDING) (parts wordLengths w REQUEST-NUMBER) (parts wordLengths w REQUEST-OBJECT)) 16 d noRequest h))
 
--- ---- a turn of a sweep
+-- ---- a sweep: one iteration, and the end of the loop
 
 pub sweep-again : (s : Setup) (g : Sweep) (first N k : ℕ) (q u : Records) (c y : Copy) (l : List Request) (A : List Copy) → k < N → c ≡ getD (q .copies) k noCopy
     → y ≡ swept s g c (k - first) → u ≡ withCopy q k y → (q .requests ≡ l) × (foldFrom (sweepAt s g first) (q .copies) k (N - k) ≡ A)

@@ -1,4 +1,4 @@
--- One of the clients' records replaced, and what the stores into the words come to.
+-- Replacing one of the clients' records, and the stores into the words that do it.
 use Prim.Native.Nat.{ℕ, _+_, _<_}
 use mathlib.Core.List.{List}
 use mathlib.Core.Path.{_≡_}
@@ -22,7 +22,7 @@ withCopy q place c = withCopies q (set (q .copies) place c)
 abbrev pub withRequest : Records → ℕ → Request → Records
 withRequest q d r = record { copies = q .copies; requests = set (q .requests) d r }
 
--- n copies swept, the first of which is at `first`
+-- the records with n copies swept, beginning at `first`
 abbrev pub sweptOver : Setup → Sweep → ℕ → ℕ → Records → Records
 sweptOver s g first n q = withCopies q (foldFrom (sweepAt s g first) (q .copies) first n)
 
@@ -32,7 +32,7 @@ requestStored words d r =
     set (set (set (set words (at REQUEST-NEXT + d) (r .next)) (at REQUEST-STANDING + d) (wordOf (r .standing))) (at REQUEST-NUMBER + d) (r .number))
     (at REQUEST-OBJECT + d) (r .object)
 
--- .. as a function stores it, whose words are as long as they are, and a request's object a byte
+-- .. as `put_request` stores it, with what its types say: the words have their fixed length, and a request's object is a byte
 pub record RequestPut (w u : List ℕ) (d : ℕ) (r : Request) : Type 0 where
   pub is : u ≡ requestStored w d r
   pub byte : r .object < 256

@@ -36,7 +36,7 @@ pub fn put_copy(words: &mut Words, values: &mut Values, place: usize, c: Copy)
     words[fields::COPY_EXPIRY + place] = c.expiry;
 }
 
-// What becomes of n copies, the first of which is at `first`.
+// Sweeps n copies, beginning at `first`.
 pub fn sweep(s: Setup, words: &mut Words, values: &mut Values, g: Sweep, first: usize, n: usize)
     requires { ⌜ first + n ≤ 512 ⌝ }
     ensures { λ _. ⌜ tablesOf (now (words .exit)) (now (values .exit)) ≡ tablesOf (now (words .entry)) (now (values .entry)) ⌝ }

@@ -9,6 +9,7 @@ use state_words::Words;
 use state_words::client as fields;
 use state_words::pass;
 
+// Returns a client's request. Any nonzero word is a set flag; only the lowest byte of the object counts.
 pub fn request_at(words: &Words, client: usize) -> Request
     requires { ⌜ client < 16 ⌝ }
     ensures { λ r. ⌜ r ≡ getD (requestsOf (now (words .entry))) client noRequest ⌝ }

@@ -1,4 +1,5 @@
--- What each step of a client comes to. Letters: s setup, w and x the words and values before, d client, o object, v volume, c copy, r request.
+-- The effect of each step of a client.
+-- Letters: s setup, w and x the words and values before, d client, o object, v volume, c copy, r request.
 use Prim.Native.Nat.{ℕ, _+_, _*_, _<_}
 use native.Mathlib.Omega.{arith}
 use mathlib.Core.Bool.{Bool, true, false, cond}

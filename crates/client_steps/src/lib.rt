@@ -1,4 +1,4 @@
-// What a client does by itself: read, ask, restart (01, "Steps" 2, 3 and 9).
+// Performs a client's own steps: read, ask and restart (01, "Steps" 2, 3 and 9).
 ghost use mathlib.Core.Path.{_≡_};
 ghost use mathlib.Core.Bool.{true};
 ghost use Prim.Native.Nat.{_<_};
@@ -20,7 +20,7 @@ use state_words::client;
 use state_words::network;
 use state_words::pass;
 
-// Step 2: "shown with its value; else "ask first"". No table and no record changes.
+// Step 2: "shown with its value; else "ask first"". Changes no table and no record.
 pub fn read(s: Setup, words: &Words, c: Copy, client: u8, object: u8) -> Answer
     requires { ⌜ inRange s ≡ true ⌝ }
     requires { ⌜ client < s .clients ⌝ }
@@ -36,7 +36,7 @@ pub fn read(s: Setup, words: &Words, c: Copy, client: u8, object: u8) -> Answer
     Answer::AskFirst
 }
 
-// Step 3: "send RENEW with number, known epoch and held version". The number is taken by `client_cache::request::number`.
+// Step 3: "send RENEW with number, known epoch and held version". `client_cache::request::number` takes the number.
 pub fn ask(
     s: Setup,
     words: &mut Words,
@@ -63,7 +63,7 @@ pub fn ask(
     push(&mut *words, &mut *values, Message { client, kind });
 }
 
-// Step 9: "only its next request number remains": what the client knows of each volume goes. The values are lent for the contract alone.
+// Step 9: "only its next request number remains". Clears what the client knows of each volume. Only the contract needs the values.
 pub fn restart(s: Setup, words: &mut Words, values: &Values, client: u8)
     requires { ⌜ inRange s ≡ true ⌝ }
     requires { ⌜ client < s .clients ⌝ }

@@ -1,4 +1,4 @@
--- Where a pass stops.
+-- The three cases of `stopOf`: within the list, at its end, or at once.
 use Prim.Native.Nat.{ℕ, _+_, _-_, _≤_, _<_}
 use mathlib.Core.Path.{_≡_}
 use borrow.Author.Tests.{lt-ltb, le-ltb}

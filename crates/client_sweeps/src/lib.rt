@@ -1,4 +1,4 @@
-// A sweep over one client's copies in a list of all, by value: where it stops, and what it leaves at a place.
+// Computes a sweep over one client's copies in the list of all, by value: where it stops, and what each copy becomes.
 ghost use mathlib.Core.Path.{_≡_};
 ghost use Prim.Native.Nat.{_-_};
 ghost use Rattle.protocol.specs.Client as client;
@@ -7,6 +7,7 @@ use protocol::records::Copy;
 use protocol::setup::Setup;
 use protocol::step::Sweep;
 
+// Returns a - b, or 0 if b is greater.
 fn less(a: usize, b: usize) -> usize
     ensures { λ r. ⌜ r ≡ a - b ⌝ }
 {
@@ -16,7 +17,7 @@ fn less(a: usize, b: usize) -> usize
     a - b
 }
 
-// The copy at place k of a list in which the client's copies begin at `first`.
+// Returns the swept copy at place k of a list in which the client's copies begin at `first`.
 pub fn swept_at(s: Setup, g: Sweep, c: Copy, k: usize, first: usize) -> Copy
     ensures { λ r. ⌜ r ≡ client.swept s g c (k - first) ⌝ }
 {
@@ -24,7 +25,7 @@ pub fn swept_at(s: Setup, g: Sweep, c: Copy, k: usize, first: usize) -> Copy
     client_cache::copy::sweep(s, g, c, o)
 }
 
-// How many copies a sweep goes over.
+// Returns the number of copies that a sweep visits.
 fn sweeps(g: Sweep, objects: u32) -> usize
     ensures { λ r. ⌜ r ≡ client.sweeps g objects ⌝ }
 {
@@ -35,7 +36,7 @@ fn sweeps(g: Sweep, objects: u32) -> usize
     }
 }
 
-// Where n places from `first` on end in a list of `len`.
+// Returns where n places from `first` on end, cut off at the end of a list of length `len`; `first` if there are none.
 fn stop(first: usize, n: usize, len: usize) -> usize
     ensures { λ r. ⌜ r ≡ stopOf first n len ⌝ }
 {
@@ -48,7 +49,7 @@ fn stop(first: usize, n: usize, len: usize) -> usize
     first
 }
 
-// Where a sweep stops in a list of `len`.
+// Returns where a sweep stops in a list of length `len`.
 pub fn stop_at(s: Setup, g: Sweep, first: usize, len: usize) -> usize
     ensures { λ r. ⌜ r ≡ stopOf first (client.sweeps g (s .objects)) len ⌝ }
 {

@@ -1,4 +1,5 @@
--- `client_lent::copies::change` meets its contract: a walk of its MIR, by hand. By cases on what becomes of the copy, the slice is lent to `store`, to `erase`, or to neither. Assumes nothing.
+-- Proves the contract of `client_lent::copies::change` by walking its MIR by hand: depending on the change, it lends the slice to `store`, to `erase`
+-- or to neither. Assumes nothing.
 use mathlib.Core.Path.{_≡_, refl, sym, ap, subst}
 use Prim.Native.Nat.{ℕ, _<_, _^_}
 use mathlib.Core.List.{[], _∷_, List}
@@ -83,7 +84,7 @@ pointer = tyRef erased mut (pointee (R .written))
 abbrev slice : Lifetime → Ty
 slice ℓ = sliceTy (tyRef ℓ mut (pointee (R .written)))
 
--- the arms of the match, and what follows it
+-- the arms of the match, and the code after it
 abbrev fills : Code
 fills = seq (assign (place 4 []) (rvOpd (copy (place 3 (variant 1 ∷ field 1 ∷ [])))))
     (seq (assign (place 6 []) (addrOf (place 1 (field 0 ∷ deref R′.mir ∷ []))))
@@ -132,15 +133,15 @@ module _ {M : Type 1} (𝓤 : URA M) (H : Heap 𝓤) (A : Atoms 𝓤) (W : Given
   abbrev Post : CopyChange → Val → SProp 𝓤
   Post u = walkOf 𝓤 H A this.ended stayed (this.clauses 𝓤 H A at-mem run) .post (((κ, tt), (q, tt), tt, a u, at u), tt)
 
-  -- what the list becomes
+  -- the list after the change
   abbrev after : CopyChange → List Copy
   after u = set ys i (changed (getD ys i noCopy) u)
 
-  -- the slice as it is lent on
+  -- the slice as lent to a callee
   abbrev own-at : ℕ → GName → Fml
   own-at ν δ = MutSlice (named 0) (ν ∷ []) R .own (x δ ys) (s ∷ [])
 
-  -- store
+  -- the call of `store`
   abbrev args-store : Copy → GName → RefT (List Copy) × (ℕ × (Copy × (Unit {0})))
   args-store c δ = (x δ ys, (i, (c, tt)))
 
@@ -152,7 +153,7 @@ module _ {M : Type 1} (𝓤 : URA M) (H : Heap 𝓤) (A : Atoms 𝓤) (W : Given
       qed W (‵ (flft (ν ∷ []) fullShare) ∷ ‵ (own-at ν δ) ∷ []) ∵ nothing ! $ move ! (1 ∷ 0 ∷ []) $ join ! $ nothing ! $
       owned ! R (Is R) (LL.makes R-.the-type R′.the-plain 𝓤 H A) c _ is-c $ fjoin ! $ owned ! usize (Is usize) (uint-makes 𝓤 H A W w64) i _ (refl, i-fits) $ fjoin ! $ move ! (2 ∷ 0 ∷ []) $ fjoin ! $ move ! (1 ∷ 0 ∷ []) $ join ! $ nothing ! $ move ! (1 ∷ 0 ∷ []) $ done !
 
-  -- erase
+  -- the call of `erase`
   abbrev args-erase : GName → RefT (List Copy) × (ℕ × (Unit {0}))
   args-erase δ = (x δ ys, (i, tt))
 
@@ -184,7 +185,7 @@ module _ {M : Type 1} (𝓤 : URA M) (H : Heap 𝓤) (A : Atoms 𝓤) (W : Given
       abbrev En : Env 𝓤 H
       En = (tyUnit, l₀) ∷ (slice (named 0), l₁) ∷ (tyInt w64, l₂) ∷ (Y′.mir, l₃) ∷ (R′.mir, l₄) ∷ (tyUnit, l₅) ∷ (pointer, l₆) ∷ (slice erased, l₇) ∷ (tyUnit, l₈) ∷ (pointer, l₉) ∷ (slice erased, l₁₀) ∷ []
 
-      -- the borrow, open, with the copies at zs, and the locals
+      -- the open borrow, with zs as the copies, and the locals
       abbrev Has : CopyChange → List Copy → List (Item 𝓤)
       Has u zs = ‵ (row R fullShare zs b o) ∷ ‵ (fobor κ q (Held R n b o γ)) ∷ ‵ (fobs γ (codedHoleys R .code (heres R ys))) ∷ ‵ (fauth γ (codedHoleys R .code (heres R ys)))
           ∷ ‵ (froom tyUnit l₀ 0) ∷ ‵ (fat fullShare (slice (named 0)) l₁ 0 s) ∷ ‵ (fat fullShare (tyInt w64) l₂ 0 (vint w64 i)) ∷ ‵ (fat fullShare Y′.mir l₃ 0 (vu u)) ∷ ‵ (froom R′.mir l₄ 0) ∷ ‵ (froom tyUnit l₅ 0) ∷ ‵ (froom pointer l₆ 0) ∷ ‵ (froom (slice erased) l₇ 0) ∷ ‵ (froom tyUnit l₈ 0) ∷ ‵ (froom pointer l₉ 0) ∷ ‵ (froom (slice erased) l₁₀ 0)
@@ -200,7 +201,7 @@ module _ {M : Type 1} (𝓤 : URA M) (H : Heap 𝓤) (A : Atoms 𝓤) (W : Given
           returns ! (look ! 3 refl) $ forget ! 3 refl $ forget ! 4 refl $ forget ! 5 refl $ forget ! 6 refl $
           move ! (3 ∷ 14 ∷ []) $ free1 ! $ move ! (3 ∷ 13 ∷ []) $ free1 ! $ move ! (3 ∷ 12 ∷ []) $ free1 ! $ move ! (3 ∷ 11 ∷ []) $ free1 ! $ move ! (3 ∷ 10 ∷ []) $ free1 ! $ move ! (3 ∷ 9 ∷ []) $ free1 ! $ move ! (3 ∷ 8 ∷ []) $ free1 ! $ move ! (3 ∷ 7 ∷ []) $ free1 ! $ move ! (3 ∷ 6 ∷ []) $ free1 ! $ move ! (3 ∷ 5 ∷ []) $ free1 ! $ move ! (3 ∷ 4 ∷ []) $ free1 ! $ free0 ! $ by ! (exits u is-u zs e len gn)
 
-      -- by cases on what becomes of the copy: the tag is then a numeral
+      -- by cases on the change, so that the tag is a numeral
       matched : (u : CopyChange) → Is Y u (vu u ∷ []) → Sq W (Has u ys) (runs C Λ En the-match (Then u))
       matched Keep is-u =
           switches-on ! (load ! (from ! (vrt ! refl (fld ! refl (stop !)))) (look-tag ! 7 (whole !))) $ exec ! C Λ En skipᴹ (Then Keep) $ skips ! $ exec ! C Λ En rest (atRet En (Post Keep)) $ leaves Keep is-u ys (sym (set-getD ys i noCopy)) refl

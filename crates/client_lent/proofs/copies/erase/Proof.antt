@@ -1,4 +1,4 @@
--- `client_lent::copies::erase` meets its contract: a walk of its MIR, by hand. The slice is lent to `store`, with no copy. Assumes nothing.
+-- Proves the contract of `client_lent::copies::erase` by walking its MIR by hand: it lends the slice to `store`, with the empty copy. Assumes nothing.
 use mathlib.Core.Path.{_≡_, refl, sym, ap, subst, _∙_}
 use Prim.Native.Nat.{ℕ, _<_, _^_}
 use mathlib.Core.List.{[], _∷_, List}
@@ -95,7 +95,7 @@ module _ {M : Type 1} (𝓤 : URA M) (H : Heap 𝓤) (A : Atoms 𝓤) (W : Given
   said-R : {w : Val} (c : Copy) → Is R c (w ∷ []) → Is R c ((LL.val R-.the-type R′.the-laws c) ∷ [])
   said-R {w} c is = subst (λ (vs : List Val). Is R c vs) (LL.tells R-.the-type R′.the-laws c (w ∷ []) is) is
 
-  -- none
+  -- the call of `none`
   abbrev args-no-copy : Unit {0}
   args-no-copy = tt
 
@@ -108,7 +108,7 @@ module _ {M : Type 1} (𝓤 : URA M) (H : Heap 𝓤) (A : Atoms 𝓤) (W : Given
   got-no-copy : (r : Copy) → ent 𝓤 (ensured 𝓤 H A no-copy-c.ended (no-copy-c.clauses 𝓤 H A at-mem run) tt (args-no-copy) tt r) (fact 𝓤 (r ≡ noCopy))
   got-no-copy r = exE 𝓤 _ (λ ws. snd∗ 𝓤 (sem 𝓤 H A (lasts no-copy-c.ended tt (args-no-copy) ws)) (fact 𝓤 (r ≡ noCopy)))
 
-  -- store
+  -- the call of `store`
   abbrev args-store : GName → RefT (List Copy) × (ℕ × (Copy × (Unit {0})))
   args-store δ = (x δ (ys), (i, (noCopy, tt)))
 
@@ -135,13 +135,13 @@ module _ {M : Type 1} (𝓤 : URA M) (H : Heap 𝓤) (A : Atoms 𝓤) (W : Given
         qed W ((‵ (flft κ q) ⊛ ‵ ftrue) ∷ ‵ (owns (MutSlice (named 0) κ R ∷ usize ∷ []) a at) ∷ []) ∵ enter ! (𝓣 .C) (𝓣 .Λ) code.function (s ∷ vint w64 i ∷ []) _ $
         alloc1 ! (λ l₀. alloc1 ! (λ l₁. alloc1 ! (λ l₂. alloc1 ! (λ l₃. alloc1 ! (λ l₄. alloc1 ! (λ l₅. alloc1 ! (λ l₆. alloc0 ! $ params1 ! $ pass1 ! (init ! 10 refl (tt, (tt, (record { fits = gn .0 }, tt)))) $ pass1 ! (init ! 8 refl (tt, record { fits = i-fits })) $ pass0 ! $
         move ! (15 ∷ []) $ fsplit ! $ fsplit ! $ move ! (1 ∷ []) $ fsplit ! $ move ! (18 ∷ []) $ split ! $ move ! (2 ∷ 3 ∷ 0 ∷ []) $ opens-slice ! tt R ys b o $
-        -- none
+        -- the call of `none`
         use0 W (raw (On-no-copy 𝓤 H A at-mem run .pre (to-no-copy))) (goes-no-copy) $
         calls-at ! fm (On-no-copy 𝓤 H A at-mem run) known-no-copy (to-no-copy) (no-more !) (λ w.
         use1 W (later (some (λ (r : Copy). (‵ ftrue ⊛ ‵ (R .own r (w ∷ []))) ⊛ raw (ensured 𝓤 H A no-copy-c.ended (no-copy-c.clauses 𝓤 H A at-mem run) tt (args-no-copy) tt r)))) (id⊢ 𝓤 _) $ await ! tt $ pick ! (λ r₀.
         split ! $ move ! (1 ∷ []) $ use1 W (raw (fact 𝓤 (r₀ ≡ noCopy))) (got-no-copy r₀) $ heard ! (r₀ ≡ noCopy) (λ e₀. split ! $ drop ! $ facts ! R (Is R) (shows 𝓤 H A R) r₀ (w ∷ []) (λ is₀.
         land ! (from ! (stop !)) (init ! 13 refl (LL.lawful R-.the-type R′.the-laws 𝓤 H A W .typed r₀ _ is₀ .0)) $ rewrite ! 13 (λ (u : Val). ‵ (fat fullShare R′.mir l₃ 0 u)) (ap only (LL.tells R-.the-type R′.the-laws r₀ _ is₀) ∙ ap (λ (z : Copy). (LL.val R-.the-type R′.the-laws z)) e₀) refl $
-        -- store
+        -- the call of `store`
         assigns ! (addr ! (from ! (fld ! refl (hop ! (look-in ! 17 (sub ! 0 refl (whole !))) (stop !))))) (from ! (stop !)) (init ! 9 refl (tt, tt)) $
         assigns ! (agg ! (and-then ! (load ! (from ! (stop !)) (look ! 9 refl)) (and-then ! (load ! (from ! (fld ! refl (stop !))) (look-in ! 17 (sub ! 1 refl (whole !)))) (no-more !)))) (from ! (stop !)) (init ! 7 refl (tt, (tt, (record { fits = gn .0 }, tt)))) $
         lft-new ! tt (λ ν.

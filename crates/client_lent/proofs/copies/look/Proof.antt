@@ -1,4 +1,4 @@
--- `client_lent::copies::look` meets its contract: a walk of its MIR, by hand. Assumes nothing.
+-- Proves the contract of `client_lent::copies::look` by walking its MIR by hand. Assumes nothing.
 use mathlib.Core.Path.{_≡_, refl, sym}
 use Prim.Native.Nat.{ℕ, _<_, _^_, _*_}
 use native.Mathlib.Omega.{arith}
@@ -52,11 +52,11 @@ R = T.the-row
 abbrev stayed : Stays (this.ended .signature .params) (this.ended .kept)
 stayed = (stay-none-slice (0 ∷ []) tt (plain (λ _. R)) yes, (stay-none (λ _. usize) yes, tt))
 
--- what follows the branch
+-- the code after the branch
 abbrev rest : Code
 rest = seq (assign (placeᴹ 0 []) (aggregate (int w32 0 ∷ int w64 0 ∷ int w32 0 ∷ []))) return
 
--- the machine value of a blank copy, and that it is one
+-- the machine value of a blank copy, and the proof that it is one
 abbrev blank : Val
 blank = vstruct (vcons (vint w32 0) (vcons (vint w64 0) (vcons (vint w32 0) vnil)))
 
@@ -85,7 +85,7 @@ module _ {M : Type 1} (𝓤 : URA M) (H : Heap 𝓤) (A : Atoms 𝓤) (W : Given
   abbrev Post : Val → SProp 𝓤
   Post = walkOf 𝓤 H A this.ended stayed (this.clauses 𝓤 H A at-mem run) .post (((κ, tt), (q, tt), tt, a, at), tt)
 
-  -- from what is left at exit: the result is the record r, at its machine value
+  -- what is held at exit gives the postcondition: the result is the record r, with its machine value v
   exits : (r : Copy) (v : Val) → r ≡ getD ys i noCopy → Is R r (v ∷ []) → ent 𝓤 (⋆ 𝓤 H A (‵ (flft κ q) ∷ ‵ (ShrSlice (named 0) κ R .own (a .0) (at .0)) ∷ ‵ (usize .own i (vint w64 i ∷ [])) ∷ [])) (Post v)
   exits r v e is =
       qed W (‵ (flft κ q) ∷ ‵ (ShrSlice (named 0) κ R .own (a .0) (at .0)) ∷ ‵ (usize .own i (vint w64 i ∷ [])) ∷ []) ∵
@@ -99,11 +99,11 @@ module _ {M : Type 1} (𝓤 : URA M) (H : Heap 𝓤) (A : Atoms 𝓤) (W : Given
         qed W ((‵ (flft κ q) ⊛ ‵ ftrue) ∷ ‵ (owns (ShrSlice (named 0) κ R ∷ usize ∷ []) a at) ∷ []) ∵ enter ! C Λ code.function (s ∷ vint w64 i ∷ []) _ $
         alloc1 ! (λ l₀. alloc1 ! (λ l₁. alloc1 ! (λ l₂. alloc1 ! (λ l₃. alloc1 ! (λ l₄. alloc1 ! (λ l₅. alloc1 ! (λ l₆. alloc1 ! (λ l₇. alloc0 ! $ params1 ! $
         pass1 ! (init ! 12 refl (tt, (tt, (record { fits = gn .0 }, tt)))) $ pass1 ! (init ! 10 refl (tt, record { fits = gi })) $ pass0 ! $
-        -- [_7; …; _6; …; _5; …; _4; …; _3; …; _2; …; _1; …; room for _0; …; the token; what the parameters own]: the length, and the test
+        -- [_7; …; _6; …; _5; …; _4; …; _3; …; _2; …; _1; …; room for _0; …; the token; what the parameters own]: load the length and test i
         assigns ! (of-opd ! (load ! (from ! (fld ! refl (stop !))) (look-in ! 12 (sub ! 1 refl (whole !))))) (from ! (stop !)) (init ! 8 refl (tt, record { fits = gn .0 })) $
         assigns ! (bin ! (load ! (from ! (stop !)) (look ! 10 refl)) (load ! (from ! (stop !)) (look ! 8 refl)) tt) (from ! (stop !)) (init ! 6 refl (tt, tt)) $
         first ! $ branches ! (load ! (from ! (stop !)) (look ! 6 refl))
-        -- it is within: the arm returns
+        -- i is inside the slice: the arm returns
         (λ yes. let l : i < length ys = ltb→lt i (length ys) yes in
         assigns ! (bin ! (load ! (from ! (stop !)) (look ! 10 refl)) (lit ! tt) (record { fits = scaled i (length ys) l (gn .1) })) (from ! (stop !)) (init ! 4 refl (tt, record { fits = scaled i (length ys) l (gn .1) })) $
         assigns ! (bin ! (load ! (from ! (fld ! refl (stop !))) (look-in ! 12 (sub ! 0 refl (whole !)))) (load ! (from ! (stop !)) (look ! 4 refl)) tt) (from ! (stop !)) (init ! 2 refl (tt, tt)) $
@@ -112,7 +112,7 @@ module _ {M : Type 1} (𝓤 : URA M) (H : Heap 𝓤) (A : Atoms 𝓤) (W : Given
         looks-slice ! tt R (Is R) (shows 𝓤 H A R) (LL.vals T.the-type T′.the-laws) (LL.tells T.the-type T′.the-laws) (LL.copy T.the-type T′.the-copy 𝓤 H A W) ys b o (λ q′.
         elem-out ! R (Is R) (shows 𝓤 H A R) (LL.vals T.the-type T′.the-laws) (LL.tells T.the-type T′.the-laws) q′ ys i noCopy b o l (λ is.
         use1 W (‵ (fat q′ T′.mir b (place 24 o i) v₀)) (W .laws .raw-at q′ T′.mir b (place 24 o i) v₀) $
-        -- [copies[i]; what it owns; the others; what shuts; the fractured borrow; true; res; copies' fact; i's; _7; …; _6; …; .. ; _0; …]
+        -- [copies[i]; what it owns; the others; what shuts the slice; the fractured borrow; true; res; copies' fact; i's; _7; …; _6; …; .. ; _0; …]
         assigns ! (of-opd ! (load ! (from ! (hop ! (look ! 11 refl) (stop !))) (look ! 0 refl))) (from ! (stop !)) (init ! 9 refl (LL.lawful T.the-type T′.the-laws 𝓤 H A W .typed c₀ _ is .0)) $
         assigns ! (of-opd ! (load ! (from ! (stop !)) (look ! 9 refl))) (from ! (stop !)) (init ! 23 refl (LL.lawful T.the-type T′.the-laws 𝓤 H A W .typed c₀ _ is .0)) $
         use1 W (‵ (cellAt q′ (R .mir) (v₀ ∷ []) b (place 24 o i))) (W .laws .at-raw q′ T′.mir b (place 24 o i) v₀) $
@@ -120,7 +120,7 @@ module _ {M : Type 1} (𝓤 : URA M) (H : Heap 𝓤) (A : Atoms 𝓤) (W : Given
         returns-within ! Post refl (look ! 20 refl) $ forget ! 6 refl $ forget ! 8 refl $ forget ! 10 refl $ forget ! 12 refl $ forget ! 14 refl $ forget ! 16 refl $ forget ! 18 refl $ forget ! 20 refl $
         move ! (20 ∷ 21 ∷ []) $ free1 ! $ move ! (18 ∷ 19 ∷ []) $ free1 ! $ move ! (16 ∷ 17 ∷ []) $ free1 ! $ move ! (14 ∷ 15 ∷ []) $ free1 ! $ move ! (12 ∷ 13 ∷ []) $ free1 ! $ move ! (10 ∷ 11 ∷ []) $ free1 ! $ move ! (8 ∷ 9 ∷ []) $ free1 ! $ move ! (6 ∷ 7 ∷ []) $ free1 ! $ free0 ! $
         move ! (3 ∷ 1 ∷ []) $ fjoin ! $ move ! (3 ∷ 0 ∷ []) $ fjoin ! $ move ! (3 ∷ []) $ fsplit ! $ keep ! (3 ∷ 2 ∷ 0 ∷ []) $ by ! (exits c₀ v₀ refl is))))
-        -- it is not: a blank one
+        -- i is past the end: a blank record is returned
         (λ no. skips ! $ exec ! C Λ ((T′.mir, l₀) ∷ (sliceTy (tyRef (named 0) imm (pointee (R .written))), l₁) ∷ (tyInt w64, l₂) ∷ (tyInt w64, l₃) ∷ (tyBool, l₄) ∷ (tyInt w64, l₅) ∷ (tyPtr, l₆) ∷ (T′.mir, l₇) ∷ []) rest (atRet _ Post) $
         assigns ! (agg ! (and-then ! (lit ! tt) (and-then ! (lit ! tt) (and-then ! (lit ! tt) (no-more !))))) (from ! (stop !)) (init ! 14 refl (tt, (record { fits = lit< tt }, (record { fits = lit< tt }, (record { fits = lit< tt }, tt))))) $
         returns ! (look ! 14 refl) $ forget ! 6 refl $ forget ! 8 refl $ forget ! 10 refl $ forget ! 12 refl $ forget ! 14 refl $

@@ -1,4 +1,5 @@
--- `client_lent::requests::sound` meets its contract: a walk of its MIR, by hand, with a loop that reads one record a turn and calls the covered `still_sound` on it. Assumes nothing.
+-- Proves the contract of `client_lent::requests::sound` by walking its MIR by hand. Each iteration of its loop reads one record and calls the covered
+-- `still_sound` on it. Assumes nothing.
 use mathlib.Core.Path.{_≡_, refl, sym, ap, _∙_}
 use Prim.Native.Nat.{ℕ, zero, suc, _+_, _*_, _<_, _≤_, _^_}
 use native.Mathlib.Omega.{arith}
@@ -85,7 +86,7 @@ word = tyInt w64
 abbrev slice : Ty
 slice = sliceTy (tyRef (named 0) imm (pointee (Q .written)))
 
--- the code of a turn, and what follows the loop
+-- the code of one iteration, and the code after the loop
 abbrev turn : Code
 turn = seq (assign (place 6 []) (rvOpd (copy (place 1 (field 1 ∷ [])))))
     (seq (assign (place 7 []) (op2 (lt unsigned) (copy (place 4 [])) (copy (place 6 []))))
@@ -136,14 +137,14 @@ module _ {M : Type 1} (𝓤 : URA M) (H : Heap 𝓤) (A : Atoms 𝓤) (W : Given
   abbrev v₀ : ℕ → Val
   v₀ k = (LL.val Q-.the-type Q′.the-laws (c₀ k))
 
-  -- the test of one record, and the answer so far with it
+  -- the test of record k, and the answer so far combined with it
   abbrev fits-at : ℕ → Bool
   fits-at k = requestSound st (c₀ k)
 
   abbrev soundAt : Bool → ℕ → Bool
   soundAt ok k = ok && fits-at k
 
-  -- as-many
+  -- the call of `as_many`
   abbrev args-as-many : Setup × (ℕ × (Unit {0}))
   args-as-many = (st, (n, tt))
 
@@ -156,7 +157,7 @@ module _ {M : Type 1} (𝓤 : URA M) (H : Heap 𝓤) (A : Atoms 𝓤) (W : Given
   got-as-many : (r : Bool) → ent 𝓤 (ensured 𝓤 H A as-many-c.ended (as-many-c.clauses 𝓤 H A at-mem run) tt (args-as-many) tt r) (fact 𝓤 (r ≡ eqb n (st .clients)))
   got-as-many r = exE 𝓤 _ (λ ws. snd∗ 𝓤 (sem 𝓤 H A (lasts as-many-c.ended tt (args-as-many) ws)) (fact 𝓤 (r ≡ eqb n (st .clients))))
 
-  -- still-sound
+  -- the call of `still_sound`
   abbrev args-still-sound : (k : ℕ) (ok : Bool) → Bool × (Request × (Setup × (Unit {0})))
   args-still-sound k ok = (ok, ((c₀ k), (st, tt)))
 
@@ -186,7 +187,7 @@ module _ {M : Type 1} (𝓤 : URA M) (H : Heap 𝓤) (A : Atoms 𝓤) (W : Given
     abbrev En : Env 𝓤 H
     En = (tyBool, l₀) ∷ (slice, l₁) ∷ (S′.mir, l₂) ∷ (tyBool, l₃) ∷ (word, l₄) ∷ (word, l₅) ∷ (word, l₆) ∷ (tyBool, l₇) ∷ (tyPtr, l₈) ∷ (Q′.mir, l₉) ∷ []
 
-    -- k records are done, and the answer so far is ok
+    -- k records are done, and ok is the answer so far
     abbrev At : ℕ → Bool → List (Item 𝓤)
     At k ok = ‵ (row Q q′ ys b o) ∷ ‵ (fat fullShare word l₄ 0 (vint w64 k)) ∷ ‵ (froom word l₆ 0) ∷ ‵ (froom tyBool l₇ 0) ∷ ‵ (froom tyPtr l₈ 0) ∷ ‵ (froom Q′.mir l₉ 0) ∷ ‵ (fat fullShare tyBool l₃ 0 (vbool ok)) ∷ ‵ (fat fullShare slice l₁ 0 s) ∷ ‵ (fat fullShare S′.mir l₂ 0 (LL.val S-.the-type S′.the-laws st)) ∷ ‵ (fat fullShare word l₅ 0 (vint w64 n)) ∷ ‵ (froom tyBool l₀ 0)
         ∷ ‵ (fobor κ q (arr-parts (shares Q) n .part q′ ys b o)) ∷ ‵ (ShrSlice (named 0) κ Q .own x (s ∷ []))
@@ -195,7 +196,7 @@ module _ {M : Type 1} (𝓤 : URA M) (H : Heap 𝓤) (A : Atoms 𝓤) (W : Given
     abbrev Facts : ℕ → ℕ → Bool → Type 0
     Facts t k ok = (k + t ≡ n) × ((ok && allFrom fits-at k t) ≡ requestsSound st ys)
 
-    -- the invariant, where t records are left
+    -- the invariant, with t records left
     abbrev Inv : ℕ → SProp 𝓤
     Inv t = ex 𝓤 (λ (k : ℕ). ex 𝓤 (λ (ok : Bool). guard 𝓤 (Facts t k ok) (⋆ 𝓤 H A (At k ok))))
 
@@ -211,7 +212,7 @@ module _ {M : Type 1} (𝓤 : URA M) (H : Heap 𝓤) (A : Atoms 𝓤) (W : Given
         (via 𝓤 (ex 𝓤 (λ (z : Bool). guard 𝓤 (Facts t k z) (⋆ 𝓤 H A (At k z)))) (exI 𝓤 (λ (z : Bool). guard 𝓤 (Facts t k z) (⋆ 𝓤 H A (At k z))) ok)
         (exI 𝓤 (λ (j : ℕ). ex 𝓤 (λ (z : Bool). guard 𝓤 (Facts t j z) (⋆ 𝓤 H A (At j z)))) k))
 
-    -- a turn that does one record
+    -- an iteration that tests one record
     more : (k : ℕ) (ok : Bool) (X : SProp 𝓤) → k < n → ent 𝓤 (⋆ 𝓤 H A (At (k + 1) (soundAt ok k))) X → ent 𝓤 (⋆ 𝓤 H A (At k ok)) (Wp 𝓤 H C Λ En turn (afterTurn 𝓤 H X Left))
     unfolding afterTurn
     more k ok X small on =
@@ -225,7 +226,7 @@ module _ {M : Type 1} (𝓤 : URA M) (H : Heap 𝓤) (A : Atoms 𝓤) (W : Given
         use1 W (‵ (fat q′ Q′.mir b (spot 16 o k) (v₀ k))) (W .laws .raw-at q′ Q′.mir b (spot 16 o k) (v₀ k)) $
         assigns ! (of-opd ! (load ! (from ! (hop ! (look ! 6 refl) (stop !))) (look ! 0 refl))) (from ! (stop !)) (init ! 7 refl (LL.lawful Q-.the-type Q′.the-laws 𝓤 H A W .typed (c₀ k) _ is .0)) $
         use1 W (‵ (cellAt q′ (Q .mir) (v₀ k ∷ []) b (spot 16 o k))) (W .laws .at-raw q′ Q′.mir b (spot 16 o k) (v₀ k)) $ elem-back ! Q q′ ys k noRequest (v₀ k ∷ []) b o small $
-        -- still-sound
+        -- the call of `still_sound`
         use0 W (raw (On-still-sound 𝓤 H A at-mem run .pre (to-still-sound k ok))) (goes-still-sound k ok is) $
         calls-at ! fm (On-still-sound 𝓤 H A at-mem run) known-still-sound (to-still-sound k ok) (and-then ! (load ! (from ! (stop !)) (look ! 7 refl)) (and-then ! (load ! (from ! (stop !)) (look ! 6 refl)) (and-then ! (load ! (from ! (stop !)) (look ! 9 refl)) (no-more !)))) (λ w.
         use1 W (later (some (λ (r : Bool). (‵ ftrue ⊛ ‵ (Boolean .own r (w ∷ []))) ⊛ raw (ensured 𝓤 H A still-sound-c.ended (still-sound-c.clauses 𝓤 H A at-mem run) tt (args-still-sound k ok) tt r)))) (id⊢ 𝓤 _) $ await ! tt $ pick ! (λ r₁.
@@ -234,7 +235,7 @@ module _ {M : Type 1} (𝓤 : URA M) (H : Heap 𝓤) (A : Atoms 𝓤) (W : Given
         assigns-last ! (bin ! (load ! (from ! (stop !)) (look ! 1 refl)) (lit ! tt) (record { fits = next k n small (gn .0) })) (from ! (stop !)) (store ! 1 refl (tt, record { fits = next k n small (gn .0) })) $
         forget ! 2 refl $ forget ! 3 refl $ forget ! 4 refl $ forget ! 5 refl $ keep ! (0 ∷ 1 ∷ 2 ∷ 3 ∷ 4 ∷ 5 ∷ 6 ∷ 7 ∷ 8 ∷ 9 ∷ 10 ∷ 11 ∷ 12 ∷ 13 ∷ 14 ∷ 15 ∷ 16 ∷ 17 ∷ 18 ∷ 19 ∷ 20 ∷ 21 ∷ 22 ∷ []) $ by ! on)))))
 
-    -- the turn that leaves the loop, and the rest of the body
+    -- the exit from the loop, and the rest of the body
     ends : (k : ℕ) (ok : Bool) (X : SProp 𝓤) → n ≤ k → ok ≡ requestsSound st ys → ent 𝓤 (⋆ 𝓤 H A (At k ok)) (Wp 𝓤 H C Λ En turn (afterTurn 𝓤 H X Left))
     unfolding afterTurn
     ends k ok X past e =
@@ -265,7 +266,7 @@ module _ {M : Type 1} (𝓤 : URA M) (H : Heap 𝓤) (A : Atoms 𝓤) (W : Given
     unfolding requestsSound
     loops = via 𝓤 (Inv n) (enters n 0 (eqb n (st .clients)) (omega arith, refl)) (loop-rule 𝓤 H (W .laws) 𝓣 _<_ (Nat·lt-wfRel .wf) En turn Left Inv turns n)
 
-    -- what the body starts from: the slice open, the arguments in their locals
+    -- the state at the start of the body: the slice is open, the arguments are in their locals
     abbrev Start : List (Item 𝓤)
     Start = ‵ (row Q q′ ys b o) ∷ ‵ (froom tyBool l₃ 0) ∷ ‵ (froom word l₄ 0) ∷ ‵ (froom word l₅ 0) ∷ ‵ (froom word l₆ 0) ∷ ‵ (froom tyBool l₇ 0) ∷ ‵ (froom tyPtr l₈ 0) ∷ ‵ (froom Q′.mir l₉ 0) ∷ ‵ (fat fullShare slice l₁ 0 s) ∷ ‵ (fat fullShare S′.mir l₂ 0 (LL.val S-.the-type S′.the-laws st)) ∷ ‵ (froom tyBool l₀ 0)
         ∷ ‵ (fobor κ q (arr-parts (shares Q) n .part q′ ys b o)) ∷ ‵ (ShrSlice (named 0) κ Q .own x (s ∷ []))
@@ -274,7 +275,7 @@ module _ {M : Type 1} (𝓤 : URA M) (H : Heap 𝓤) (A : Atoms 𝓤) (W : Given
     body : Sq W Start (runs (𝓣 .C) (𝓣 .Λ) En (code.function .body) (atRet En Post))
     body =
         assigns ! (of-opd ! (load ! (from ! (fld ! refl (stop !))) (look-in ! 8 (sub ! 1 refl (whole !))))) (from ! (stop !)) (init ! 3 refl (tt, record { fits = gn .0 })) $
-        -- as-many
+        -- the call of `as_many`
         use0 W (raw (On-as-many 𝓤 H A at-mem run .pre (to-as-many))) (goes-as-many (gn .0)) $
         calls-at ! fm (On-as-many 𝓤 H A at-mem run) known-as-many (to-as-many) (and-then ! (load ! (from ! (stop !)) (look ! 10 refl)) (and-then ! (load ! (from ! (stop !)) (look ! 4 refl)) (no-more !))) (λ w.
         use1 W (later (some (λ (r : Bool). (‵ ftrue ⊛ ‵ (Boolean .own r (w ∷ []))) ⊛ raw (ensured 𝓤 H A as-many-c.ended (as-many-c.clauses 𝓤 H A at-mem run) tt (args-as-many) tt r)))) (id⊢ 𝓤 _) $ await ! tt $ pick ! (λ r₀.

@@ -1,4 +1,5 @@
--- `client_lent::sweep::sweep` meets its contract: a walk of its MIR, by hand. In each turn of its loop the slice is lent to `look`, the covered `swept_at` is called on values, and the slice is lent to `store`. Assumes nothing.
+-- Proves the contract of `client_lent::sweep::sweep` by walking its MIR by hand. Each iteration of its loop lends the slice to `look`, calls the
+-- covered `swept_at` on values, and lends the slice to `store`. Assumes nothing.
 use mathlib.Core.Path.{_≡_, refl, sym, ap, subst, _∙_}
 use Prim.Native.Nat.{ℕ, zero, suc, _+_, _-_, _<_, _≤_, _^_}
 use native.Mathlib.Omega.{arith}
@@ -165,14 +166,14 @@ module _ {M : Type 1} (𝓤 : URA M) (H : Heap 𝓤) (A : Atoms 𝓤) (W : Given
   abbrev f₀ : ℕ → List Copy → Copy
   f₀ k zs = swept st g (c₀ k zs) (k - first)
 
-  -- what a turn makes of the list
+  -- the list after one iteration
   abbrev turnOf : ℕ → List Copy → List Copy
   turnOf k zs = sweepAt st g first zs k
 
   said-R : {w : Val} (c : Copy) → Is R c (w ∷ []) → Is R c ((LL.val R-.the-type R′.the-laws c) ∷ [])
   said-R {w} c is = subst (λ (vs : List Val). Is R c vs) (LL.tells R-.the-type R′.the-laws c (w ∷ []) is) is
 
-  -- stop-at
+  -- the call of `stop_at`
   abbrev args-stop-at : Setup × (Sweep × (ℕ × (ℕ × (Unit {0}))))
   args-stop-at = (st, (g, (first, (n, tt))))
 
@@ -185,7 +186,7 @@ module _ {M : Type 1} (𝓤 : URA M) (H : Heap 𝓤) (A : Atoms 𝓤) (W : Given
   got-stop-at : (r : ℕ) → ent 𝓤 (ensured 𝓤 H A stop-at-c.ended (stop-at-c.clauses 𝓤 H A at-mem run) tt (args-stop-at) tt r) (fact 𝓤 (r ≡ to))
   got-stop-at r = exE 𝓤 _ (λ ws. snd∗ 𝓤 (sem 𝓤 H A (lasts stop-at-c.ended tt (args-stop-at) ws)) (fact 𝓤 (r ≡ to)))
 
-  -- look
+  -- the call of `look`
   abbrev args-look : (k : ℕ) (zs : List Copy) → GName → RefT (List Copy) × (ℕ × (Unit {0}))
   args-look k zs δ = (x δ (zs), (k, tt))
 
@@ -200,7 +201,7 @@ module _ {M : Type 1} (𝓤 : URA M) (H : Heap 𝓤) (A : Atoms 𝓤) (W : Given
   got-look : (k : ℕ) (zs : List Copy) (ν : ℕ) (δ : GName) (r : Copy) → ent 𝓤 (ensured 𝓤 H A look-c.ended (look-c.clauses 𝓤 H A at-mem run) (ν ∷ [], tt) (args-look k zs δ) tt r) (fact 𝓤 (r ≡ c₀ k zs))
   got-look k zs ν δ r = exE 𝓤 _ (λ ws. snd∗ 𝓤 (sem 𝓤 H A (lasts look-c.ended (ν ∷ [], tt) (args-look k zs δ) ws)) (fact 𝓤 (r ≡ c₀ k zs)))
 
-  -- swept-at
+  -- the call of `swept_at`
   abbrev args-swept-at : (k : ℕ) (zs : List Copy) → Setup × (Sweep × (Copy × (ℕ × (ℕ × (Unit {0})))))
   args-swept-at k zs = (st, (g, ((c₀ k zs), (k, (first, tt)))))
 
@@ -213,7 +214,7 @@ module _ {M : Type 1} (𝓤 : URA M) (H : Heap 𝓤) (A : Atoms 𝓤) (W : Given
   got-swept-at : (k : ℕ) (zs : List Copy) (r : Copy) → ent 𝓤 (ensured 𝓤 H A swept-at-c.ended (swept-at-c.clauses 𝓤 H A at-mem run) tt (args-swept-at k zs) tt r) (fact 𝓤 (r ≡ f₀ k zs))
   got-swept-at k zs r = exE 𝓤 _ (λ ws. snd∗ 𝓤 (sem 𝓤 H A (lasts swept-at-c.ended tt (args-swept-at k zs) ws)) (fact 𝓤 (r ≡ f₀ k zs)))
 
-  -- store
+  -- the call of `store`
   abbrev args-store : (k : ℕ) (zs : List Copy) → GName → RefT (List Copy) × (ℕ × (Copy × (Unit {0})))
   args-store k zs δ = (x δ (zs), (k, ((f₀ k zs), tt)))
 
@@ -267,14 +268,14 @@ module _ {M : Type 1} (𝓤 : URA M) (H : Heap 𝓤) (A : Atoms 𝓤) (W : Given
         (via 𝓤 (ex 𝓤 (λ (z : List Copy). guard 𝓤 (Facts t k z) (⋆ 𝓤 H A (At k z)))) (exI 𝓤 (λ (z : List Copy). guard 𝓤 (Facts t k z) (⋆ 𝓤 H A (At k z))) zs)
         (exI 𝓤 (λ (j : ℕ). ex 𝓤 (λ (z : List Copy). guard 𝓤 (Facts t j z) (⋆ 𝓤 H A (At j z)))) k))
 
-    -- a turn that does one copy
+    -- an iteration that sweeps one copy
     more : (k : ℕ) (zs : List Copy) (X : SProp 𝓤) → k < to → to < 2 ^ 64 → length zs ≡ n → ent 𝓤 (⋆ 𝓤 H A (At (k + 1) (turnOf k zs))) X → ent 𝓤 (⋆ 𝓤 H A (At k zs)) (Wp 𝓤 H C Λ En turn (afterTurn 𝓤 H X Left))
     unfolding afterTurn
     more k zs X small to-fits len on =
         qed W (At k zs) ∵ exec ! C Λ En turn (anyQ (afterTurn 𝓤 H X Left)) $
         assigns ! (bin ! (load ! (from ! (stop !)) (look ! 1 refl)) (load ! (from ! (stop !)) (look ! 14 refl)) tt) (from ! (stop !)) (init ! 4 refl (tt, tt)) $
         rewrite ! 4 (λ (t : Bool). ‵ (fat fullShare tyBool l₁₀ 0 (vbool t))) (lt-ltb k to small) refl $ stays ! (load ! (from ! (stop !)) (look ! 4 refl)) $
-        -- look
+        -- the call of `look`
         assigns ! (addr ! (from ! (fld ! refl (hop ! (look-in ! 10 (sub ! 0 refl (whole !))) (stop !))))) (from ! (stop !)) (init ! 5 refl (tt, tt)) $
         assigns ! (agg ! (and-then ! (load ! (from ! (stop !)) (look ! 5 refl)) (and-then ! (load ! (from ! (fld ! refl (stop !))) (look-in ! 10 (sub ! 1 refl (whole !)))) (no-more !)))) (from ! (stop !)) (init ! 6 refl (tt, (tt, (record { fits = gn .0 }, tt)))) $
         lft-new ! tt (λ ν.
@@ -288,13 +289,13 @@ module _ {M : Type 1} (𝓤 : URA M) (H : Heap 𝓤) (A : Atoms 𝓤) (W : Given
         split ! $ lft-end ! tt $
         move ! (0 ∷ 2 ∷ []) $ use2 W (later (‵ (row R fullShare zs b o))) (back-shr 𝓤 H A W R (named 0) (ν ∷ []) b o zs) $ await ! tt $
         move ! (1 ∷ []) $ drop ! $
-        -- swept-at
+        -- the call of `swept_at`
         use0 W (raw (On-swept-at 𝓤 H A at-mem run .pre (to-swept-at k zs))) (goes-swept-at k zs small to-fits (subst (λ (z : Copy). Is R z ((LL.val R-.the-type R′.the-laws z) ∷ [])) e₁ (said-R r₁ is₁))) $
         calls-at ! fm (On-swept-at 𝓤 H A at-mem run) known-swept-at (to-swept-at k zs) (and-then ! (load ! (from ! (stop !)) (look ! 12 refl)) (and-then ! (load ! (from ! (stop !)) (look ! 13 refl)) (and-then ! (load ! (from ! (stop !)) (look ! 3 refl)) (and-then ! (load ! (from ! (stop !)) (look ! 2 refl)) (and-then ! (load ! (from ! (stop !)) (look ! 14 refl)) (no-more !)))))) (λ w.
         use1 W (later (some (λ (r : Copy). (‵ ftrue ⊛ ‵ (R .own r (w ∷ []))) ⊛ raw (ensured 𝓤 H A swept-at-c.ended (swept-at-c.clauses 𝓤 H A at-mem run) tt (args-swept-at k zs) tt r)))) (id⊢ 𝓤 _) $ await ! tt $ pick ! (λ r₂.
         split ! $ move ! (1 ∷ []) $ use1 W (raw (fact 𝓤 (r₂ ≡ f₀ k zs))) (got-swept-at k zs r₂) $ heard ! (r₂ ≡ f₀ k zs) (λ e₂. split ! $ drop ! $ facts ! R (Is R) (shows 𝓤 H A R) r₂ (w ∷ []) (λ is₂.
         land ! (from ! (stop !)) (init ! 3 refl (LL.lawful R-.the-type R′.the-laws 𝓤 H A W .typed r₂ _ is₂ .0)) $ rewrite ! 3 (λ (u : Val). ‵ (fat fullShare R′.mir l₈ 0 u)) (ap only (LL.tells R-.the-type R′.the-laws r₂ _ is₂) ∙ ap (λ (z : Copy). (LL.val R-.the-type R′.the-laws z)) e₂) refl $
-        -- store
+        -- the call of `store`
         assigns ! (addr ! (from ! (fld ! refl (hop ! (look-in ! 10 (sub ! 0 refl (whole !))) (stop !))))) (from ! (stop !)) (init ! 8 refl (tt, tt)) $
         assigns ! (agg ! (and-then ! (load ! (from ! (stop !)) (look ! 8 refl)) (and-then ! (load ! (from ! (fld ! refl (stop !))) (look-in ! 10 (sub ! 1 refl (whole !)))) (no-more !)))) (from ! (stop !)) (init ! 9 refl (tt, (tt, (record { fits = gn .0 }, tt)))) $
         lft-new ! tt (λ ν.
@@ -312,7 +313,7 @@ module _ {M : Type 1} (𝓤 : URA M) (H : Heap 𝓤) (A : Atoms 𝓤) (W : Given
         forget ! 2 refl $ forget ! 3 refl $ forget ! 4 refl $ forget ! 5 refl $ forget ! 6 refl $ forget ! 7 refl $ forget ! 8 refl $ forget ! 9 refl $
         keep ! (0 ∷ 1 ∷ 2 ∷ 3 ∷ 4 ∷ 5 ∷ 6 ∷ 7 ∷ 8 ∷ 9 ∷ 10 ∷ 11 ∷ 12 ∷ 13 ∷ 14 ∷ 15 ∷ 16 ∷ 17 ∷ 18 ∷ 19 ∷ 20 ∷ 21 ∷ 22 ∷ 23 ∷ 24 ∷ 25 ∷ 26 ∷ 27 ∷ 28 ∷ 29 ∷ 30 ∷ 31 ∷ 32 ∷ 33 ∷ 34 ∷ 35 ∷ []) $ by ! on))))))))))))))))))
 
-    -- the turn that leaves the loop, and the rest of the body
+    -- the exit from the loop, and the rest of the body
     ends : (k : ℕ) (zs : List Copy) (X : SProp 𝓤) → to ≤ k → length zs ≡ n → zs ≡ sweptAll st g first ys → ent 𝓤 (⋆ 𝓤 H A (At k zs)) (Wp 𝓤 H C Λ En turn (afterTurn 𝓤 H X Left))
     unfolding afterTurn
     ends k zs X past len e =
@@ -340,7 +341,7 @@ module _ {M : Type 1} (𝓤 : URA M) (H : Heap 𝓤) (A : Atoms 𝓤) (W : Given
     loops : to < 2 ^ 64 → ent 𝓤 (⋆ 𝓤 H A (At first ys)) (Wp 𝓤 H C Λ En (loop turn) Left)
     loops to-fits = via 𝓤 (Inv (to - first)) (enters (to - first) first ys (refl, refl, sweep-stops st g first ys)) (loop-rule 𝓤 H (W .laws) 𝓣 _<_ (Nat·lt-wfRel .wf) En turn Left Inv (turns to-fits) (to - first))
 
-    -- what the body starts from: the borrow open, the arguments in their locals
+    -- the state at the start of the body: the borrow is open, the arguments are in their locals
     abbrev Start : List (Item 𝓤)
     Start = ‵ (row R fullShare ys b o) ∷ ‵ (froom word l₅ 0) ∷ ‵ (froom word l₆ 0) ∷ ‵ (froom R′.mir l₇ 0) ∷ ‵ (froom R′.mir l₈ 0) ∷ ‵ (froom word l₉ 0) ∷ ‵ (froom tyBool l₁₀ 0) ∷ ‵ (froom (tyRef erased imm (pointee (R .written))) l₁₁ 0) ∷ ‵ (froom (sliceTy (tyRef erased imm (pointee (R .written)))) l₁₂ 0) ∷ ‵ (froom tyUnit l₁₃ 0) ∷ ‵ (froom (tyRef erased mut (pointee (R .written))) l₁₄ 0) ∷ ‵ (froom (sliceTy (tyRef erased mut (pointee (R .written)))) l₁₅ 0) ∷ ‵ (fat fullShare (slice (named 0)) l₁ 0 s) ∷ ‵ (fat fullShare S′.mir l₂ 0 (LL.val S-.the-type S′.the-laws st)) ∷ ‵ (fat fullShare G′.mir l₃ 0 (EL.val G-.the-type G′.the-laws g)) ∷ ‵ (fat fullShare word l₄ 0 (vint w64 first)) ∷ ‵ (froom tyUnit l₀ 0)
         ∷ ‵ (fobor κ q (Held R n b o γ)) ∷ ‵ (fobs γ (codedHoleys R .code (heres R ys))) ∷ ‵ (fauth γ (codedHoleys R .code (heres R ys)))
@@ -349,7 +350,7 @@ module _ {M : Type 1} (𝓤 : URA M) (H : Heap 𝓤) (A : Atoms 𝓤) (W : Given
     body : Sq W Start (runs (𝓣 .C) (𝓣 .Λ) En (code.function .body) (atRet En Post))
     body =
         assigns ! (of-opd ! (load ! (from ! (fld ! refl (stop !))) (look-in ! 12 (sub ! 1 refl (whole !))))) (from ! (stop !)) (init ! 5 refl (tt, record { fits = gn .0 })) $
-        -- stop-at
+        -- the call of `stop_at`
         use0 W (raw (On-stop-at 𝓤 H A at-mem run .pre (to-stop-at))) (goes-stop-at (gn .0)) $
         calls-at ! fm (On-stop-at 𝓤 H A at-mem run) known-stop-at (to-stop-at) (and-then ! (load ! (from ! (stop !)) (look ! 14 refl)) (and-then ! (load ! (from ! (stop !)) (look ! 15 refl)) (and-then ! (load ! (from ! (stop !)) (look ! 16 refl)) (and-then ! (load ! (from ! (stop !)) (look ! 6 refl)) (no-more !))))) (λ w.
         use1 W (later (some (λ (r : ℕ). (‵ ftrue ⊛ ‵ (usize .own r (w ∷ []))) ⊛ raw (ensured 𝓤 H A stop-at-c.ended (stop-at-c.clauses 𝓤 H A at-mem run) tt (args-stop-at) tt r)))) (id⊢ 𝓤 _) $ await ! tt $ pick ! (λ r₀.

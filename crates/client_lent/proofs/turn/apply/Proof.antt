@@ -1,4 +1,5 @@
--- `client_lent::turn::apply` meets its contract: a walk of its MIR, by hand. By cases on what is done, the record is lent on to `take_number`, to `end_request`, or to neither. Assumes nothing.
+-- Proves the contract of `client_lent::turn::apply` by walking its MIR by hand: depending on the turn, it lends the record to `take_number`, to
+-- `end_request` or to neither. Assumes nothing.
 use mathlib.Core.Path.{_≡_, refl}
 use Prim.Native.Nat.{ℕ, _<_, _^_}
 use mathlib.Core.List.{[], _∷_, List}
@@ -75,7 +76,7 @@ Y = Y-.the-row
 abbrev stayed : Stays (this.ended .signature .params) (this.ended .kept)
 stayed = (stay-ref (0 ∷ []) tt (plain (λ _. Q)), (stay-none (λ _. Y) yes, tt))
 
--- the arms of the match, and what follows it
+-- the arms of the match, and the code after it
 abbrev takes : Code
 takes = seq (assign (place 3 []) (rvOpd (copy (place 2 (variant 1 ∷ field 1 ∷ [])))))
     (seq (assign (place 5 []) (addrOf (place 1 (deref Q′.mir ∷ []))))
@@ -151,7 +152,7 @@ module _ {M : Type 1} (𝓤 : URA M) (H : Heap 𝓤) (A : Atoms 𝓤) (W : Given
       abbrev En : Env 𝓤 H
       En = (tyUnit, l₀) ∷ ((tyRef (named 0) mut (pointee (Q .written))), l₁) ∷ (Y′.mir, l₂) ∷ ((tyInt w8), l₃) ∷ ((tyInt w32), l₄) ∷ ((tyRef erased mut (pointee (Q .written))), l₅) ∷ (tyUnit, l₆) ∷ ((tyRef erased mut (pointee (Q .written))), l₇) ∷ []
 
-      -- the record behind the reference, at r, and the locals
+      -- the record behind the reference, now r, and the locals
       abbrev Has : Turn → Request → List (Item 𝓤)
       Has u r = ‵ (own-at κ γ r) ∷ ‵ (flft κ q) ∷ ‵ (froom tyUnit l₀ 0) ∷ ‵ (fat fullShare (tyRef (named 0) mut (pointee (Q .written))) l₁ 0 (vptr b o)) ∷ ‵ (fat fullShare Y′.mir l₂ 0 (EL.val Y-.the-type Y′.the-laws u)) ∷ ‵ (froom (tyInt w8) l₃ 0) ∷ ‵ (froom (tyInt w32) l₄ 0) ∷ ‵ (froom (tyRef erased mut (pointee (Q .written))) l₅ 0) ∷ ‵ (froom tyUnit l₆ 0) ∷ ‵ (froom (tyRef erased mut (pointee (Q .written))) l₇ 0)
           ∷ ‵ (fdies tyUnit l₀) ∷ ‵ (fdies (tyRef (named 0) mut (pointee (Q .written))) l₁) ∷ ‵ (fdies Y′.mir l₂) ∷ ‵ (fdies (tyInt w8) l₃) ∷ ‵ (fdies (tyInt w32) l₄) ∷ ‵ (fdies (tyRef erased mut (pointee (Q .written))) l₅) ∷ ‵ (fdies tyUnit l₆) ∷ ‵ (fdies (tyRef erased mut (pointee (Q .written))) l₇) ∷ []
@@ -165,7 +166,7 @@ module _ {M : Type 1} (𝓤 : URA M) (H : Heap 𝓤) (A : Atoms 𝓤) (W : Given
           returns ! (look ! 2 refl) $ forget ! 2 refl $ forget ! 3 refl $ forget ! 4 refl $
           move ! (2 ∷ 10 ∷ []) $ free1 ! $ move ! (2 ∷ 9 ∷ []) $ free1 ! $ move ! (2 ∷ 8 ∷ []) $ free1 ! $ move ! (2 ∷ 7 ∷ []) $ free1 ! $ move ! (2 ∷ 6 ∷ []) $ free1 ! $ move ! (2 ∷ 5 ∷ []) $ free1 ! $ move ! (2 ∷ 4 ∷ []) $ free1 ! $ move ! (2 ∷ 3 ∷ []) $ free1 ! $ free0 ! $ by ! (exits u is-u r e)
 
-      -- by cases on what is done: the tag is then a numeral
+      -- by cases on the turn, so that the tag is a numeral
       matched : (u : Turn) → Is Y u ((EL.val Y-.the-type Y′.the-laws u) ∷ []) → CanTurn h u → Sq W (Has u h) (runs C Λ En the-match (Then u))
       matched Keep is-u must =
           switches-on ! (load ! (from ! (vrt ! refl (fld ! refl (stop !)))) (look-tag ! 4 (whole !))) $ exec ! C Λ En skipᴹ (Then Keep) $ skips ! $ exec ! C Λ En rest (atRet En (Post Keep)) $ leaves Keep is-u h refl

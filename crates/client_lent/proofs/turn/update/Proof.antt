@@ -1,4 +1,5 @@
--- `client_lent::turn::update` meets its contract: a walk of its MIR, by hand. One element of the slice is lent on to `apply`, and comes back. Assumes nothing.
+-- Proves the contract of `client_lent::turn::update` by walking its MIR by hand: it lends one element of the slice to `apply` and gets it back.
+-- Assumes nothing.
 use mathlib.Core.Path.{_≡_, refl, sym, ap, subst}
 use Prim.Native.Nat.{ℕ, _*_, _<_, _^_}
 use native.Mathlib.Omega.{arith}
@@ -104,7 +105,7 @@ module _ {M : Type 1} (𝓤 : URA M) (H : Heap 𝓤) (A : Atoms 𝓤) (W : Given
   abbrev y : Request
   y = turned h u
 
-  -- where the element lies
+  -- the element's offset in memory
   abbrev p : ℕ
   p = spot 16 o i
 
