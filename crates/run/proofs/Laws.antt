@@ -1,4 +1,4 @@
--- What each way through a function found, put together.
+-- One lemma for each path through a function: the facts found along the path give its contract.
 use Prim.Native.Nat.{ℕ, _+_, _*_, _<_, _≤_}
 use native.Mathlib.Omega.{arith}
 use mathlib.Core.Bool.{false}
@@ -20,7 +20,7 @@ use Rattle.bytes_layout.specs.declared.output.Report.the-variants as report
 use Rattle.bytes_layout.specs.Report.{Reports, all-written, none-written}
 use Rattle.run.specs.Listed.{setupOf, answersOf, fileListing, listRefusal, listing-fits, listed-all, listed-short, listed-none}
 
--- ---- a file read
+-- ---- reading the file
 module _ (l : List ℕ) (r : Contents) (e : r ≡ contentsOf l) where
   pub refused : (r .refusal ≡ 0 → ⊥) → wellFormed l ≡ false
   unfolding contentsOf
@@ -39,7 +39,7 @@ module _ (l : List ℕ) (r : Contents) (e : r ≡ contentsOf l) where
     unfolding fileListing answersOf
     print-written out′ next g = written-then out₀ out out′ 0 at next header _ w (rw read-is at g)
 
--- ---- a listing copied into the lent output
+-- ---- copying the listing to the lent output
 abbrev Does : List ℕ → List ℕ → List ℕ → Report → Type 0
 Does l out out′ r = Reports (listRefusal l (length out)) (fileListing l) out out′ r
 

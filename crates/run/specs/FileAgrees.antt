@@ -1,4 +1,4 @@
--- Demand 3 of what a call writes that lists a run file: it is the listing of the answers that calls of the public step get.
+-- Demand 3 for the call that lists a run file: it writes the listing of the answers that calls of the public step return.
 use Prim.Native.Nat.{ℕ}
 use mathlib.Core.List.{List}
 use mathlib.Core.Path.{_≡_}
@@ -11,15 +11,15 @@ use Rattle.listing.specs.Listing.{listingOf}
 use Rattle.promises.specs.Calls.{Calls, Kept, calls-answer, calls-there, calls-keep, calls-in-words}
 use Rattle.run.specs.Listed.{setupOf, answersOf, leftBy, fileListing, listRefusal, listed-formed}
 
--- The bytes are the listing of answers that, with the world left after them, are those of the file's steps, agree with the ledger after every step, and
--- with the customer's words about the history
+-- The bytes are the listing of the answers rs. The answers and the world u left after them are those of the file's steps, and agree with the ledger
+-- after every step and with the customer's words about the history.
 pub record FileAgrees (l bytes : List ℕ) (rs : List Answer) (u : World) : Type 0 where
   pub listing : bytes ≡ listingOf rs
   pub kept : Kept (setupOf l) (stepsOf l) rs u
   pub words : HistoryAgrees (setupOf l) (stepsOf l) rs u
 
--- a file that is not refused: its listing, which is what is written, is what a program would print that calls the public step over and over with the file's
--- steps, from fresh tables on
+-- the listing that is written for an accepted file is what a program would print that calls the public step with each of the file's steps, from fresh
+-- tables on
 pub file-as-calls : (l : List ℕ) (n : ℕ) (rs : List Answer) (u : World) → listRefusal l n ≡ 0 → Calls (setupOf l) (freshWorld (setupOf l)) (stepsOf l) rs u
     → FileAgrees l (fileListing l) rs u
 unfolding fileListing answersOf
@@ -29,7 +29,7 @@ file-as-calls l n rs u e c = record {
   words = calls-in-words (setupOf l) (formed-in-range l (listed-formed l n e)) (stepsOf l) rs u c;
 }
 
--- and so it is of the run's own answers and what it leaves
+-- the same for the run's own answers and the world that it leaves
 pub file-agrees : (l : List ℕ) (n : ℕ) → listRefusal l n ≡ 0 → FileAgrees l (fileListing l) (answersOf l) (leftBy l)
 unfolding answersOf leftBy
 file-agrees l n e = file-as-calls l n (answersOf l) (leftBy l) e (calls-there (setupOf l) (freshWorld (setupOf l)) (stepsOf l))

@@ -1,4 +1,4 @@
--- The listing of a run file's bytes, and where a call that lists them is refused.
+-- The listing of a run file's bytes, and when the call that writes it is refused.
 use Prim.Native.Nat.{ℕ, suc, _<_, _≤_}
 use native.Mathlib.Omega.{arith}
 use mathlib.Core.Bool.{true, false}
@@ -25,7 +25,7 @@ setupOf l = setupIn l (setupPlace l)
 unfoldable pub answersOf : List ℕ → List Answer
 answersOf l = answers (setupOf l) (freshWorld (setupOf l)) (stepsOf l)
 
--- what the steps leave
+-- the world that a file's steps leave
 unfoldable pub leftBy : List ℕ → World
 leftBy l = ran (setupOf l) (freshWorld (setupOf l)) (stepsOf l)
 
@@ -33,8 +33,8 @@ leftBy l = ran (setupOf l) (freshWorld (setupOf l)) (stepsOf l)
 unfoldable pub fileListing : List ℕ → List ℕ
 fileListing l = listingOf (answersOf l)
 
--- The refusal of a call that lists file l into an output of n bytes, 0 for none: "Run file shaped as above, its setup in range? 9"; "a lent output long
--- enough? 8", which asks about a listing, and a refused file has none
+-- The refusal of the call that lists file l to an output of n bytes, or 0: "Run file shaped as above, its setup in range? 9"; "a lent output long
+-- enough? 8", which comes second, since a refused file has no listing.
 unfoldable pub listRefusal : List ℕ → ℕ → ℕ
 listRefusal l n = orRefuse (wellFormed l) 9 (orRefuse (leb (length (fileListing l)) n) 8 0)
 
@@ -51,7 +51,7 @@ listing-fits l e = omega (arith, listing-short (answersOf l) (few (formed-parts 
     few : Parts l → length (answersOf l) ≤ 4000
     few p = omega (arith, p .few, length-steps l, length-answers (setupOf l) (freshWorld (setupOf l)) (stepsOf l))
 
--- ---- what each way through the call comes to
+-- ---- the three ways through the call
 module _ (l : List ℕ) (n : ℕ) where
   pub listed-all : wellFormed l ≡ true → length (fileListing l) ≤ n → listRefusal l n ≡ 0
   unfolding listRefusal
@@ -65,7 +65,7 @@ module _ (l : List ℕ) (n : ℕ) where
   unfolding listRefusal
   listed-none e = rw e
 
-  -- what is not refused is a run file
+  -- a file that is not refused is a run file
   pub listed-formed : listRefusal l n ≡ 0 → wellFormed l ≡ true
   unfolding listRefusal
   listed-formed e = asked (wellFormed l) 8 _ e .0

@@ -1,4 +1,4 @@
--- A run over the steps of a file, each on what the last one left, and the lines of its answers.
+-- A run over the steps of a file, each on the world that the last one left, and the lines of its answers.
 use Prim.Native.Nat.{ℕ, _+_, _*_, _<_, _≤_}
 use native.Mathlib.Omega.{arith}
 use mathlib.Core.Bool.{true}
@@ -22,17 +22,17 @@ use Rattle.listing.specs.Listing.{lineOf, linesFrom, line-short, answer-small}
 use Rattle.bytes_layout.specs.Number.{sets-then}
 use Rattle.bytes_layout.specs.Written.{Written}
 
--- where a run of file l stands that left world w after k steps: what is left of it writes the lines that are missing from `whole`
+-- the state of a run of file l that has reached world w after k steps: the lines of the remaining steps turn `out` into `whole`
 pub record Going (s : Setup) (l : List ℕ) (start : ℕ) (whole : List ℕ) (end : ℕ) (w : World) (out : List ℕ) (at k : ℕ) : Type 0 where
   pub sound : SoundWorld s w
   pub room : at ≤ start + 28 * k
   pub lines : Written out whole at (linesFrom (k + 1) (answers s w (stepsLeft l k))) end
 
--- the lines of a file's steps under a setup, as the loop has to reach them
+-- the lines of a file's steps under a setup, which the loop has to write
 abbrev pub linesOf : Setup → List ℕ → List ℕ
 linesOf s l = linesFrom 1 (answers s (freshWorld s) (stepsOf l))
 
--- ---- what is left of what is written
+-- ---- what remains to be written
 written-rest : (l m whole : List ℕ) (p q end : ℕ) (a b : List ℕ) → Written l whole p (a ++ b) end → Written l m p a q → Written m whole q b end
 written-rest l m whole p q end a b w v = record {
   next = omega (arith, w .next, v .next, length-append a b);
@@ -65,7 +65,7 @@ module _ (s : Setup) (l out₀ : List ℕ) (start : ℕ) where
       pub line-fits : start + 28 * count + 63 ≤ length out₀ → length out ≡ length out₀ → at + 63 ≤ length out
       line-fits room e = omega (arith, g .room)
 
-      -- the next step: its record is at the running place
+      -- the next step, whose record is at the current offset
       pub run-again : (place : ℕ) → place ≡ placeBefore l k → (x : Step) → x ≡ stepAt l place → (u : World) (a : Answer) → (a ≡ answerOf s w x) × (u ≡ stepped s w x)
           → (out′ : List ℕ) (at′ : ℕ) → Written out out′ at (lineOf (k + 1) a) at′ → Running u out′ at′ (k + 1)
       unfolding linesFrom answers

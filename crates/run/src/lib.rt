@@ -1,4 +1,4 @@
-// A run, from the bytes of its file to the bytes of its listing.
+// Lists a run: from the bytes of its file to the bytes of its listing.
 pub mod steps;
 
 ghost use Prim.Native.Nat.{_≤_};
@@ -11,7 +11,7 @@ ghost use Rattle.run.specs.Listed.{fileListing, listRefusal};
 use bytes_layout::output::Report;
 use file_reader::Contents;
 
-// The listing of a run file that was read and is not refused, at the start of an output that has room for any.
+// Writes the listing of an accepted run file to the start of an output that has room for any listing. Returns its length.
 fn print(file: &[u8], c: Contents, out: &mut [u8]) -> usize
     requires { ⌜ c ≡ contentsOf (now file) ⌝ }
     requires { ⌜ c .refusal ≡ 0 ⌝ }
@@ -22,8 +22,8 @@ fn print(file: &[u8], c: Contents, out: &mut [u8]) -> usize
     crate::steps::run_steps(file, c, out, at)
 }
 
-// The listing of a run file's bytes, whatever they are. What is no run file is refused, 9, and so is an output that is too short for the listing, 8; the
-// output then stays as it was.
+// Writes the listing of a run file to the output. Accepts any bytes: refuses with 9 if they are not a run file, and with 8 if the output is too short
+// for the listing. A refusal leaves the output unchanged.
 pub fn list(file: &[u8], out: &mut [u8]) -> Report
     ensures { λ r. ⌜ Reports (listRefusal (now (file .entry)) (length (now (out .entry)))) (fileListing (now (file .entry))) (now (out .entry)) (now (out .exit)) r ⌝ }
 {

@@ -1,4 +1,4 @@
-// The steps of a run file, one after the other, on words and values that the run owns.
+// Runs the steps of a run file in order, on words and values that the run owns.
 ghost use Prim.Native.Nat.{_+_, _*_, _≤_};
 ghost use mathlib.Core.Path.{_≡_};
 ghost use lib.ListN.{length};
@@ -7,8 +7,8 @@ ghost use Rattle.file_reader.specs.File.{contentsOf};
 ghost use Rattle.run.specs.Ran.{linesOf};
 use file_reader::Contents;
 
-// The steps of a file that was read and is not refused, from fresh words on; the line of each goes to the output from `at` on, which has room for any.
-// The place of a step's record goes on by 16, whatever the answer to the step is. The place in the output after the last line.
+// Runs the steps of an accepted file from fresh words on, and writes one line per step to the output from `at` on, which has room for them. The offset
+// in the file advances by 16 after every step, refused or not. Returns the output offset after the last line.
 pub fn run_steps(file: &[u8], c: Contents, out: &mut [u8], at: usize) -> usize
     requires { ⌜ c ≡ contentsOf (now file) ⌝ }
     requires { ⌜ c .refusal ≡ 0 ⌝ }

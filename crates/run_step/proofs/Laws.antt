@@ -1,4 +1,4 @@
--- What each way through a step comes to, on a sound world.
+-- One lemma for each path through a step, on a sound world.
 use Prim.Native.Nat.{ℕ, _*_}
 use mathlib.Core.Bool.{true, _&&_}
 use mathlib.Core.List.{List}
@@ -43,7 +43,7 @@ module _ (s : Setup) (w v : List ℕ) (i : inRange s ≡ true) (o : SoundWorld s
   unfolding sound
   tables-sound = and-true (inRange s && cases.recordsOf s before) (tablesSound s (tablesOf w v)) (sounds s before o i) .1
 
-  -- a, c and r are what the step can touch, and `no` is the first question that says "no"
+  -- a, c and r are the target, copy and request that the step can touch; `no` is the first question answered "no", or 0
   module _ (x : Step) (a : Target) (c : Copy) (r : Request) (no : ℕ) (ea : a ≡ target s (tablesOf w v) x) (ec : c ≡ getD (before .copies) (a .copy) noCopy)
       (er : r ≡ getD (before .requests) (a .client) noRequest) (en : no ≡ refusalOfStep s (tablesOf w v) r x) where
     decides : decidedBy no s (tablesOf w v) c r x ≡ decision s before x
@@ -63,7 +63,7 @@ module _ (s : Setup) (w v : List ℕ) (i : inRange s ≡ true) (o : SoundWorld s
       pub can-perform : (inRange s ≡ true) × ((tablesSound s (tablesOf w v) ≡ true) × (refusalOfStep s (tablesOf w v) r x ≡ 0))
       can-perform = (i, (tables-sound, accepted))
 
-      -- the step was performed: words and values are u and y then
+      -- the step was performed and left the words u and the values y
       module _ (u y : List ℕ) (g : Change) (b : Answer) (p : (answered g (tablesOf u y) b ≡ performed s (tablesOf w v) c r x) × (recordsOf u y ≡ recordsOf w v)) where
         pub can-change : (inRange s ≡ true) × ((a .first ≡ a .client * s .objects) × CanTurn (getD (worldOf s u y .requests) (a .client) noRequest) (g .request))
         can-change = (i, (rw ea (first-place s (tablesOf w v) x), rw (p .1, ← er) turns))

@@ -1,4 +1,5 @@
-// One step of a run, in place, on words that hold the clients' records too. From fresh words on, question 1 is never answered "no", and is not asked.
+// Performs one step of a run in place, on words that also hold the clients' records. A run starts from fresh words, so the answer to question 1 is
+// never "no", and it is not asked.
 ghost use mathlib.Core.Bool.{true};
 ghost use mathlib.Core.Path.{_≡_};
 ghost use Rattle.protocol.specs.Setup.{inRange};
@@ -13,6 +14,7 @@ use state_words::Words;
 use step_perform::perform;
 use step_target::target;
 
+// Performs one step on a sound world. Returns the answer.
 pub fn advance(s: Setup, words: &mut Words, values: &mut Values, step: Step) -> Answer
     requires { ⌜ inRange s ≡ true ⌝ }
     requires { ⌜ SoundWorld s (worldOf s (now words) (now values)) ⌝ }

@@ -1,4 +1,4 @@
--- What a step is lent, as the world that the rules speak of.
+-- The world that the rules are about, made of what a step is lent.
 use Prim.Native.Nat.{ℕ}
 use mathlib.Core.List.{List}
 use Rattle.protocol.specs.declared.records.Copy.{Copy}

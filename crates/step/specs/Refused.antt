@@ -21,11 +21,11 @@ use Rattle.state_words.specs.View.{tablesOf}
 use Rattle.state_words.specs.LiveRows.{messageThere, no-message-refused}
 use Rattle.step.specs.Lent.{world}
 
--- a step whose answer has the number 4 leaves tables and lent records as they were
+-- a step whose answer has the number 4 changes neither the tables nor the lent records
 pub refused-same : (s : Setup) (w : World) (x : Step) → answerNumber (answerOf s w x) ≡ 4 → stepped s w x ≡ w
 refused-same s w x e = ⊎-elim (λ a. not-both (eq-eqb _ 4 e) (accepted-not-refused s w x a)) (refused-keeps s w x) (true-or-false (accepts s w x))
 
--- a live row that is no message: every step is refused with 1
+-- if a row below the list's length is not a message, every step is refused with 1
 pub no-message : (s : Setup) (w x : List ℕ) (l : List Copy) (k : List Request) (y : Step) (i : ℕ) → i < tablesOf w x .queue .len
     → messageThere w x i ≡ false → answerOf s (world w x l k) y ≡ Refused 1
 no-message s w x l k y i h n =

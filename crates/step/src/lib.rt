@@ -1,4 +1,4 @@
-// The public step over lent words and lent records: look up the records that a step can touch, decide, do to them what the decision says.
+// The public step over lent words and lent records: looks up the records that the step can touch, decides, and applies the decision to them.
 ghost use mathlib.Core.Path.{_≡_};
 ghost use Rattle.protocol.specs.Answers.{answerNumber, answerValue};
 ghost use Rattle.protocol.specs.World.{answerOf, stepped};
@@ -20,8 +20,8 @@ use state_words::Words;
 use step_decide::decide;
 use step_target::target;
 
-// One step (01, "Steps"), on any input whatever. `copies` are all clients' copies in one list, client by client in object order; `requests` one a
-// client. The records that the words have room for are as they were.
+// Performs one step (01, "Steps") on any input. `copies` holds all clients' copies, client by client in object order; `requests` holds one request per
+// client. The client records in the words are not used and do not change.
 pub fn step(
     setup: Setup,
     words: &mut Words,

@@ -1,4 +1,4 @@
--- The questions, then the step. k is the number of the first "no".
+-- The questions, then the step. k is the number of the first question answered "no", or 0.
 use Prim.Native.Nat.{ℕ}
 use mathlib.Core.Bool.{Bool, true}
 use mathlib.Core.Path.{_≡_, sym, ap, _∙_}
@@ -31,7 +31,7 @@ module _ (s : Setup) (t : Tables) (records : Bool) (r : Request) (x : Step) (k :
   unfolding decided
   accepts c g u a h e = rw (← p, h) e
 
-  -- an accepted step is answered by no refusal
+  -- the answer to an accepted step is not a refusal
   pub not-refused : {A : Type 0} (c : Copy) (g : Change) (u : Tables) (a : Answer) → k ≡ 0 → answered g u a ≡ performed s t c r x → answerNumber a ≡ 4 → A
   not-refused c g u a h e n =
       not-both (eq-eqb (answerNumber a) 4 n)

@@ -1,4 +1,4 @@
-// One step decided (01, "Steps"): the questions, then the step by its kind, on the words and on the one copy and request that it can touch.
+// Decides one step (01, "Steps"): asks the questions, then performs the step by its kind, on the words and the one copy and request that it can touch.
 ghost use mathlib.Core.Path.{_≡_};
 ghost use Rattle.protocol.specs.Answers.{answerNumber};
 ghost use Rattle.protocol.specs.Decide.{answered, decided};
@@ -12,7 +12,8 @@ use state_words::Values;
 use state_words::Words;
 use step_verdict::Verdict;
 
-// One step, for any input; `records` says whether all lent records are sound. A refusal leaves every word and every value, any step the records in them.
+// Decides one step on any input; `records` says whether all lent records are sound. A refused step changes nothing; no step changes the client records
+// in the words.
 pub fn decide(
     s: Setup,
     words: &mut Words,

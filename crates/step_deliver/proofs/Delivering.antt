@@ -1,4 +1,4 @@
--- A message of kind k received by the server and by client d, and step 5.
+-- Receiving a message of kind k at the server and at client d, and step 5.
 -- Letters as in `Decide`; t are the tables before, u after.
 use Prim.Native.Nat.{ℕ, _<_}
 use native.Mathlib.Omega.{arith}
@@ -27,7 +27,7 @@ use Rattle.protocol.specs.Server.{renewed, ackStaged, dropStaged}
 use Rattle.protocol.specs.Decide.{Received, kept, uncounted, byClient, grantReceived, invalidateReceived, offerReceived, received, taken, answered, delivered, deliverDecided}
 use Rattle.step_deliver.specs.Sides.{served, heard}
 
--- the item that a sound message names exists
+-- the object or volume that a sound message names exists
 module _ (s : Setup) (k : Kind) (h : kindSound s k ≡ true) where
   pub renew-in : (o n e w : ℕ) → k ≡ Renew o n e w → o < s .objects
   renew-in o n e w q = ltb-true _ _ (rw q at h)
@@ -59,7 +59,7 @@ module _ (s : Setup) (t : Tables) (d : ℕ) (k : Kind) where
   unfolding served
   serves-dropped v n e m q h = rw q h
 
--- the kinds that are sent to a client: the second, the third and the fifth
+-- the server ignores the kinds that are sent to a client: GRANT, INVALIDATE and OFFER, with tags 1, 2 and 4
 pub serves-none : (s : Setup) (t : Tables) (d : ℕ) (k : Kind) → (tagOf the-type k ≡ 1) ⊎ ((tagOf the-type k ≡ 2) ⊎ (tagOf the-type k ≡ 4)) → uncounted t ≡ served s t d k
 unfolding served
 serves-none s t d (Renew o n e w) h = absurd (⊎-elim (λ e. omega arith) (λ i. ⊎-elim (λ e. omega arith) (λ e. omega arith) i) h)
@@ -84,7 +84,7 @@ module _ (s : Setup) (t : Tables) (c : Copy) (r : Request) (d : ℕ) (k : Kind) 
   unfolding heard
   hears-offer v n e g q h = rw q h
 
--- the kinds that are sent to the server: the first, the fourth and the sixth
+-- the client ignores the kinds that are sent to the server: RENEW, ACK and DROPPED, with tags 0, 3 and 5
 pub hears-none : (s : Setup) (t : Tables) (c : Copy) (r : Request) (d : ℕ) (k : Kind) (g : Change) → g ≡ kept
     → (tagOf the-type k ≡ 0) ⊎ ((tagOf the-type k ≡ 3) ⊎ (tagOf the-type k ≡ 5)) → byClient g t ≡ heard s t c r d k
 unfolding heard
@@ -97,11 +97,11 @@ hears-none s t c r d (Dropped v n e) g f h = rw f
 
 -- ---- both
 
--- one received by a client, after n writes completed
+-- what a client received, with n as the number of writes completed
 abbrev after : ℕ → Received → Received
 after n g = record { change = g .change; counted = record { count = n; tables = g .counted .tables } }
 
--- the server receives first, then the client: one of the two does nothing
+-- the server receives first, then the client; since one of the two ignores the message, this is the same as receiving it once
 sides : (s : Setup) (t u : Tables) (c : Copy) (r : Request) (d : ℕ) (k : Kind) (g : Change) → byClient g u ≡ heard s (served s t d k .tables) c r d k
     → after (served s t d k .count) (byClient g u) ≡ received s t c r d k
 unfolding served heard received
@@ -112,7 +112,7 @@ sides s t u c r d (Ack o e w) g h = ap (after (settled s (ackStaged s t d o e w)
 sides s t u c r d (Offer v n e) g h = h
 sides s t u c r d (Dropped v n e) g h = ap (after (settled s (dropStaged s t d v n e) .count)) h
 
--- the message m taken off the list, which leaves a; the server receives it, which leaves n; the client does, which leaves u
+-- removing message m from the list gives a, receiving it at the server gives n, and receiving it at the client gives u
 pub delivers : (s : Setup) (t a u : Tables) (c : Copy) (r : Request) (i : ℕ) (m : Message) (n : Counted) (g : Change) → m ≡ messageAt (t .queue) i → a ≡ taken t i
     → n ≡ served s a (m .client) (m .kind) → byClient g u ≡ heard s (n .tables) c r (m .client) (m .kind)
     → answered g u (Delivered m (n .count)) ≡ deliverDecided s t c r i

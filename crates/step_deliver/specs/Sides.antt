@@ -1,4 +1,4 @@
--- A message received, side by side: the server takes RENEW, ACK and DROPPED, the client GRANT, INVALIDATE and OFFER.
+-- Receiving a message, split by side: the server handles RENEW, ACK and DROPPED, the client GRANT, INVALIDATE and OFFER.
 -- Letters as in `Decide`: s setup, t tables, c the copy, r the request, d client, o object, v volume, n number, e epoch, w version, x and y a GRANT's
 -- expiries, p its payload.
 use Prim.Native.Nat.{ℕ}

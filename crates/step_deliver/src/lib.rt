@@ -1,4 +1,4 @@
-// Step 5: "remove the message, then receive it". Server and client each take the kinds that are sent to them, and leave all as it is at the others.
+// Step 5: "remove the message, then receive it". Server and client each handle the kinds that are sent to them and ignore the others.
 ghost use mathlib.Core.Bool.{true};
 ghost use mathlib.Core.Path.{_≡_};
 ghost use Prim.Native.Nat.{_≤_, _<_};
@@ -28,7 +28,7 @@ use state_words::Values;
 use state_words::Words;
 use step_verdict::Verdict;
 
-// RENEW, ACK and DROPPED. How many writes completed.
+// Receives RENEW, ACK and DROPPED at the server. Returns the number of writes completed.
 fn by_server(s: Setup, words: &mut Words, values: &mut Values, client: usize, k: Kind) -> u32
     requires { ⌜ inRange s ≡ true ⌝ }
     requires { ⌜ tablesOf (now words) (now values) .clock ≤ 2147483647 ⌝ }
@@ -63,7 +63,7 @@ fn by_server(s: Setup, words: &mut Words, values: &mut Values, client: usize, k:
     }
 }
 
-// GRANT, INVALIDATE and OFFER. What becomes of the client's records.
+// Receives GRANT, INVALIDATE and OFFER at the client. Returns the change to its records.
 fn by_client(
     s: Setup,
     words: &mut Words,
@@ -113,6 +113,7 @@ fn by_client(
     }
 }
 
+// Removes the message at `place` and delivers it. Returns the answer and the change to the client's records.
 pub fn deliver(
     s: Setup,
     words: &mut Words,

@@ -1,4 +1,4 @@
--- 01, "Frame, run file and listing": the number and the value of a step's answer, as functions of what the step is called with.
+-- 01, "Frame, run file and listing": the number and the value of a step's answer, as functions of the step's input.
 use Prim.Native.Nat.{ℕ, zero, suc}
 use mathlib.Core.Bool.{Bool, true, false, cond}
 use mathlib.Core.Logic.{⊎-elim}
@@ -20,33 +20,33 @@ use Rattle.protocol.specs.Decide.{received, taken, readDecided, askDecided, del
 use Rattle.protocol.specs.World.{World, answerOf}
 use Rattle.protocol.specs.Soundness.StepCases.{copyOf, requestOf, recordsOf, accepted, accepted-answer, refused-answer, by-kind, clock-performed, read-performed, ask-performed, write-performed, deliver-performed, lose-performed, double-performed, server-performed, client-performed}
 
--- "the first "no" gives its number": the gate's refusal of a step, 0 for none
+-- "the first "no" gives its number": the number with which the gate refuses a step, or 0
 abbrev pub refusalAt : Setup → World → Step → ℕ
 refusalAt s w x = refusal s (w .tables) (recordsOf s w) (requestOf s w x) x
 
--- "writes completed": by a clock step, by a write, or by what is delivered
+-- "writes completed": by a clock step, a write or a delivery
 unfoldable pub completedIn : Setup → Tables → Copy → Request → Step → ℕ
 completedIn s t c r x =
     cond (isClock x) (settled s (clockStaged s t (x .clock)) .count)
     (cond (isWrite x) (settled s (writeStaged s t (x .object) (x .value)) .count)
     (cond (isDeliver x) (received s (taken t (x .place)) c r (messageAt (t .queue) (x .place) .client) (messageAt (t .queue) (x .place) .kind) .counted .count) 0))
 
--- of an accepted step: "0 done, 1 shown, 2 ask first, 3 at least one write completed, in whichever step"
+-- the number of an accepted step's answer: "0 done, 1 shown, 2 ask first, 3 at least one write completed, in whichever step"
 unfoldable pub acceptedNumber : Setup → Tables → Copy → Request → Step → ℕ
 acceptedNumber s t c r x = cond (isRead x) (cond (showable s t c (x .client) (x .object)) 1 2) (doneOrCompleted (completedIn s t c r x))
 
--- "shown value, writes completed, else 0"
+-- the value of an accepted step's answer: "shown value, writes completed .. else 0"
 unfoldable pub acceptedValue : Setup → Tables → Copy → Request → Step → ℕ
 acceptedValue s t c r x = cond (isRead x) (cond (showable s t c (x .client) (x .object)) (c .value) 0) (completedIn s t c r x)
 
--- of any step: "4 refused", and its value is the "refusal number"
+-- number and value for any step; a refused one has "4 refused" and the "refusal number"
 unfoldable pub numberOf : Setup → World → Step → ℕ
 numberOf s w x = cond (eqb (refusalAt s w x) 0) (acceptedNumber s (w .tables) (copyOf s w x) (requestOf s w x) x) 4
 
 unfoldable pub valueOf : Setup → World → Step → ℕ
 valueOf s w x = cond (eqb (refusalAt s w x) 0) (acceptedValue s (w .tables) (copyOf s w x) (requestOf s w x) x) (refusalAt s w x)
 
--- ---- they are those of the answer
+-- ---- both agree with the answer
 abbrev Says : Answer → ℕ → ℕ → Type 0
 Says a number value = (answerNumber a ≡ number) × (answerValue a ≡ value)
 

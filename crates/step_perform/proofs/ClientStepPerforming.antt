@@ -1,4 +1,4 @@
--- An accepted step x of one client's, by its kind: the change g of its records and what a function leaves of the tables t, u, are what is decided.
+-- An accepted step x of one client, by its kind: a function that turns the tables t into u and returns the change g does what the decision says.
 use mathlib.Core.Bool.{true}
 use mathlib.Core.Path.{_≡_}
 use borrow.Author.Tests.{eqb-true, ne-eqb}
@@ -27,6 +27,6 @@ module _ (s : Setup) (c : Copy) (r : Request) (x : Step) (t u : Tables) where
   unfolding restartDecided
   by-restart-client g k e f = rw (f, client-performed s t c r x k, e)
 
--- what is left of the kinds
+-- the only kind left once the others are ruled out
 pub last-of-client : (x : Step) → usesClient x ≡ true → (x .kind ≡ 2 → ⊥) → (x .kind ≡ 3 → ⊥) → x .kind ≡ 9
 last-of-client x h read ask = eqb-true (x .kind) 9 (rw (ne-eqb (x .kind) 2 read, ne-eqb (x .kind) 3 ask) at h)

@@ -1,4 +1,4 @@
--- An accepted step x of no client's, by its kind: what a function leaves of the tables t, u, is what is decided.
+-- An accepted step x that is not a client's, by its kind: a function that turns the tables t into u does what the decision says.
 use Prim.Native.Nat.{ℕ}
 use mathlib.Core.Bool.{true, false}
 use mathlib.Core.Path.{_≡_}
@@ -34,7 +34,7 @@ module _ (s : Setup) (c : Copy) (r : Request) (x : Step) (t u : Tables) where
   pub by-restart-server : x .kind ≡ 8 → u ≡ serverRestarted s t → counting (uncounted u) ≡ performed s t c r x
   by-restart-server k e = rw (server-performed s t c r x k, e)
 
--- what is left of the kinds
+-- the only kind left once the others are ruled out
 module _ (x : Step) (p : usesClient x ≡ false) where
   abbrev Not : ℕ → Type 0
   Not k = x .kind ≡ k → ⊥

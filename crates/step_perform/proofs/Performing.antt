@@ -1,4 +1,4 @@
--- An accepted step x, by its kind: what a function leaves of the tables t, u, and the verdict v are what is decided.
+-- An accepted step x, by its kind: a function that turns the tables t into u and returns the verdict v does what the decision says.
 use Prim.Native.Nat.{ℕ}
 use mathlib.Core.Bool.{Bool, true, false, cond}
 use mathlib.Core.List.{List}
@@ -26,7 +26,7 @@ use Rattle.state_words.specs.View.{tablesOf, numbersOf}
 pub answering : (v : Verdict) (a b : Answer) → v ≡ record { change = kept; answer = a } → a ≡ b → v ≡ record { change = kept; answer = b }
 answering v a b f e = rw e at f
 
--- a read changes no table, and reads no value
+-- a read changes no table and reads no value from the tables
 either : (b : Bool) (t u : Tables) (c : Copy)
     → answered kept t (cond b (answered kept u (Shown (c .value))) (answered kept u AskFirst) .outcome .answer) ≡ cond b (answered kept t (Shown (c .value))) (answered kept t AskFirst)
 either true t u c = refl
@@ -42,19 +42,19 @@ module _ (s : Setup) (c : Copy) (r : Request) (x : Step) where
   by-read v w y k f = rw (f, read-performed s (tablesOf w y) c r x k) (reads s w y c (x .client) (x .object))
 
   module _ (t u : Tables) where
-    -- ---- one client's
+    -- ---- a client's step
 
     pub by-client : (v : Verdict) (g : Change) → v ≡ record { change = g; answer = Done } → answered g u Done ≡ performed s t c r x
         → answered (v .change) u (v .answer) ≡ performed s t c r x
     by-client v g f e = rw f e
 
-    -- ---- of the server and the client: a delivery
+    -- ---- a delivery, which concerns server and client
 
     pub by-deliver : (v : Verdict) → x .kind ≡ 5 → answered (v .change) u (v .answer) ≡ deliverDecided s t c r (x .place)
         → answered (v .change) u (v .answer) ≡ performed s t c r x
     by-deliver v k e = rw (deliver-performed s t c r x k) e
 
-    -- ---- no client's
+    -- ---- a step that is not a client's
 
     pub by-count : (v : Verdict) (n : ℕ) → v ≡ record { change = kept; answer = completedAnswer n } → counting (record { count = n; tables = u }) ≡ performed s t c r x
         → answered (v .change) u (v .answer) ≡ performed s t c r x
@@ -64,7 +64,7 @@ module _ (x : Step) (p : usesClient x ≡ false) where
   not-asked : isAsk x ≡ false
   not-asked = ne-eqb (x .kind) 3 (λ (k : x .kind ≡ 3). not-both (rw k) p)
 
-  -- an accepted step of no client's is accepted whatever the request is
+  -- an accepted step that is not a client's is accepted with any request
   pub whoever-asks : (s : Setup) (t : Tables) (r : Request) → refusalOfStep s t r x ≡ 0 → (q : Request) → refusalOfStep s t q x ≡ 0
   unfolding refusalOfStep growable
   whoever-asks s t r e q = rw not-asked (rw not-asked at e)

@@ -1,4 +1,4 @@
-// An accepted step that changes one client's records: 3, it asks, and 9, it restarts.
+// Performs an accepted step that changes one client's records: 3 (ask) or 9 (restart).
 ghost use mathlib.Core.Bool.{true};
 ghost use mathlib.Core.Path.{_≡_};
 ghost use Rattle.protocol.specs.declared.step.Answer.the-variants.{Done};
@@ -39,7 +39,7 @@ fn restarting() -> Change
     }
 }
 
-// What becomes of the client's records.
+// Performs the step in the words. Returns the change to the client's records.
 pub fn of_client(
     s: Setup,
     words: &mut Words,

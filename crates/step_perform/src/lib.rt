@@ -1,4 +1,4 @@
-// An accepted step, in place, by its kind. Each part returns as little as it can.
+// Performs an accepted step in place, by its kind. Each part returns as little as it can.
 pub mod client_step;
 pub mod other_step;
 
@@ -18,7 +18,7 @@ use state_words::Values;
 use state_words::Words;
 use step_verdict::Verdict;
 
-// Step 2, whose verdict changes no record.
+// Performs step 2, a read. The verdict changes no record.
 fn read(s: Setup, words: &Words, c: Copy, step: Step) -> Verdict
     requires { ⌜ inRange s ≡ true ⌝ }
     requires { ⌜ step .client < s .clients ⌝ }
@@ -28,6 +28,7 @@ fn read(s: Setup, words: &Words, c: Copy, step: Step) -> Verdict
     step_verdict::keeping(client_steps::read(s, words, c, step.client, step.object))
 }
 
+// Performs an accepted step of any kind. Returns the answer and the change to the client's records.
 pub fn perform(
     s: Setup,
     words: &mut Words,

@@ -1,4 +1,4 @@
-// An accepted step that is no client's: 1, 4 and 8, the server's, and 6 and 7, the network's.
+// Performs an accepted step that is not a client's: 1, 4 and 8 (the server's), 6 and 7 (the network's).
 ghost use mathlib.Core.Bool.{true, false};
 ghost use mathlib.Core.Path.{_≡_};
 ghost use Rattle.protocol.specs.declared.records.Copy.{Copy};
@@ -16,7 +16,7 @@ use server_complete::settle;
 use state_words::Values;
 use state_words::Words;
 
-// Whatever the clients' records are. How many writes completed.
+// Performs the step. Needs no client records. Returns the number of writes completed.
 pub fn of_no_client(s: Setup, words: &mut Words, values: &mut Values, step: Step) -> u32
     requires { ⌜ inRange s ≡ true ⌝ }
     requires { ⌜ tablesSound s (tablesOf (now words) (now values)) ≡ true ⌝ }

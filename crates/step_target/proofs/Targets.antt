@@ -1,4 +1,4 @@
--- Whose records a step x can touch: those of the message that it delivers, or those that it names.
+-- The records that a step x can touch: those that its message is about if it is a delivery, otherwise those that it names.
 use Prim.Native.Nat.{ℕ, _*_, _<_, _≤_}
 use native.Mathlib.Nat.{mul-le-mul-right, le-of-lt}
 use native.Mathlib.Omega.{arith}
@@ -18,14 +18,14 @@ use Rattle.protocol.specs.declared.tables.Tables.{Tables}
 use Rattle.protocol.specs.Messages.{messageAt, objectOf}
 use Rattle.protocol.specs.World.{targetAt, target}
 
--- a byte times a number of 32 bits
+-- a byte times a 32-bit number is at most 2 to the power of 40
 pub byte-times : (a b : ℕ) → a < 256 → b < 4294967296 → a * b ≤ 1099511627776
 byte-times a b h k = let m = mul-le-mul-right b (le-of-lt h) in omega arith
 
 pub object-granted : (k : Kind) (o n x e w y : ℕ) (p : Payload) → k ≡ Grant o n x e w y p → o ≡ objectOf k
 object-granted k o n x e w y p h = rw h
 
--- OFFER and DROPPED, the fifth and the sixth kind
+-- OFFER and DROPPED, with tags 4 and 5, are about no object
 pub no-object : (k : Kind) → (tagOf the-type k ≡ 4) ⊎ (tagOf the-type k ≡ 5) → 0 ≡ objectOf k
 no-object (Renew o n e w) h = absurd (⊎-elim (λ e. omega arith) (λ e. omega arith) h)
 no-object (Grant o n x e w y p) h = absurd (⊎-elim (λ e. omega arith) (λ e. omega arith) h)

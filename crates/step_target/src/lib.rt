@@ -1,4 +1,4 @@
-// Whose records a step can touch.
+// Finds the client records that a step can touch.
 ghost use mathlib.Core.Path.{_≡_};
 ghost use Rattle.protocol.specs.Messages.{objectOf};
 ghost use Rattle.protocol.specs.World.{targetAt, target};
@@ -11,7 +11,7 @@ use protocol::step::Target;
 use state_words::Values;
 use state_words::Words;
 
-// The object that a message is about; 0 stands for it where it is about a volume.
+// Returns the object that a message is about, or 0 if it is about a volume.
 fn object_of(k: Kind) -> u8
     ensures { λ r. ⌜ r ≡ objectOf k ⌝ }
 {
@@ -45,7 +45,7 @@ fn object_of(k: Kind) -> u8
     }
 }
 
-// The records of a client, and its copy of an object.
+// Returns the places of a client's records and of its copy of an object.
 fn target_at(s: Setup, client: u8, object: u8) -> Target
     ensures { λ r. ⌜ r ≡ targetAt s client object ⌝ }
 {
@@ -57,7 +57,7 @@ fn target_at(s: Setup, client: u8, object: u8) -> Target
     }
 }
 
-// The records that the step names, or those of the message that it delivers; for any input.
+// Returns the places of the records that the step names, or that the message it delivers is about. Accepts any input.
 pub fn target<'a>(s: Setup, words: &'a Words, values: &'a Values, step: Step) -> Target
     ensures { λ r. ⌜ r ≡ target s (tablesOf (now (words .entry)) (now (values .entry))) step ⌝ }
 {

@@ -1,4 +1,4 @@
--- The verdict v where n writes completed, and the client's records stay.
+-- The verdict v after n writes completed: no record changes.
 use Prim.Native.Nat.{ℕ}
 use mathlib.Core.Path.{_≡_}
 use borrow.Author.Tests.{eq-eqb, ne-eqb}

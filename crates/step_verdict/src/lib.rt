@@ -1,4 +1,4 @@
-// The verdict on a step: what becomes of the client's records, and the answer.
+// The verdict on a step: the change to the client's records, and the answer.
 ghost use mathlib.Core.Path.{_≡_};
 ghost use Rattle.protocol.specs.Answers.{completedAnswer};
 ghost use Rattle.protocol.specs.Decide.{kept};
@@ -10,7 +10,7 @@ pub struct Verdict {
     pub answer: Answer,
 }
 
-// The client's records stay.
+// Returns the verdict with this answer and no change to the client's records.
 pub fn keeping(answer: Answer) -> Verdict
     ensures { λ v. ⌜ v ≡ record { change = kept; answer = answer } ⌝ }
 {
@@ -20,7 +20,7 @@ pub fn keeping(answer: Answer) -> Verdict
     }
 }
 
-// They stay, and so many writes completed.
+// Returns the verdict after n writes completed: no record changes.
 pub fn counting(n: u32) -> Verdict
     ensures { λ v. ⌜ v ≡ record { change = kept; answer = completedAnswer n } ⌝ }
 {
@@ -30,7 +30,7 @@ pub fn counting(n: u32) -> Verdict
     keeping(Answer::Completed(n))
 }
 
-// Done, and what becomes of them.
+// Returns the verdict "done" with this change to the client's records.
 pub fn changing(change: Change) -> Verdict
     ensures { λ v. ⌜ v ≡ record { change = change; answer = Answer.Done } ⌝ }
 {

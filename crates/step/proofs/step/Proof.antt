@@ -1,4 +1,5 @@
--- `step::step` meets its contract: a walk of its MIR, by hand. Words, values and both slices are opened, lent to each callee in turn and closed; all else is calls on values. No branch. Assumes nothing.
+-- Proves the contract of `step::step` by walking its MIR by hand. Words, values and both slices are opened, lent to each callee in turn and closed; all
+-- else is calls on values. There is no branch. Assumes nothing.
 use mathlib.Core.Path.{_≡_, refl, sym, ap, subst, _∙_}
 use Prim.Native.Nat.{ℕ}
 use mathlib.Core.Bool.{Bool, _&&_}
@@ -183,11 +184,11 @@ Vs = Array u64 640
 abbrev stayed : Stays (this.ended .signature .params) (this.ended .kept)
 stayed = (stay-none (λ _. S) yes, (stay-ref (0 ∷ []) tt (plain (λ _. Ws)), (stay-ref (1 ∷ []) tt (plain (λ _. Vs)), (stay-slice (2 ∷ []) tt (plain (λ _. R)), (stay-slice (3 ∷ []) tt (plain (λ _. Q)), (stay-none (λ _. U) yes, tt))))))
 
--- a large type, shut: the walk of the body never looks into it
+-- a large type, kept folded: the walk of the body never looks into it
 unfoldable sty : Ty
 sty = S′.mir
 
--- the six facts that the contract ensures
+-- the six facts that the contract promises
 abbrev Facts : {M : Type 1} (𝓤 : URA M) → Type 0 → Type 0 → Type 0 → Type 0 → Type 0 → Type 0 → SProp 𝓤
 Facts 𝓤 φ ψ χ ω ξ ζ = sep 𝓤 (fact 𝓤 φ) (sep 𝓤 (fact 𝓤 ψ) (sep 𝓤 (fact 𝓤 χ) (sep 𝓤 (fact 𝓤 ω) (sep 𝓤 (fact 𝓤 ξ) (fact 𝓤 ζ)))))
 
@@ -231,7 +232,7 @@ On-sweep 𝓤 H A mem run = tripleOf 𝓤 H A sweep-c.signature (sweep-c.spec �
 abbrev On-update : {M : Type 1} (𝓤 : URA M) (H : Heap 𝓤) (A : Atoms 𝓤) (mem : Memory → SProp 𝓤) (run : Routine → Fun 𝓤) → Contract 𝓤
 On-update 𝓤 H A mem run = tripleOf 𝓤 H A update-c.signature (update-c.spec 𝓤 H A mem run)
 
--- lent are the words ws, the values xs, the copies ys and the requests ks: each with its lifetime κ, that lifetime's share q, its place (b, o) and its name γ
+-- The words ws, values xs, copies ys and requests ks are lent, each with its lifetime κ, that lifetime's share q, its place (b, o) and its name γ
 module _ {M : Type 1} (𝓤 : URA M) (H : Heap 𝓤) (A : Atoms 𝓤) (W : Given 𝓤 H A) (at-mem : Memory → SProp 𝓤) (run : Routine → Fun 𝓤) (κw κx κ κ₁ : Lft) (qw qx q q₁ : Share) (st : Setup) (bw ow : ℕ) (γw : GName) (ws : List ℕ) (bx ox : ℕ) (γx : GName) (xs : List ℕ) (b o : ℕ) (γ : GName) (ys : List Copy) (bq oq : ℕ) (γq : GName) (ks : List Request) (uq : Step)
     (is-st : Is S st ((LL.val S-.the-type S′.the-laws st) ∷ [])) (is-u : Is U uq ((LL.val U-.the-type U′.the-laws uq) ∷ [])) where
   abbrev n : ℕ
@@ -279,7 +280,7 @@ module _ {M : Type 1} (𝓤 : URA M) (H : Heap 𝓤) (A : Atoms 𝓤) (W : Given
   abbrev Post : Val → SProp 𝓤
   Post = walkOf 𝓤 H A this.ended stayed (this.clauses 𝓤 H A at-mem run) .post (((κw, (κx, (κ, (κ₁, tt)))), (qw, (qx, (q, (q₁, tt)))), tt, a, at), tt)
 
-  -- what each call is to find
+  -- the world, and the result expected of each call
   abbrev tb : TablesD
   tb = viewOf ws xs
 
@@ -304,7 +305,7 @@ module _ {M : Type 1} (𝓤 : URA M) (H : Heap 𝓤) (A : Atoms 𝓤) (W : Given
   abbrev h₀ : Request
   h₀ = getD ks (t₀ .client) noRequest
 
-  -- what the verdict and the words and values that it left say together
+  -- the decision that a verdict makes together with the words and values left after it
   abbrev made : Verdict → List ℕ → List ℕ → Decision
   made d ws′ xs′ = answered (d .change) (viewOf ws′ xs′) (d .answer)
 
@@ -336,7 +337,7 @@ module _ {M : Type 1} (𝓤 : URA M) (H : Heap 𝓤) (A : Atoms 𝓤) (W : Given
   lenq d = length-set ks (t₀ .client) (turned h₀ (d .change .request))
 
   module _ (d : Verdict) (ws′ xs′ : List ℕ) (e : Decides d ws′ xs′) where
-    -- it is the decision that the rules speak of
+    -- it is the decision that the rules define
     is-decision : made d ws′ xs′ ≡ decision st w₀ uq
     unfolding decision
     is-decision = e
@@ -363,7 +364,7 @@ module _ {M : Type 1} (𝓤 : URA M) (H : Heap 𝓤) (A : Atoms 𝓤) (W : Given
         same : world ws′ xs′ (ys₂ d) (ks₁ d) ≡ w₀
         same = steps ∙ refused-same st w₀ uq (sym (ap answerNumber says-answer) ∙ y)
 
-  -- what is known of a value by what its machine value is
+  -- a value's machine value is the one that its type defines
   said-R : {w : Val} (c : Copy) → Is R c (w ∷ []) → Is R c ((LL.val R-.the-type R′.the-laws c) ∷ [])
   said-R {w} c is = subst (λ (vs : List Val). Is R c vs) (LL.tells R-.the-type R′.the-laws c (w ∷ []) is) is
 
@@ -388,7 +389,7 @@ module _ {M : Type 1} (𝓤 : URA M) (H : Heap 𝓤) (A : Atoms 𝓤) (W : Given
   typed-d : {w : Val} (d : Verdict) → Is D d (w ∷ []) → TB (hasTy D′.mir w) × WT w
   typed-d {w} d is = (LL.lawful D-.the-type D′.the-laws 𝓤 H A W .typed d _ is .0)
 
-  -- copies-sound
+  -- the call of `copies::sound`
   abbrev args-copies-sound : GName → RefT (List Copy) × (Setup × (Unit {0}))
   args-copies-sound δ = (x δ ys, (st, tt))
 
@@ -402,7 +403,7 @@ module _ {M : Type 1} (𝓤 : URA M) (H : Heap 𝓤) (A : Atoms 𝓤) (W : Given
   got-copies-sound : (ν : ℕ) (δ : GName) (r : Bool) → ent 𝓤 (ensured 𝓤 H A copies-sound-c.ended (copies-sound-c.clauses 𝓤 H A at-mem run) (ν ∷ [], tt) (args-copies-sound δ) tt r) (fact 𝓤 (r ≡ held₀))
   got-copies-sound ν δ r = exE 𝓤 _ (λ ws. snd∗ 𝓤 (sem 𝓤 H A (lasts copies-sound-c.ended (ν ∷ [], tt) (args-copies-sound δ) ws)) (fact 𝓤 (r ≡ held₀)))
 
-  -- requests-sound
+  -- the call of `requests::sound`
   abbrev args-requests-sound : GName → RefT (List Request) × (Setup × (Unit {0}))
   args-requests-sound δ = (xq δ ks, (st, tt))
 
@@ -416,7 +417,7 @@ module _ {M : Type 1} (𝓤 : URA M) (H : Heap 𝓤) (A : Atoms 𝓤) (W : Given
   got-requests-sound : (ν : ℕ) (δ : GName) (r : Bool) → ent 𝓤 (ensured 𝓤 H A requests-sound-c.ended (requests-sound-c.clauses 𝓤 H A at-mem run) (ν ∷ [], tt) (args-requests-sound δ) tt r) (fact 𝓤 (r ≡ asked₀))
   got-requests-sound ν δ r = exE 𝓤 _ (λ ws. snd∗ 𝓤 (sem 𝓤 H A (lasts requests-sound-c.ended (ν ∷ [], tt) (args-requests-sound δ) ws)) (fact 𝓤 (r ≡ asked₀)))
 
-  -- both
+  -- the call of `both`
   abbrev args-both : Bool × (Bool × (Unit {0}))
   args-both = (held₀, (asked₀, tt))
 
@@ -430,7 +431,7 @@ module _ {M : Type 1} (𝓤 : URA M) (H : Heap 𝓤) (A : Atoms 𝓤) (W : Given
   got-both : (r : Bool) → ent 𝓤 (ensured 𝓤 H A both-c.ended (both-c.clauses 𝓤 H A at-mem run) tt (args-both) tt r) (fact 𝓤 (r ≡ ok₀))
   got-both r = exE 𝓤 _ (λ ws. snd∗ 𝓤 (sem 𝓤 H A (lasts both-c.ended tt (args-both) ws)) (fact 𝓤 (r ≡ ok₀)))
 
-  -- target
+  -- the call of `target`
   abbrev args-target : GName → GName → Setup × (RefT (List ℕ) × (RefT (List ℕ) × (Step × (Unit {0}))))
   args-target δ₀ δ₁ = (st, (xw δ₀ ws, (xx δ₁ xs, (uq, tt))))
 
@@ -444,7 +445,7 @@ module _ {M : Type 1} (𝓤 : URA M) (H : Heap 𝓤) (A : Atoms 𝓤) (W : Given
   got-target : (ν : ℕ) (δ₀ δ₁ : GName) (r : Target) → ent 𝓤 (ensured 𝓤 H A target-c.ended (target-c.clauses 𝓤 H A at-mem run) (ν ∷ [], tt) (args-target δ₀ δ₁) tt r) (fact 𝓤 (r ≡ t₀))
   got-target ν δ₀ δ₁ r = exE 𝓤 _ (λ ws. snd∗ 𝓤 (sem 𝓤 H A (lasts target-c.ended (ν ∷ [], tt) (args-target δ₀ δ₁) ws)) (fact 𝓤 (r ≡ t₀)))
 
-  -- copies-look
+  -- the call of `copies::look`
   abbrev args-copies-look : GName → RefT (List Copy) × (ℕ × (Unit {0}))
   args-copies-look δ = (x δ ys, ((t₀ .copy), tt))
 
@@ -458,7 +459,7 @@ module _ {M : Type 1} (𝓤 : URA M) (H : Heap 𝓤) (A : Atoms 𝓤) (W : Given
   got-copies-look : (ν : ℕ) (δ : GName) (r : Copy) → ent 𝓤 (ensured 𝓤 H A copies-look-c.ended (copies-look-c.clauses 𝓤 H A at-mem run) (ν ∷ [], tt) (args-copies-look δ) tt r) (fact 𝓤 (r ≡ c₀))
   got-copies-look ν δ r = exE 𝓤 _ (λ ws. snd∗ 𝓤 (sem 𝓤 H A (lasts copies-look-c.ended (ν ∷ [], tt) (args-copies-look δ) ws)) (fact 𝓤 (r ≡ c₀)))
 
-  -- requests-look
+  -- the call of `requests::look`
   abbrev args-requests-look : GName → RefT (List Request) × (ℕ × (Unit {0}))
   args-requests-look δ = (xq δ ks, ((t₀ .client), tt))
 
@@ -472,7 +473,7 @@ module _ {M : Type 1} (𝓤 : URA M) (H : Heap 𝓤) (A : Atoms 𝓤) (W : Given
   got-requests-look : (ν : ℕ) (δ : GName) (r : Request) → ent 𝓤 (ensured 𝓤 H A requests-look-c.ended (requests-look-c.clauses 𝓤 H A at-mem run) (ν ∷ [], tt) (args-requests-look δ) tt r) (fact 𝓤 (r ≡ h₀))
   got-requests-look ν δ r = exE 𝓤 _ (λ ws. snd∗ 𝓤 (sem 𝓤 H A (lasts requests-look-c.ended (ν ∷ [], tt) (args-requests-look δ) ws)) (fact 𝓤 (r ≡ h₀)))
 
-  -- decide
+  -- the call of `decide`
   abbrev args-decide : GName → GName → Setup × (RefT (List ℕ) × (RefT (List ℕ) × (Bool × (Copy × (Request × (Step × (Unit {0})))))))
   args-decide δ₀ δ₁ = (st, (xw δ₀ ws, (xx δ₁ xs, (ok₀, (c₀, (h₀, (uq, tt)))))))
 
@@ -483,7 +484,7 @@ module _ {M : Type 1} (𝓤 : URA M) (H : Heap 𝓤) (A : Atoms 𝓤) (W : Given
   goes-decide is-c is-h ν₀ ν₁ δ₀ δ₁ =
       qed W (‵ (flft (ν₀ ∷ []) fullShare) ∷ ‵ (flft (ν₁ ∷ []) fullShare) ∷ ‵ (MutRef (named 0) (ν₀ ∷ []) Ws .own (xw δ₀ ws) (pw ∷ [])) ∷ ‵ (MutRef (named 1) (ν₁ ∷ []) Vs .own (xx δ₁ xs) (px ∷ [])) ∷ []) ∵ nothing ! $ move ! (2 ∷ 0 ∷ []) $ join ! $ move ! (1 ∷ 0 ∷ []) $ join ! $ nothing ! $ owned ! U (Is U) (LL.makes U-.the-type U′.the-plain 𝓤 H A) uq _ is-u $ fjoin ! $ owned ! Q (Is Q) (LL.makes Q-.the-type Q′.the-plain 𝓤 H A) h₀ _ is-h $ fjoin ! $ owned ! R (Is R) (LL.makes R-.the-type R′.the-plain 𝓤 H A) c₀ _ is-c $ fjoin ! $ owned ! Boolean (Is Boolean) (bool-makes 𝓤 H A W) ok₀ _ refl $ fjoin ! $ move ! (3 ∷ 0 ∷ []) $ fjoin ! $ move ! (2 ∷ 0 ∷ []) $ fjoin ! $ owned ! S (Is S) (LL.makes S-.the-type S′.the-plain 𝓤 H A) st _ is-st $ fjoin ! $ move ! (1 ∷ 0 ∷ []) $ join ! $ nothing ! $ move ! (1 ∷ 0 ∷ []) $ done !
 
-  -- change
+  -- the call of `copies::change`
   abbrev args-change : (d : Verdict) → GName → RefT (List Copy) × (ℕ × (CopyChange × (Unit {0})))
   args-change d δ = (x δ ys, ((t₀ .copy), ((d .change .copy), tt)))
 
@@ -494,7 +495,7 @@ module _ {M : Type 1} (𝓤 : URA M) (H : Heap 𝓤) (A : Atoms 𝓤) (W : Given
   goes-change d is is-t ν δ =
       qed W (‵ (flft (ν ∷ []) fullShare) ∷ ‵ (MutSlice (named 0) (ν ∷ []) R .own (x δ ys) (s ∷ [])) ∷ []) ∵ nothing ! $ move ! (1 ∷ 0 ∷ []) $ join ! $ nothing ! $ owned ! F (Is F) (EL.makes F-.the-type F′.the-plain 𝓤 H A) (d .change .copy) _ (in-g d is .0) $ fjoin ! $ owned ! usize (Is usize) (uint-makes 𝓤 H A W w64) (t₀ .copy) _ (refl, in-t is-t .1 .0 .1) $ fjoin ! $ move ! (2 ∷ 0 ∷ []) $ fjoin ! $ move ! (1 ∷ 0 ∷ []) $ join ! $ nothing ! $ move ! (1 ∷ 0 ∷ []) $ done !
 
-  -- sweep
+  -- the call of `sweep`
   abbrev args-sweep : (d : Verdict) → GName → RefT (List Copy) × (Setup × (Sweep × (ℕ × (Unit {0}))))
   args-sweep d δ = (x δ (ys₁ d), (st, ((d .change .sweep), ((t₀ .first), tt))))
 
@@ -505,7 +506,7 @@ module _ {M : Type 1} (𝓤 : URA M) (H : Heap 𝓤) (A : Atoms 𝓤) (W : Given
   goes-sweep d is is-t ν δ =
       qed W (‵ (flft (ν ∷ []) fullShare) ∷ ‵ (MutSlice (named 0) (ν ∷ []) R .own (x δ (ys₁ d)) (s ∷ [])) ∷ []) ∵ nothing ! $ move ! (1 ∷ 0 ∷ []) $ join ! $ nothing ! $ owned ! usize (Is usize) (uint-makes 𝓤 H A W w64) (t₀ .first) _ (refl, in-t is-t .1 .1 .0 .1) $ fjoin ! $ owned ! G (Is G) (EL.makes G-.the-type G′.the-plain 𝓤 H A) (d .change .sweep) _ (in-g d is .1 .1 .0) $ fjoin ! $ owned ! S (Is S) (LL.makes S-.the-type S′.the-plain 𝓤 H A) st _ is-st $ fjoin ! $ move ! (2 ∷ 0 ∷ []) $ fjoin ! $ move ! (1 ∷ 0 ∷ []) $ join ! $ nothing ! $ move ! (1 ∷ 0 ∷ []) $ done !
 
-  -- update
+  -- the call of `update`
   abbrev args-update : (d : Verdict) → GName → RefT (List Request) × (ℕ × (Turn × (Unit {0})))
   args-update d δ = (xq δ ks, ((t₀ .client), ((d .change .request), tt)))
 
@@ -544,7 +545,7 @@ module _ {M : Type 1} (𝓤 : URA M) (H : Heap 𝓤) (A : Atoms 𝓤) (W : Given
       owned ! S (Is S) (LL.makes S-.the-type S′.the-plain 𝓤 H A) st _ is-st $ fjoin ! $ frame ! $ owned ! N (Is N) (EL.makes N-.the-type N′.the-plain 𝓤 H A) (d .answer) _ (in-d d is .1 .0) $ done !
 
   module _ (𝓣 : Tables 𝓤 H) (fm : FmC 𝓤 H (W .laws) (𝓣 .C)) (known-copies-sound : Triple 𝓤 (𝓣 .C #lent-copies·copies·sound) (On-copies-sound 𝓤 H A at-mem run)) (known-requests-sound : Triple 𝓤 (𝓣 .C #lent-requests·requests·sound) (On-requests-sound 𝓤 H A at-mem run)) (known-both : Triple 𝓤 (𝓣 .C #items·both) (On-both 𝓤 H A at-mem run)) (known-target : Triple 𝓤 (𝓣 .C #targets·target) (On-target 𝓤 H A at-mem run)) (known-copies-look : Triple 𝓤 (𝓣 .C #lent-copies·copies·look) (On-copies-look 𝓤 H A at-mem run)) (known-requests-look : Triple 𝓤 (𝓣 .C #lent-requests·requests·look) (On-requests-look 𝓤 H A at-mem run)) (known-decide : Triple 𝓤 (𝓣 .C #decide·decide) (On-decide 𝓤 H A at-mem run)) (known-change : Triple 𝓤 (𝓣 .C #lent-copies·copies·change) (On-change 𝓤 H A at-mem run)) (known-sweep : Triple 𝓤 (𝓣 .C #lent-copies·sweep·sweep) (On-sweep 𝓤 H A at-mem run)) (known-update : Triple 𝓤 (𝓣 .C #lent-requests·turn·update) (On-update 𝓤 H A at-mem run)) where
-    -- what the body starts from: the four borrows open, the arguments in their locals
+    -- the state at the start of the body: the four borrows are open, the arguments are in their locals
     abbrev Start : ℕ → ℕ → ℕ → ℕ → ℕ → ℕ → ℕ → ℕ → ℕ → ℕ → ℕ → ℕ → ℕ → ℕ → ℕ → ℕ → ℕ → ℕ → ℕ → ℕ → ℕ → ℕ → ℕ → ℕ → ℕ → ℕ → ℕ → ℕ → ℕ → ℕ → ℕ → ℕ → ℕ → List (Item 𝓤)
     Start l₀ l₁ l₂ l₃ l₄ l₅ l₆ l₇ l₈ l₉ l₁₀ l₁₁ l₁₂ l₁₃ l₁₄ l₁₅ l₁₆ l₁₇ l₁₈ l₁₉ l₂₀ l₂₁ l₂₂ l₂₃ l₂₄ l₂₅ l₂₆ l₂₇ l₂₈ l₂₉ l₃₀ l₃₁ l₃₂ = ‵ (partAt Ws fullShare ws bw ow) ∷ ‵ (fobor κw qw (Body (mem Ws) bw ow γw)) ∷ ‵ (fobs γw (Ws .coded .code ws)) ∷ ‵ (fauth γw (Ws .coded .code ws))
         ∷ ‵ (partAt Vs fullShare xs bx ox) ∷ ‵ (fobor κx qx (Body (mem Vs) bx ox γx)) ∷ ‵ (fobs γx (Vs .coded .code xs)) ∷ ‵ (fauth γx (Vs .coded .code xs))
@@ -558,7 +559,7 @@ module _ {M : Type 1} (𝓤 : URA M) (H : Heap 𝓤) (A : Atoms 𝓤) (W : Given
 
     body : Room R n → Room Q nq → (l₀ l₁ l₂ l₃ l₄ l₅ l₆ l₇ l₈ l₉ l₁₀ l₁₁ l₁₂ l₁₃ l₁₄ l₁₅ l₁₆ l₁₇ l₁₈ l₁₉ l₂₀ l₂₁ l₂₂ l₂₃ l₂₄ l₂₅ l₂₆ l₂₇ l₂₈ l₂₉ l₃₀ l₃₁ l₃₂ : ℕ) → Sq W (Start l₀ l₁ l₂ l₃ l₄ l₅ l₆ l₇ l₈ l₉ l₁₀ l₁₁ l₁₂ l₁₃ l₁₄ l₁₅ l₁₆ l₁₇ l₁₈ l₁₉ l₂₀ l₂₁ l₂₂ l₂₃ l₂₄ l₂₅ l₂₆ l₂₇ l₂₈ l₂₉ l₃₀ l₃₁ l₃₂) (runs (𝓣 .C) (𝓣 .Λ) (En l₀ l₁ l₂ l₃ l₄ l₅ l₆ l₇ l₈ l₉ l₁₀ l₁₁ l₁₂ l₁₃ l₁₄ l₁₅ l₁₆ l₁₇ l₁₈ l₁₉ l₂₀ l₂₁ l₂₂ l₂₃ l₂₄ l₂₅ l₂₆ l₂₇ l₂₈ l₂₉ l₃₀ l₃₁ l₃₂) (code.function .body) (atRet (En l₀ l₁ l₂ l₃ l₄ l₅ l₆ l₇ l₈ l₉ l₁₀ l₁₁ l₁₂ l₁₃ l₁₄ l₁₅ l₁₆ l₁₇ l₁₈ l₁₉ l₂₀ l₂₁ l₂₂ l₂₃ l₂₄ l₂₅ l₂₆ l₂₇ l₂₈ l₂₉ l₃₀ l₃₁ l₃₂) Post))
     body gn gq l₀ l₁ l₂ l₃ l₄ l₅ l₆ l₇ l₈ l₉ l₁₀ l₁₁ l₁₂ l₁₃ l₁₄ l₁₅ l₁₆ l₁₇ l₁₈ l₁₉ l₂₀ l₂₁ l₂₂ l₂₃ l₂₄ l₂₅ l₂₆ l₂₇ l₂₈ l₂₉ l₃₀ l₃₁ l₃₂ =
-        -- copies-sound
+        -- the call of `copies::sound`
         assigns ! (addr ! (from ! (fld ! refl (hop ! (look-in ! 20 (sub ! 0 refl (whole !))) (stop !))))) (from ! (stop !)) (init ! 30 refl (tt, tt)) $
         assigns ! (agg ! (and-then ! (load ! (from ! (stop !)) (look ! 30 refl)) (and-then ! (load ! (from ! (fld ! refl (stop !))) (look-in ! 20 (sub ! 1 refl (whole !)))) (no-more !)))) (from ! (stop !)) (init ! 31 refl (tt, (tt, (record { fits = gn .0 }, tt)))) $
         lft-new ! tt (λ ν.
@@ -572,7 +573,7 @@ module _ {M : Type 1} (𝓤 : URA M) (H : Heap 𝓤) (A : Atoms 𝓤) (W : Given
         split ! $ lft-end ! tt $
         move ! (0 ∷ 2 ∷ []) $ use2 W (later (‵ (row R fullShare ys b o))) (back-shr 𝓤 H A W R (named 0) (ν ∷ []) b o ys) $ await ! tt $
         move ! (1 ∷ []) $ drop ! $
-        -- requests-sound
+        -- the call of `requests::sound`
         assigns ! (addr ! (from ! (fld ! refl (hop ! (look-in ! 21 (sub ! 0 refl (whole !))) (stop !))))) (from ! (stop !)) (init ! 32 refl (tt, tt)) $
         assigns ! (agg ! (and-then ! (load ! (from ! (stop !)) (look ! 32 refl)) (and-then ! (load ! (from ! (fld ! refl (stop !))) (look-in ! 21 (sub ! 1 refl (whole !)))) (no-more !)))) (from ! (stop !)) (init ! 33 refl (tt, (tt, (record { fits = gq .0 }, tt)))) $
         lft-new ! tt (λ ν.
@@ -586,13 +587,13 @@ module _ {M : Type 1} (𝓤 : URA M) (H : Heap 𝓤) (A : Atoms 𝓤) (W : Given
         split ! $ lft-end ! tt $
         move ! (0 ∷ 2 ∷ []) $ use2 W (later (‵ (row Q fullShare ks bq oq))) (back-shr 𝓤 H A W Q (named 0) (ν ∷ []) bq oq ks) $ await ! tt $
         move ! (1 ∷ []) $ drop ! $
-        -- both
+        -- the call of `both`
         use0 W (raw (On-both 𝓤 H A at-mem run .pre (to-both))) (goes-both) $
         calls-at ! fm (On-both 𝓤 H A at-mem run) known-both (to-both) (and-then ! (load ! (from ! (stop !)) (look ! 24 refl)) (and-then ! (load ! (from ! (stop !)) (look ! 25 refl)) (no-more !))) (λ w.
         use1 W (later (some (λ (r : Bool). (‵ ftrue ⊛ ‵ (Boolean .own r (w ∷ []))) ⊛ raw (ensured 𝓤 H A both-c.ended (both-c.clauses 𝓤 H A at-mem run) tt (args-both) tt r)))) (id⊢ 𝓤 _) $ await ! tt $ pick ! (λ r₂.
         split ! $ move ! (1 ∷ []) $ use1 W (raw (fact 𝓤 (r₂ ≡ ok₀))) (got-both r₂) $ heard ! (r₂ ≡ ok₀) (λ e₂. split ! $ drop ! $ facts ! Boolean (Is Boolean) (shows 𝓤 H A Boolean) r₂ (w ∷ []) (λ is₂.
         land ! (from ! (stop !)) (init ! 25 refl (bool-lawful 𝓤 H A W .typed r₂ _ is₂ .0)) $ rewrite ! 25 (λ (u : Val). ‵ (fat fullShare tyBool l₉ 0 u)) (ap only is₂ ∙ ap vbool e₂) refl $
-        -- target
+        -- the call of `target`
         assigns ! (addr ! (from ! (hop ! (look ! 18 refl) (stop !)))) (from ! (stop !)) (init ! 34 refl (tt, tt)) $
         assigns ! (addr ! (from ! (hop ! (look ! 19 refl) (stop !)))) (from ! (stop !)) (init ! 35 refl (tt, tt)) $
         lft-new ! tt (λ ν.
@@ -610,7 +611,7 @@ module _ {M : Type 1} (𝓤 : URA M) (H : Heap 𝓤) (A : Atoms 𝓤) (W : Given
         move ! (1 ∷ 3 ∷ []) $ lent-back ! tt $
         move ! (2 ∷ []) $ drop ! $
         let is-t : Is P t₀ ((LL.val P-.the-type P′.the-laws t₀) ∷ []) = (subst (λ (z : Target). Is P z ((LL.val P-.the-type P′.the-laws z) ∷ [])) e₃ (said-P r₃ is₃)) in
-        -- copies-look
+        -- the call of `copies::look`
         assigns ! (addr ! (from ! (fld ! refl (hop ! (look-in ! 20 (sub ! 0 refl (whole !))) (stop !))))) (from ! (stop !)) (init ! 36 refl (tt, tt)) $
         assigns ! (agg ! (and-then ! (load ! (from ! (stop !)) (look ! 36 refl)) (and-then ! (load ! (from ! (fld ! refl (stop !))) (look-in ! 20 (sub ! 1 refl (whole !)))) (no-more !)))) (from ! (stop !)) (init ! 37 refl (tt, (tt, (record { fits = gn .0 }, tt)))) $
         lft-new ! tt (λ ν.
@@ -624,7 +625,7 @@ module _ {M : Type 1} (𝓤 : URA M) (H : Heap 𝓤) (A : Atoms 𝓤) (W : Given
         split ! $ lft-end ! tt $
         move ! (0 ∷ 2 ∷ []) $ use2 W (later (‵ (row R fullShare ys b o))) (back-shr 𝓤 H A W R (named 0) (ν ∷ []) b o ys) $ await ! tt $
         move ! (1 ∷ []) $ drop ! $
-        -- requests-look
+        -- the call of `requests::look`
         assigns ! (addr ! (from ! (fld ! refl (hop ! (look-in ! 21 (sub ! 0 refl (whole !))) (stop !))))) (from ! (stop !)) (init ! 38 refl (tt, tt)) $
         assigns ! (agg ! (and-then ! (load ! (from ! (stop !)) (look ! 38 refl)) (and-then ! (load ! (from ! (fld ! refl (stop !))) (look-in ! 21 (sub ! 1 refl (whole !)))) (no-more !)))) (from ! (stop !)) (init ! 39 refl (tt, (tt, (record { fits = gq .0 }, tt)))) $
         lft-new ! tt (λ ν.
@@ -640,7 +641,7 @@ module _ {M : Type 1} (𝓤 : URA M) (H : Heap 𝓤) (A : Atoms 𝓤) (W : Given
         move ! (1 ∷ []) $ drop ! $
         let is-c : Is R c₀ ((LL.val R-.the-type R′.the-laws c₀) ∷ []) = (subst (λ (z : Copy). Is R z ((LL.val R-.the-type R′.the-laws z) ∷ [])) e₄ (said-R r₄ is₄)) in
         let is-h : Is Q h₀ ((LL.val Q-.the-type Q′.the-laws h₀) ∷ []) = (subst (λ (z : Request). Is Q z ((LL.val Q-.the-type Q′.the-laws z) ∷ [])) e₅ (said-Q r₅ is₅)) in
-        -- decide
+        -- the call of `decide`
         assigns ! (addr ! (from ! (hop ! (look ! 18 refl) (stop !)))) (from ! (stop !)) (init ! 40 refl (tt, tt)) $
         assigns ! (addr ! (from ! (hop ! (look ! 19 refl) (stop !)))) (from ! (stop !)) (init ! 41 refl (tt, tt)) $
         lft-new ! tt (λ ν₀.
@@ -666,7 +667,7 @@ module _ {M : Type 1} (𝓤 : URA M) (H : Heap 𝓤) (A : Atoms 𝓤) (W : Given
         move ! (1 ∷ 6 ∷ 3 ∷ []) $ use3 W (later (‵ (partAt Vs fullShare xs′ bx ox))) (ref-back 𝓤 H A W Vs (ν₁ ∷ []) δ₁ xs′ bx ox) $ await ! tt $
         move ! (2 ∷ 4 ∷ 3 ∷ []) $ drop ! $ drop ! $ drop ! $
         let is-d : Is D d ((LL.val D-.the-type D′.the-laws d) ∷ []) = said-D d is₆ in
-        -- change
+        -- the call of `copies::change`
         assigns ! (addr ! (from ! (fld ! refl (hop ! (look-in ! 20 (sub ! 0 refl (whole !))) (stop !))))) (from ! (stop !)) (init ! 43 refl (tt, tt)) $
         assigns ! (agg ! (and-then ! (load ! (from ! (stop !)) (look ! 43 refl)) (and-then ! (load ! (from ! (fld ! refl (stop !))) (look-in ! 20 (sub ! 1 refl (whole !)))) (no-more !)))) (from ! (stop !)) (init ! 44 refl (tt, (tt, (record { fits = gn .0 }, tt)))) $
         lft-new ! tt (λ ν.
@@ -680,7 +681,7 @@ module _ {M : Type 1} (𝓤 : URA M) (H : Heap 𝓤) (A : Atoms 𝓤) (W : Given
         land ! (from ! (stop !)) (init ! 45 refl (nothing-lawful 𝓤 H A W .typed r _ is .0)) $ split ! $ lft-end ! tt $
         move ! (0 ∷ 4 ∷ 2 ∷ []) $ use3 W (later (‵ (row R fullShare (us .0) b o))) (back-mut 𝓤 H A W R (named 0) (ν ∷ []) b o n δ (us .0)) $ await ! tt $ rewrite ! 0 (λ (z : List Copy). ‵ (row R fullShare z b o)) e₇ refl $
         move ! (1 ∷ 2 ∷ []) $ drop ! $ drop ! $
-        -- sweep
+        -- the call of `sweep`
         assigns ! (addr ! (from ! (fld ! refl (hop ! (look-in ! 20 (sub ! 0 refl (whole !))) (stop !))))) (from ! (stop !)) (init ! 45 refl (tt, tt)) $
         assigns ! (agg ! (and-then ! (load ! (from ! (stop !)) (look ! 45 refl)) (and-then ! (load ! (from ! (fld ! refl (stop !))) (look-in ! 20 (sub ! 1 refl (whole !)))) (no-more !)))) (from ! (stop !)) (init ! 46 refl (tt, (tt, (record { fits = gn .0 }, tt)))) $
         lft-new ! tt (λ ν.
@@ -694,7 +695,7 @@ module _ {M : Type 1} (𝓤 : URA M) (H : Heap 𝓤) (A : Atoms 𝓤) (W : Given
         land ! (from ! (stop !)) (store ! 45 refl (nothing-lawful 𝓤 H A W .typed r _ is .0)) $ split ! $ lft-end ! tt $
         move ! (0 ∷ 4 ∷ 2 ∷ []) $ use3 W (later (‵ (row R fullShare (us .0) b o))) (back-mut 𝓤 H A W R (named 0) (ν ∷ []) b o n δ (us .0)) $ await ! tt $ rewrite ! 0 (λ (z : List Copy). ‵ (row R fullShare z b o)) e₈ refl $
         move ! (1 ∷ 2 ∷ []) $ drop ! $ drop ! $
-        -- update
+        -- the call of `update`
         assigns ! (addr ! (from ! (fld ! refl (hop ! (look-in ! 21 (sub ! 0 refl (whole !))) (stop !))))) (from ! (stop !)) (init ! 47 refl (tt, tt)) $
         assigns ! (agg ! (and-then ! (load ! (from ! (stop !)) (look ! 47 refl)) (and-then ! (load ! (from ! (fld ! refl (stop !))) (look-in ! 21 (sub ! 1 refl (whole !)))) (no-more !)))) (from ! (stop !)) (init ! 48 refl (tt, (tt, (record { fits = gq .0 }, tt)))) $
         lft-new ! tt (λ ν.
@@ -708,7 +709,7 @@ module _ {M : Type 1} (𝓤 : URA M) (H : Heap 𝓤) (A : Atoms 𝓤) (W : Given
         land ! (from ! (stop !)) (store ! 45 refl (nothing-lawful 𝓤 H A W .typed r _ is .0)) $ split ! $ lft-end ! tt $
         move ! (0 ∷ 4 ∷ 2 ∷ []) $ use3 W (later (‵ (row Q fullShare (us .0) bq oq))) (back-mut 𝓤 H A W Q (named 0) (ν ∷ []) bq oq nq δ (us .0)) $ await ! tt $ rewrite ! 0 (λ (z : List Request). ‵ (row Q fullShare z bq oq)) e₉ refl $
         move ! (1 ∷ 2 ∷ []) $ drop ! $ drop ! $
-        -- the answer
+        -- the answer is returned
         assigns ! (of-opd ! (load ! (from ! (fld ! {τ = N′.mir} {d = 40} refl (stop !))) (look-in ! 29 (sub ! 1 {τ = N′.mir} {d = 40} refl (whole !))))) (from ! (stop !)) (init ! 16 refl (EL.lawful N-.the-type N′.the-laws 𝓤 H A W tt .typed (d .answer) _ (in-d d is-d .1 .0) .0)) $
         move ! (3 ∷ 4 ∷ 5 ∷ 6 ∷ []) $ close-ref ! tt (mem Ws) ws′ {b = bw} {o = ow} $
         move ! (5 ∷ 6 ∷ 7 ∷ 8 ∷ []) $ close-ref ! tt (mem Vs) xs′ {b = bx} {o = ox} $

@@ -11,7 +11,7 @@ use borrow.Author.Needs.{needs}
 use Rattle.run.proofs.steps.run_steps.Statement.{statement}
 use Rattle.run.proofs.steps.run_steps.Tie as tie
 
--- the running place is the one before record k
+-- the loop invariant: `place` is the offset of step k's record
 abbrev Inv-loop : tie.InvT-loop
 Inv-loop file out₀ at s count words₀ values₀ place₀ next₀ k₀ out words values place next k =
     (k ≤ count) × ((place ≡ placeBefore file k) × ((length out ≡ length out₀) × Running s file out₀ at (worldOf s words values) out next k))
