@@ -1,4 +1,4 @@
-// The library that other languages link (`rt staticlib exports`): calls on numbers and slices, each 0 or the number of a refusal in 01 or 02, which changes
+// The library that other languages link (`rt staticlib gevtsomi`): calls on numbers and slices, each 0 or the number of a refusal in 01 or 02, which changes
 // nothing. A slice is two arguments, its address and its length.
 ghost use mathlib.Core.Path.{_≡_};
 ghost use Rattle.bytes_layout.specs.Report.{reportNumber};
