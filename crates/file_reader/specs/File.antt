@@ -1,4 +1,4 @@
--- 01, "Frame, run file and listing": what a run file holds, over its bytes.
+-- 01, "Frame, run file and listing": the contents of a run file, from its bytes.
 use Prim.Native.Nat.{ℕ, _+_}
 use mathlib.Core.Bool.{cond}
 use mathlib.Core.List.{List, []}
@@ -13,17 +13,17 @@ use Rattle.file_reader.specs.declared.Contents.{Contents}
 abbrev pub contents : ℕ → Setup → ℕ → ℕ → Contents
 contents refusal s count first = record { refusal = refusal; setup = s; count = count; first = first }
 
--- what is read of a file that is refused
+-- The contents returned for a refused file.
 abbrev pub noContents : Contents
 noContents = contents 9 noSetup 0 0
 
 unfoldable pub contentsOf : List ℕ → Contents
 contentsOf l = cond (wellFormed l) (contents 0 (setupIn l (setupPlace l)) (countOf l) (firstPlace l)) noContents
 
--- "The reader hands back the note as that part of the caller's file": what stands before the setup; the empty part of a refused file
+-- "The reader hands back the note as that part of the caller's file": the bytes before the setup; none for a refused file.
 unfoldable pub noteOf : List ℕ → List ℕ
 noteOf l = cond (wellFormed l) (take (setupPlace l) l) []
 
--- the step whose record begins at p; where the file has no such record, a step with nothing in it
+-- The step whose record begins at p, or the step of zeros if the file has no record there.
 unfoldable pub stepAt : List ℕ → ℕ → Step
 stepAt l p = cond (leb (p + 16) (length l)) (stepIn l p) noStep

@@ -1,4 +1,4 @@
--- What an accepted file gives to whoever runs it.
+-- What a loop over an accepted file's steps can rely on.
 use Prim.Native.Nat.{ℕ, _<_}
 use mathlib.Core.Bool.{true}
 use mathlib.Core.List.{List}
@@ -17,14 +17,14 @@ use Rattle.file_reader.specs.declared.Contents.{Contents}
 use Rattle.file_reader.specs.File.{stepAt, contents, contentsOf}
 use Rattle.file_reader.specs.Steps.{stepsOf, step-is}
 
--- what a loop over a file's steps is told by what was read of it: the file's measure, a setup in range, how many steps, where the running place starts
+-- What holds of an accepted file: the lengths of its parts, a setup in range, the number of steps, and where the running place starts.
 pub record Accepted (l : List ℕ) (r : Contents) : Type 0 where
   pub parts : Parts l
   pub in-range : inRange (r .setup) ≡ true
   pub counted : r .count ≡ countOf l
   pub starts : r .first ≡ placeBefore l 0
 
--- r is what was read of the file l, and it is not refused
+-- r is what the reader returns for file l, which is accepted.
 module _ (l : List ℕ) (r : Contents) (e : r ≡ contentsOf l) (a : r .refusal ≡ 0) where
   pub formed : wellFormed l ≡ true
   unfolding contentsOf
@@ -40,6 +40,6 @@ module _ (l : List ℕ) (r : Contents) (e : r ≡ contentsOf l) (a : r .refusal 
   pub accepted : Accepted l r
   accepted = record { parts = formed-parts l formed; in-range = rw contents-read (formed-in-range l formed); counted = rw contents-read; starts = rw (contents-read, place-first l) }
 
-  -- what is read at the running place before record k is the k-th step
+  -- Reading at the running place before record k returns step k.
   pub step-read : (place k : ℕ) (d : Step) → place ≡ placeBefore l k → k < r .count → stepAt l place ≡ getD (stepsOf l) k d
   step-read place k d f h = step-is l place k f (accepted .parts) (rw (accepted .counted) at h) d

@@ -13,7 +13,7 @@ use Rattle.file_shape.specs.Parts.{Parts}
 use Rattle.file_shape.specs.Places.{placeBefore, place-is, place-first, place-next, record-there}
 use Rattle.file_reader.specs.File.{stepAt}
 
--- n records from place p on
+-- The steps in n records from place p on.
 unfoldable pub stepsFrom : List ℕ → ℕ → ℕ → List Step
 stepsFrom l p zero = []
 stepsFrom l p (suc n) = stepIn l p ∷ stepsFrom l (p + 16) n
@@ -42,7 +42,7 @@ from-at l p (suc n) (suc k) d h =
 
 -- ---- the running place
 module _ (l : List ℕ) where
-  -- the steps from the k-th on
+  -- The steps from step k on.
   abbrev pub stepsLeft : ℕ → List Step
   stepsLeft k = stepsFrom l (placeBefore l k) (countOf l - k)
 
@@ -57,12 +57,12 @@ module _ (l : List ℕ) where
   left-last k h = rw (left-none (countOf l) k h)
 
   module _ (place k : ℕ) (e : place ≡ placeBefore l k) (p : Parts l) (h : k < countOf l) where
-    -- what is read there is the record
+    -- The record lies within the file, so `stepAt` reads it.
     pub step-there : stepAt l place ≡ stepIn l place
     unfolding stepAt
     step-there = rw (le-leb _ _ (record-there l place k e p (countOf l) refl h))
 
-    -- and it is the next step
+    -- The step read is the first of those left.
     pub left-next : stepsLeft k ≡ stepAt l place ∷ stepsLeft (k + 1)
     unfolding stepsFrom
     left-next = rw (left-more (countOf l) k h, ← e, ← place-next l place k e, step-there)

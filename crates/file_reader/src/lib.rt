@@ -1,11 +1,11 @@
-// The reader of run files: a note, the setup, the steps and a trailer (01, "Frame, run file and listing").
+// Reads run files: a note, the setup, the steps and a trailer (01, "Frame, run file and listing").
 ghost use mathlib.Core.Path.{_≡_};
 ghost use Rattle.file_reader.specs.File.{noContents, contentsOf, noteOf, stepAt};
 use protocol::setup::Setup;
 use protocol::step::Step;
 
-// What a run file holds: the setup, how many steps, and where their records begin. `refusal` is 9 for a file that is not shaped as 01 says, and 0
-// for one that is; the other fields of a refused file are 0.
+// The contents of a run file: its setup, the number of steps, and where their records begin. `refusal` is 0, or 9 for a file without the shape that 01
+// requires; the other fields of a refused file are 0.
 pub struct Contents {
     pub refusal: u8,
     pub setup: Setup,
@@ -24,7 +24,7 @@ fn refused() -> Contents
     }
 }
 
-// What a file holds, for any bytes.
+// Returns the contents of a file. Takes any bytes.
 pub fn read(file: &[u8]) -> Contents
     ensures { λ r. ⌜ r ≡ contentsOf (now (file .entry)) ⌝ }
 {
@@ -40,7 +40,7 @@ pub fn read(file: &[u8]) -> Contents
     refused()
 }
 
-// The note: the part of the file before the setup. A refused file's is the empty part at its start.
+// Returns the note, which is the part of the file before the setup; empty for a refused file.
 pub fn note(file: &[u8]) -> &[u8]
     ensures { λ r. ⌜ now r ≡ noteOf (now (file .entry)) ⌝ }
 {
@@ -51,7 +51,8 @@ pub fn note(file: &[u8]) -> &[u8]
     &file[..0]
 }
 
-// The step whose record begins at a place, which starts at `first` and goes on by 16. Where the file has no such record, a step with nothing in it.
+// Returns the step whose record begins at `place`: `first` for the first step, 16 more for each one after. Returns the step of zeros if the file has no
+// record there.
 pub fn step_at(file: &[u8], place: usize) -> Step
     ensures { λ r. ⌜ r ≡ stepAt (now (file .entry)) place ⌝ }
 {

@@ -1,4 +1,4 @@
--- What a function found, put together.
+-- Lemmas cited by the function proofs: each derives a postcondition from what the calls returned.
 use Prim.Native.Nat.{ℕ, _+_, _*_, _≤_}
 use native.Mathlib.Omega.{arith}
 use mathlib.Core.List.{List}
@@ -30,7 +30,7 @@ module _ (p : ℕ) where
       let j : p + 12 ≡ p + 4 + 4 + 4 = omega arith in
       stored-then l a r p (p + 4) _ _ e (number-stored a b r (p + 4) 4 _ _ f (number-stored b c r (p + 4 + 4) 4 _ _ (rw (← i) g) (rw (← j) h))) refl
 
-  -- there is room for the volume bytes after the others
+  -- The volume bytes fit after the first 16 bytes of the setup.
   pub volumes-fit : (v l m b : List ℕ) → 32 ≡ length v → p + 48 ≤ length l → Stored l m p b → p + 16 + length v ≤ length m
   volumes-fit v l m b e h a = omega (arith, e, h, a .long)
 

@@ -1,4 +1,4 @@
--- What each way through a function, or a loop's turn, found, put together.
+-- Lemmas cited by the function proofs: each derives a postcondition or a loop invariant from the facts of one path or iteration.
 use Prim.Native.Nat.{ℕ, zero, suc, _+_, _≤_, _<_}
 use native.Mathlib.Numerals.{add-one}
 use native.Mathlib.Omega.{arith}
@@ -11,7 +11,7 @@ use Rattle.protocol.specs.declared.setup.Setup.{Setup}
 use Rattle.protocol.specs.declared.step.Step.{Step}
 use Rattle.file_records.specs.Records.{setupIn, stepIn}
 
--- bytes taken one after the other
+-- Reading one byte more appends it.
 bytes-more : (l : List ℕ) (p w : ℕ) → bytesAt l p (suc w) ≡ bytesAt l p w ++ (getD l (p + w) 0 ∷ [])
 unfolding bytesAt
 bytes-more l p zero =
@@ -30,7 +30,7 @@ module _ (l v : List ℕ) (p o : ℕ) where
       let i : o ≡ 32 = omega arith in
       sym (rw k at (take-length v)) ∙ (rw i at e)
 
--- the fields of a record, as the calls read them
+-- The fields of a record, assembled from what the calls returned.
 module _ (l : List ℕ) (p : ℕ) where
   pub setup-by : (a b c tv t m : ℕ) (v : List ℕ) → a ≡ getD l p 0 → b ≡ getD l (p + 1) 0 → c ≡ getD l (p + 2) 0
       → tv ≡ numberAt l (p + 4) 4 → t ≡ numberAt l (p + 8) 4 → m ≡ numberAt l (p + 12) 4 → v ≡ bytesAt l (p + 16) 32

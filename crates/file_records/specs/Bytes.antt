@@ -32,15 +32,15 @@ steps-more (x ∷ xs) y = rw (steps-more xs y) (sym (append-assoc (stepBytes x) 
 unfoldable pub trailerBytes : ℕ → List ℕ
 trailerBytes n = bytesOf 4 n ++ bytesOf 4 (56 + 16 * n)
 
--- the file
+-- The whole file.
 unfoldable pub fileBytes : List ℕ → Setup → List Step → List ℕ
 fileBytes note s xs = note ++ (setupBytes s ++ (stepsBytes xs ++ trailerBytes (length xs)))
 
--- how long it is, with a note of n bytes and this many steps
+-- The file's length, with a note of n bytes and `count` steps.
 abbrev pub fileLength : ℕ → ℕ → ℕ
 fileLength n count = n + (56 + 16 * count)
 
--- ---- how long its parts are
+-- ---- lengths of the parts
 pub length-front : (s : Setup) → length (setupFront s) ≡ 16
 unfolding setupFront bytesOf
 length-front s = refl

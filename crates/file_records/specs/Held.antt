@@ -1,4 +1,4 @@
--- Steps by value: which they are, and how a loop that fills the items place by place comes to them.
+-- The steps in a list by value, and the invariant of a loop that fills its items one by one.
 use Prim.Native.Nat.{ℕ, _+_, _<_, _≤_}
 use native.Mathlib.Numerals.{add-one}
 use native.Mathlib.Omega.{arith}
@@ -15,26 +15,26 @@ use Rattle.protocol.specs.declared.step.Step.{Step}
 use Rattle.file_records.specs.Records.{noStep}
 use Rattle.file_records.specs.declared.list.Steps.{Steps}
 
--- the item at a place
+-- Item k.
 abbrev pub itemOf : Steps → ℕ → Step
 itemOf x k = getD (x .items) k noStep
 
--- the first n items
+-- The first n items.
 abbrev pub firstOf : Steps → ℕ → List Step
 firstOf x n = tabulate (itemOf x) 0 n
 
--- the steps
+-- The steps of the list: its first `len` items.
 unfoldable pub held : Steps → List Step
 held x = firstOf x (x .len)
 
--- so many with nothing in them
+-- A list of length n with all items zero.
 abbrev pub blank : ℕ → Steps
 blank n = record { items = replicate 4000 noStep; len = n }
 
 pub blank-by : (x : Step) (n : ℕ) → x ≡ noStep → (let r : Steps = record { items = replicate 4000 x; len = n } in r ≡ blank n)
 blank-by x n e = rw e
 
--- f 0, f 1, .. : n of them, and nothing after
+-- Item k of a list of f 0, f 1, ...: f k below n, and the step of zeros from n on.
 unfoldable pub filled : (ℕ → Step) → ℕ → ℕ → Step
 filled f n k = cond (ltb k n) (f k) noStep
 
@@ -77,7 +77,7 @@ module _ (f : ℕ → Step) where
   held-by n h =
       tabulate-same f (itemOf (stepsBy f n)) 0 n (λ j _ b. tabulate-at (filled f n) 4000 j noStep (omega (arith, b)) ∙ filled-below n j (omega (arith, b)))
 
--- ---- a loop that fills k of n items, of steps with nothing in them at first
+-- ---- a loop that has filled k of n items, which all were zero at first
 pub record Filling (f : ℕ → Step) (n : ℕ) (x : Steps) (k : ℕ) : Type 0 where
   pub some : k ≤ n
   pub is : x ≡ record { items = itemsOf f k; len = n }
@@ -95,7 +95,7 @@ module _ (f : ℕ → Step) (n : ℕ) (x : Steps) where
       let i : k ≡ n = omega (arith, d .some) in
       d .is ∙ rw i
 
--- ---- what a loop over the steps goes by
+-- ---- facts for a loop over the steps
 module _ (x : Steps) where
   pub length-held : length (held x) ≡ x .len
   unfolding held

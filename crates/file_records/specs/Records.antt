@@ -1,4 +1,4 @@
--- 01, "Frame, run file and listing": what a setup and a step are in a run file's bytes.
+-- 01, "Frame, run file and listing": the setup and the steps in a run file's bytes.
 use Prim.Native.Nat.{ℕ, _+_}
 use mathlib.Core.List.{List}
 use lib.ListN.{getD, replicate}
@@ -29,10 +29,10 @@ stepIn l p = record {
   value = numberAt l (p + 8) 8;
 }
 
--- a setup with nothing in it, which is out of range
+-- The setup of zeros, which is out of range.
 abbrev pub noSetup : Setup
 noSetup = record { clients = 0; volumes = 0; objects = 0; tv = 0; t = 0; m = 0; volume = replicate 32 0 }
 
--- a step with nothing in it
+-- The step of zeros, used where there is no step.
 abbrev pub noStep : Step
 noStep = record { kind = 0; client = 0; object = 0; place = 0; clock = 0; value = 0 }

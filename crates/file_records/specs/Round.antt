@@ -1,4 +1,4 @@
--- Records written and read back, and read and written again.
+-- Writing records and reading them are inverse to each other.
 use Prim.Native.Nat.{ℕ, zero, suc, _+_, _*_, _<_, _≤_}
 use native.Mathlib.Nat.{add-zero}
 use native.Mathlib.Omega.{arith}
@@ -15,12 +15,12 @@ use Rattle.protocol.specs.Ranges.{ranges}
 use Rattle.file_records.specs.Records.{setupIn, stepIn}
 use Rattle.file_records.specs.Bytes.{setupFront, setupBytes, stepBytes, trailerBytes}
 
--- clock and value have numbers of their width, as in every step of a program
+-- Clock and value fit their widths, as in every step that a program can build.
 pub record Widths (x : Step) : Type 0 where
   pub clock : x .clock < limit 4
   pub value : x .value < limit 8
 
--- ---- a record at a place is the one at the start of what is left from there on
+-- ---- the record at place p is the record at the start of the bytes from p on
 module _ (l : List ℕ) (p : ℕ) where
   pub bytes-there : (q w : ℕ) → bytesAt l (p + q) w ≡ bytesAt (drop p l) q w
   unfolding bytesAt
@@ -45,7 +45,7 @@ module _ (l : List ℕ) (p : ℕ) where
   pub bytes-left : Bytes l → Bytes (drop p l)
   bytes-left b i = rw (getD-drop p l i 0) (b (p + i))
 
--- ---- written and read back, whatever follows
+-- ---- written, then read back, with any bytes after it
 bytes-whole : (v b : List ℕ) → bytesAt (v ++ b) 0 (length v) ≡ v
 unfolding bytesAt
 bytes-whole [] b = refl
@@ -66,7 +66,7 @@ pub trailer-back : (n : ℕ) → n ≤ 4000 → (numberAt (trailerBytes n) 0 4 �
 unfolding trailerBytes littleEndian bytesOf bytesAt limit
 trailer-back n h = (read-back 4 n (omega arith), read-back 4 (56 + 16 * n) (omega arith))
 
--- ---- read and written again, with what follows
+-- ---- read, then written again, with the same bytes after it
 module _ (l : List ℕ) (b : Bytes l) where
   pub step-again : 16 ≤ length l → stepBytes (stepIn l 0) ++ drop 16 l ≡ l
   unfolding stepBytes stepIn

@@ -1,5 +1,5 @@
-// The records of a run file as bytes of a lent output: a setup, a step, the trailer. Each function writes at a place where callers see to it that there is
-// room, and gives the place after.
+// Writes the records of a run file: a setup, a step, the trailer. Each public function writes at the offset `at`, where the caller has checked that
+// there is room, and returns the offset after the record.
 ghost use Prim.Native.Nat.{_+_, _≤_};
 ghost use mathlib.Core.Bool.{true};
 ghost use mathlib.Core.Path.{_≡_};
@@ -12,7 +12,7 @@ ghost use Rattle.file_records.specs.Round.{Widths};
 use protocol::setup::Setup;
 use protocol::step::Step;
 
-// The counts and durations of a setup in range: its counts are bytes.
+// Writes the counts and durations. The counts of a setup in range fit into bytes.
 fn write_front(out: &mut [u8], at: usize, setup: Setup)
     requires { ⌜ at + 16 ≤ length (now out) ⌝ }
     requires { ⌜ inRange setup ≡ true ⌝ }
@@ -31,7 +31,7 @@ fn write_front(out: &mut [u8], at: usize, setup: Setup)
     bytes_layout::write_u32(out, at + 12, setup.m);
 }
 
-// The last two clauses are for callers, who do not see that a setup has 32 volume bytes.
+// Writes a setup's 48 bytes. The last two clauses are for callers, which cannot see that a setup has 32 volume bytes.
 pub fn write_setup(out: &mut [u8], at: usize, setup: Setup) -> usize
     requires { ⌜ at + 48 ≤ length (now out) ⌝ }
     requires { ⌜ inRange setup ≡ true ⌝ }
@@ -44,7 +44,7 @@ pub fn write_setup(out: &mut [u8], at: usize, setup: Setup) -> usize
     bytes_layout::output::write_bytes(out, at + 16, &volume)
 }
 
-// The second clause is for callers too: the numbers of a step have their width.
+// Writes a step's 16 bytes. The second clause tells callers that the numbers of a step fit their widths.
 pub fn write_step(out: &mut [u8], at: usize, step: Step) -> usize
     requires { ⌜ at + 16 ≤ length (now out) ⌝ }
     ensures written { λ r. ⌜ Written (now (out .entry)) (now (out .exit)) at (stepBytes step) r ⌝ }
@@ -56,6 +56,7 @@ pub fn write_step(out: &mut [u8], at: usize, step: Step) -> usize
     at + 16
 }
 
+// Writes the step count and the distance from the file's end back to the setup.
 pub fn write_trailer(out: &mut [u8], at: usize, count: u32) -> usize
     requires { ⌜ at + 8 ≤ length (now out) ⌝ }
     requires { ⌜ count ≤ 4000 ⌝ }

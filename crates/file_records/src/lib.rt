@@ -1,4 +1,4 @@
-// The setup and the steps of a run file: what stands in their bytes, the bytes of each, and steps by value.
+// Reads the setup and the steps of a run file from their bytes, writes them (`bytes`), and holds steps by value (`list`).
 pub mod bytes;
 pub mod list;
 
@@ -16,6 +16,7 @@ fn wide(byte: u8) -> u32
     byte as u32
 }
 
+// Returns the 32 volume bytes that begin at `at`.
 fn volumes_in(file: &[u8], at: usize) -> [u8; 32]
     requires { ⌜ at + 32 ≤ length (now file) ⌝ }
     ensures { λ r. ⌜ r ≡ bytesAt (now (file .entry)) at 32 ⌝ }
@@ -29,6 +30,7 @@ fn volumes_in(file: &[u8], at: usize) -> [u8; 32]
     volumes
 }
 
+// Returns the setup whose 48 bytes begin at `at`. Callers check the byte after the counts, which must be 0.
 pub fn setup_in(file: &[u8], at: usize) -> Setup
     requires { ⌜ at + 48 ≤ length (now file) ⌝ }
     ensures { λ r. ⌜ r ≡ setupIn (now (file .entry)) at ⌝ }
@@ -44,6 +46,7 @@ pub fn setup_in(file: &[u8], at: usize) -> Setup
     }
 }
 
+// Returns the step whose 16 bytes begin at `at`.
 pub fn step_in(file: &[u8], at: usize) -> Step
     requires { ⌜ at + 16 ≤ length (now file) ⌝ }
     ensures { λ r. ⌜ r ≡ stepIn (now (file .entry)) at ⌝ }
@@ -58,6 +61,7 @@ pub fn step_in(file: &[u8], at: usize) -> Step
     }
 }
 
+// Returns the setup of zeros, which is out of range.
 pub fn no_setup() -> Setup
     ensures { λ r. ⌜ r ≡ noSetup ⌝ }
 {
@@ -73,6 +77,7 @@ pub fn no_setup() -> Setup
     }
 }
 
+// Returns the step of zeros, used where there is no step.
 pub fn no_step() -> Step
     ensures { λ r. ⌜ r ≡ noStep ⌝ }
 {

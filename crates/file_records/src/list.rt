@@ -1,15 +1,15 @@
-// Steps by value, as many as a run file can have.
+// A list of steps by value, with room for as many as a run file can have.
 ghost use mathlib.Core.Path.{_≡_};
 ghost use Rattle.file_records.specs.Held.{blank};
 use protocol::step::Step;
 
-// The first `len` of the items. A length above 4,000 is one that no run file has: the writer refuses it, and no item is looked up by it.
+// The list is the first `len` items. No run file has more than 4,000 steps: the writer refuses a larger `len` before it looks up an item.
 pub struct Steps {
     pub items: [Step; 4000],
     pub len: u32,
 }
 
-// So many steps with nothing in them.
+// Returns a list of length `len` with all items zero.
 pub fn blank(len: u32) -> Steps
     ensures { λ r. ⌜ r ≡ blank len ⌝ }
 {

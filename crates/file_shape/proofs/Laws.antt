@@ -1,4 +1,4 @@
--- What each way through a function, or a loop's turn, found, put together.
+-- Lemmas cited by the function proofs: each derives a postcondition or a loop invariant from the facts of one path or iteration.
 use Prim.Native.Nat.{ℕ, _+_, _≤_, _<_}
 use native.Mathlib.Omega.{arith}
 use mathlib.Core.Bool.{Bool, true, false, not, _&&_, _||_}
@@ -17,7 +17,7 @@ use Rattle.file_shape.specs.Shape.{countOf, distanceOf, setupPlace, firs
 use Rattle.file_shape.specs.Parts.{Parts, parts}
 use Rattle.file_shape.specs.Places.{placeBefore, place-is}
 
--- which fields the step uses, as the calls gave it
+-- The test of a step, assembled from what the calls returned.
 pub fits-by : (x : Step) (client object place clock value k : Bool) → client ≡ usesClient x → object ≡ usesObject x → place ≡ usesPlace x → clock ≡ isClock x
     → value ≡ isWrite x → k ≡ known x
     → (not k
@@ -29,8 +29,8 @@ pub fits-by : (x : Step) (client object place clock value k : Bool) → client �
 unfolding stepFits
 fits-by x client object place clock value k e f g h i j = rw (e, f, g, h, i, j)
 
--- ---- the records one after the other
--- all before record k were asked about
+-- ---- the loop over the records
+-- `ok` says whether all records before k fit.
 abbrev pub Asked : List ℕ → Bool → ℕ → Type 0
 Asked l ok k = Scanning (stepFitsAt l (firstPlace l)) (countOf l) ok k
 
@@ -67,7 +67,7 @@ module _ (l : List ℕ) where
   unfolding wellFormed
   not-measured m e h = rw (← e, h)
 
-  -- p is the setup's place, and so on, as the calls gave them
+  -- The test of the contents, assembled from what the calls returned.
   pub contents-by : (p : ℕ) (s : Setup) (a b : Bool) → p ≡ setupPlace l → s ≡ setupIn l p → a ≡ inRange s → b ≡ stepsFit l (firstPlace l) (countOf l)
       → (eqb (getD l (p + 3) 0) 0 && a && b) ≡ contentsFit l
   unfolding contentsFit

@@ -1,4 +1,4 @@
--- How long the parts of a run file are, and that they end where it does.
+-- The lengths of a run file's parts, which add up to the file's length.
 use Prim.Native.Nat.{ℕ, _+_, _*_, _≤_}
 use native.Mathlib.Omega.{arith}
 use mathlib.Core.Bool.{true, _&&_}
@@ -12,7 +12,7 @@ use Rattle.protocol.specs.Setup.{between, inRange}
 use Rattle.file_records.specs.Records.{setupIn}
 use Rattle.file_shape.specs.Shape.{countOf, distanceOf, setupPlace, firstPlace, reserved, stepsFit, trailerFits, measured, contentsFit, wellFormed}
 
--- what the test of a file's measure says
+-- What holds of a file that is `measured`.
 pub record Parts (l : List ℕ) : Type 0 where
   pub long : 56 ≤ length l
   pub short : length l ≤ 65536
@@ -32,7 +32,7 @@ parts l e =
     let g = and-true (leb c 4000) (eqb d (56 + 16 * c)) (f .0) in
     record { long = leb-true _ _ (b .0); short = leb-true _ _ (b .1); few = leb-true _ _ (g .0); right = eqb-true _ _ (g .1); room = leb-true _ _ (f .1) }
 
--- the steps and the trailer end where the file does
+-- The trailer follows the steps and ends the file.
 pub whole : (l : List ℕ) → Parts l → firstPlace l + 16 * countOf l + 8 ≡ length l
 whole l p = omega arith
 
@@ -40,7 +40,7 @@ pub formed-parts : (l : List ℕ) → wellFormed l ≡ true → Parts l
 unfolding wellFormed
 formed-parts l e = parts l (and-true (measured l) (contentsFit l) e .0)
 
--- its setup is in range, after counts that a 0 follows
+-- The byte after the setup's counts is 0, and the setup is in range.
 formed-setup : (l : List ℕ) → wellFormed l ≡ true → (eqb (reserved l (setupPlace l)) 0 ≡ true) × (inRange (setupIn l (setupPlace l)) ≡ true)
 unfolding wellFormed contentsFit
 formed-setup l e =

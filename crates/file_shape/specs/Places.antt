@@ -1,4 +1,4 @@
--- 02, A2: the running place of whoever goes through the records of a run file's steps.
+-- 02, A2: the running place of a loop over the step records of a run file.
 use Prim.Native.Nat.{ℕ, zero, suc, _+_, _-_, _*_, _<_, _≤_}
 use native.Mathlib.Numerals.{add-one}
 use native.Mathlib.Omega.{arith}
@@ -8,12 +8,12 @@ use lib.ListN.{length}
 use Rattle.file_shape.specs.Shape.{countOf, setupPlace, firstPlace}
 use Rattle.file_shape.specs.Parts.{Parts, whole}
 
--- where it stands before record k, counted from 0: "keep a running place and add 16 after each"
+-- The running place before record k, counted from 0: "keep a running place and add 16 after each".
 unfoldable pub placeBefore : List ℕ → ℕ → ℕ
 placeBefore l zero = firstPlace l
 placeBefore l (suc k) = placeBefore l k + 16
 
--- where the trailer begins
+-- Where the trailer begins.
 abbrev pub trailerPlace : List ℕ → ℕ
 trailerPlace l = length l - 8
 
@@ -24,11 +24,11 @@ module _ (l : List ℕ) where
   place-is zero = omega arith
   place-is (suc k) = omega (arith, place-is k)
 
-  -- after the last record it is the trailer's
+  -- After the last record it is where the trailer begins.
   pub place-last : Parts l → placeBefore l (countOf l) ≡ trailerPlace l
   place-last p = omega (arith, place-is (countOf l), whole l p)
 
-  -- ---- what a loop cites: where its place starts, where it is a record later, that the record is in the file, and where the place ends
+  -- ---- facts for a loop: where its place starts, where it is one record later, that the record lies within the file, and where the place ends
   pub place-first : placeBefore l 0 ≡ firstPlace l
   unfolding placeBefore
   place-first = refl

@@ -1,4 +1,4 @@
--- 01, "Frame, run file and listing": where the parts of a run file stand, and which files are shaped so.
+-- 01, "Frame, run file and listing": where the parts of a run file are, and which files are well formed.
 use Prim.Native.Nat.{ℕ, _+_, _-_, _*_}
 use mathlib.Core.Bool.{Bool, not, _&&_, _||_}
 use mathlib.Core.List.{List}
@@ -18,7 +18,7 @@ countOf l = numberAt l (length l - 8) 4
 abbrev pub distanceOf : List ℕ → ℕ
 distanceOf l = numberAt l (length l - 4) 4
 
--- where the setup begins, and where record k of the steps does
+-- Where the setup begins, where the first step record does, and where record k does.
 abbrev pub setupPlace : List ℕ → ℕ
 setupPlace l = length l - distanceOf l
 
@@ -28,7 +28,7 @@ firstPlace l = setupPlace l + 48
 abbrev pub placeOf : ℕ → ℕ → ℕ
 placeOf first k = first + 16 * k
 
--- the 0 after a setup's counts
+-- The byte after a setup's counts, which must be 0.
 abbrev pub reserved : List ℕ → ℕ → ℕ
 reserved l p = getD l (p + 3) 0
 
@@ -48,15 +48,15 @@ stepFitsAt l first k = stepFits (stepIn l (placeOf first k))
 abbrev pub stepsFit : List ℕ → ℕ → ℕ → Bool
 stepsFit l first n = allFrom (stepFitsAt l first) 0 n
 
--- "up to 4,000 steps"; "the distance .. 56 + 16 × count"; there is room for it
+-- "up to 4,000 steps"; "the distance .. 56 + 16 × count"; and the distance is within the file.
 abbrev pub trailerFits : ℕ → ℕ → ℕ → Bool
 trailerFits n count distance = leb count 4000 && eqb distance (56 + 16 * count) && leb distance n
 
--- "A run file, at most 65,536 bytes": setup and trailer are there, and the trailer is right
+-- "A run file, at most 65,536 bytes": it has room for a setup and a trailer, and the trailer fits.
 unfoldable pub measured : List ℕ → Bool
 measured l = between 56 65536 (length l) && trailerFits (length l) (countOf l) (distanceOf l)
 
--- the 0 after the counts, the setup and the steps
+-- The byte after the counts is 0, the setup is in range, and all steps fit.
 unfoldable pub contentsFit : List ℕ → Bool
 contentsFit l = eqb (reserved l (setupPlace l)) 0 && inRange (setupIn l (setupPlace l)) && stepsFit l (firstPlace l) (countOf l)
 

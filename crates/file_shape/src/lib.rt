@@ -1,11 +1,11 @@
-// Where the parts of a run file stand, and which files are shaped as 01 says.
+// Finds the parts of a run file, and tests whether a file has the shape that 01 requires.
 
 ghost use mathlib.Core.Path.{_≡_};
 ghost use Rattle.file_shape.specs.Shape.{countOf, setupPlace, firstPlace, stepFits, stepsFit, trailerFits, measured, contentsFit, wellFormed};
 ghost use Rattle.file_shape.specs.Parts.{Parts};
 use protocol::step::Step;
 
-// A field that the step's kind does not use is 0; an unknown kind is asked nothing.
+// Returns whether every field that the step's kind does not use is 0. A step of an unknown kind always fits.
 pub fn step_fits(step: Step) -> bool
     ensures { λ r. ⌜ r ≡ stepFits step ⌝ }
 {
@@ -17,13 +17,14 @@ pub fn step_fits(step: Step) -> bool
     !known_kinds::known(step) | (client & object & place & clock & value)
 }
 
-// The trailer's numbers agree with each other and with a file of n bytes.
+// Returns whether the trailer's numbers agree with each other and with a file of n bytes.
 fn trailer_fits(n: usize, count: u32, distance: u32) -> bool
     ensures { λ r. ⌜ r ≡ trailerFits n count distance ⌝ }
 {
     (count <= 4000) & (distance as u64 == 56 + 16 * (count as u64)) & (distance as usize <= n)
 }
 
+// Returns whether the file's length is allowed and agrees with its trailer.
 fn measured(file: &[u8]) -> bool
     ensures { λ r. ⌜ r ≡ measured (now (file .entry)) ⌝ }
 {
@@ -41,6 +42,7 @@ fn measured(file: &[u8]) -> bool
     )
 }
 
+// Returns the number of steps that the trailer gives.
 pub fn count_of(file: &[u8]) -> u32
     requires { ⌜ Parts (now file) ⌝ }
     ensures { λ r. ⌜ r ≡ countOf (now (file .entry)) ⌝ }
@@ -48,7 +50,7 @@ pub fn count_of(file: &[u8]) -> u32
     bytes_layout::read_u32(file, file.len() - 8)
 }
 
-// Where the setup begins: the trailer's distance back from the end.
+// Returns where the setup begins: the trailer's distance back from the file's end.
 pub fn setup_place(file: &[u8]) -> usize
     requires { ⌜ Parts (now file) ⌝ }
     ensures { λ r. ⌜ r ≡ setupPlace (now (file .entry)) ⌝ }
@@ -57,7 +59,7 @@ pub fn setup_place(file: &[u8]) -> usize
     n - bytes_layout::read_u32(file, n - 4) as usize
 }
 
-// Every record's unused fields are 0. The place goes from record to record, 16 further after each.
+// Returns whether every step record fits. The place advances by 16 after each record.
 fn steps_fit(file: &[u8]) -> bool
     requires { ⌜ Parts (now file) ⌝ }
     ensures { λ r. ⌜ r ≡ stepsFit (now (file .entry)) (firstPlace (now (file .entry))) (countOf (now (file .entry))) ⌝ }
@@ -74,7 +76,7 @@ fn steps_fit(file: &[u8]) -> bool
     ok
 }
 
-// The setup is in range, and so are its spare byte and the steps.
+// Returns whether the byte after the counts is 0, the setup is in range and every step record fits.
 fn contents_fit(file: &[u8]) -> bool
     requires { ⌜ Parts (now file) ⌝ }
     ensures { λ r. ⌜ r ≡ contentsFit (now (file .entry)) ⌝ }
@@ -84,6 +86,7 @@ fn contents_fit(file: &[u8]) -> bool
     head & steps_fit(file)
 }
 
+// Returns whether the bytes are a run file with its setup in range. Takes any bytes.
 pub fn well_formed(file: &[u8]) -> bool
     ensures { λ r. ⌜ r ≡ wellFormed (now (file .entry)) ⌝ }
 {

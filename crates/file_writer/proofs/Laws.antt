@@ -1,4 +1,4 @@
--- What each way through a function, or a loop's turn, found, put together.
+-- Lemmas cited by the function proofs: each derives a postcondition or a loop invariant from the facts of one path or iteration.
 use Prim.Native.Nat.{ℕ, _+_, _*_, _<_, _≤_}
 use native.Mathlib.Omega.{arith}
 use mathlib.Core.Bool.{Bool, true, false, _&&_}
@@ -23,7 +23,7 @@ use Rattle.file_records.specs.Held.{itemOf, firstOf, held, held-at, length-held
 use Rattle.file_writer.specs.File.{fitsAt, allFit, sizesFit, fileFits, writeRefusal, fitting}
 use Rattle.file_writer.specs.ReadBack.{ReadAs, not-refused}
 
--- ---- the steps asked about one after the other
+-- ---- the loop that tests the steps
 module _ (x : Steps) (k : ℕ) (ok : Bool) (a : Scanning (fitsAt (held x)) (x .len) ok k) where
   pub fit-again : (r : Bool) → k < x .len → r ≡ stepFits (itemOf x k) → Scanning (fitsAt (held x)) (x .len) (ok && r) (k + 1)
   fit-again r h e = (omega arith, all-by (fitsAt (held x)) (x .len) k ok r _ h (e ∙ ap stepFits (sym (held-at x k h))) (a .1))
@@ -32,12 +32,12 @@ module _ (x : Steps) (k : ℕ) (ok : Bool) (a : Scanning (fitsAt (held x)) (x .l
   unfolding allFit
   fit-end h = rw (length-held x) (all-end (fitsAt (held x)) (x .len) k ok _ h (a .1))
 
--- ---- and written
+-- ---- the loop that writes the steps
 pub steps-none : (x : Steps) (out : List ℕ) (at : ℕ) → Written out out at (stepsBytes (firstOf x 0)) at
 unfolding stepsBytes tabulate
 steps-none x out at = record { next = omega arith; bytes = record { stored = refl; long = refl } }
 
--- each has numbers of their width
+-- The numbers of each step written so far fit their widths.
 pub widths-none : (x : Steps) → All Widths (firstOf x 0)
 unfolding All tabulate
 widths-none x = tt
@@ -65,7 +65,7 @@ module _ (x : Steps) (before out : List ℕ) (at place k : ℕ) (w : Written bef
       let e : k ≡ x .len = omega arith in
       rw (← first-all x, ← e) w
 
--- ---- whether there is such a file
+-- ---- whether the file fits
 module _ (n : ℕ) (x : Steps) (room : ℕ) where
   pub too-many : 4000 < x .len → false ≡ fileFits n x room
   unfolding fileFits sizesFit
@@ -83,7 +83,7 @@ module _ (n : ℕ) (x : Steps) (room : ℕ) where
   unfolding fileFits sizesFit
   by-steps r g h i e = rw (le-leb _ _ g, le-leb _ _ h, le-leb _ _ i) e
 
--- ---- the parts of a file that fits, one after the other
+-- ---- writing the parts of a file that fits, one after the other
 module _ (note out a : List ℕ) (s : Setup) (x : Steps) (at : ℕ) (e : fileFits (length note) x (length out) ≡ true) where
   pub few-steps : x .len ≤ 4000
   few-steps = fitting _ x _ e .few
@@ -110,7 +110,7 @@ module _ (note out a : List ℕ) (s : Setup) (x : Steps) (at : ℕ) (e : fileFit
             rw (length-held x)
             (written-then out a d 0 at last _ _ u (written-then a b d at first last _ _ v (written-then b c d first end last _ _ w t)))
 
--- ---- what the call answers
+-- ---- the result of the call
 module _ (note out : List ℕ) (s : Setup) (x : Steps) (r : Bool) (e : r ≡ inRange s) where
   abbrev Does : List ℕ → Report → Type 0
   Does after a = Reports (writeRefusal (length note) s x (length out)) (fileBytes note s (held x)) out after a

@@ -1,4 +1,4 @@
--- 02, A5: what the writer of run files asks before it writes.
+-- 02, A5: what the run file writer checks before it writes.
 use Prim.Native.Nat.{ℕ, _≤_}
 use mathlib.Core.Bool.{Bool, true, _&&_}
 use mathlib.Core.List.{List}
@@ -18,12 +18,12 @@ use Rattle.file_records.specs.Bytes.{fileLength}
 use Rattle.file_records.specs.declared.list.Steps.{Steps}
 use Rattle.file_records.specs.Held.{held}
 
--- "10 when more than 4,000 steps are wanted, .. the file would pass 65,536 bytes, or the output is too short": none of it, for a note of n bytes, so many
--- steps and an output of so many bytes
+-- "10 when more than 4,000 steps are wanted, .. the file would pass 65,536 bytes, or the output is too short": true if none of this holds, for a note
+-- of n bytes, `count` steps and an output of `room` bytes.
 unfoldable pub sizesFit : ℕ → ℕ → ℕ → Bool
 sizesFit n count room = leb count 4000 && leb (fileLength n count) 65536 && leb (fileLength n count) room
 
--- "a step of a known kind has an unused field not 0": none of these has
+-- "a step of a known kind has an unused field not 0": true if step k has none.
 abbrev pub fitsAt : List Step → ℕ → Bool
 fitsAt xs k = stepFits (getD xs k noStep)
 
@@ -33,11 +33,11 @@ allFit xs = allFrom (fitsAt xs) 0 (length xs)
 unfoldable pub fileFits : ℕ → Steps → ℕ → Bool
 fileFits n x room = sizesFit n (x .len) room && allFit (held x)
 
--- the refusal, 0 for none: "after 01's setup question", 7
+-- The refusal, or 0: 7 for a setup out of range, and 10 "after 01's setup question".
 unfoldable pub writeRefusal : ℕ → Setup → Steps → ℕ → ℕ
 writeRefusal n s x room = orRefuse (inRange s) 7 (orRefuse (fileFits n x room) 10 0)
 
--- ---- a file that fits, taken apart
+-- ---- what holds of a file that fits
 pub record Fitting (n : ℕ) (x : Steps) (room : ℕ) : Type 0 where
   pub few : x .len ≤ 4000
   pub short : fileLength n (x .len) ≤ 65536

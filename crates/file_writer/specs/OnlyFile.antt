@@ -20,7 +20,7 @@ use Rattle.file_records.specs.Bytes.{setupBytes, stepBytes, stepsBytes, trailer
 use Rattle.file_records.specs.Round.{step-there, setup-there, bytes-left, step-again, setup-again, trailer-again}
 use Rattle.file_writer.specs.ReadBack.{ReadAs, trailer-there}
 
--- ---- the steps read and written again, with what follows
+-- ---- the steps, read and then written again, with the same bytes after them
 module _ (l : List ℕ) (b : Bytes l) where
   steps-again : (p n : ℕ) → p + 16 * n ≤ length l → stepsBytes (stepsFrom l p n) ++ drop (p + 16 * n) l ≡ drop p l
   unfolding stepsBytes stepsFrom
@@ -33,7 +33,7 @@ module _ (l : List ℕ) (b : Bytes l) where
       append-assoc (stepBytes (stepIn l p)) (stepsBytes (stepsFrom l (p + 16) n)) (drop (p + 16 * suc n) l)
       ∙ rw (e, steps-again (p + 16) n (omega arith), step-there l p, ← drop-drop 16 p l) (step-again (drop p l) (bytes-left l p b) r)
 
-  -- ---- a file that is shaped as 01 says
+  -- ---- a well-formed file
   module _ (e : wellFormed l ≡ true) where
     abbrev setup : Setup
     setup = setupIn l (setupPlace l)
@@ -59,7 +59,7 @@ module _ (l : List ℕ) (b : Bytes l) where
         let z : getD d 3 0 ≡ 0 = getD-drop (setupPlace l) l 3 0 ∙ formed-spare l e in
         rw (setup-there l (setupPlace l), ← drop-drop 48 (setupPlace l) l) (setup-again d (bytes-left l (setupPlace l) b) (omega (arith, length-drop (setupPlace l) l, whole l parts)) z)
 
-    -- what is read of a file is written as that file
+    -- Writing what was read from a file gives the same file.
     pub written-again : fileBytes (noteOf l) setup (stepsOf l) ≡ l
     unfolding fileBytes noteOf
     written-again = rw (e, length-steps l, steps-same, setup-same) (take-append-drop (setupPlace l) l)

@@ -25,8 +25,8 @@ use Rattle.file_records.specs.declared.list.Steps.{Steps}
 use Rattle.file_records.specs.Held.{held, length-held}
 use Rattle.file_writer.specs.File.{fitsAt, allFit, fileFits, writeRefusal, fitting}
 
--- What the writer asks of a note, a setup and steps, whatever the output. The last two are so in every program: a setup has 32 volume bytes, and a step
--- numbers of their width.
+-- What the writer requires of a note, a setup and steps, for any output. The last two hold in every program: a setup has 32 volume bytes, and the
+-- numbers of a step fit their widths.
 pub record Writable (note : List ℕ) (s : Setup) (xs : List Step) : Type 0 where
   pub in-range : inRange s ≡ true
   pub few : length xs ≤ 4000
@@ -35,7 +35,7 @@ pub record Writable (note : List ℕ) (s : Setup) (xs : List Step) : Type 0 wher
   pub volumes : length (s .volume) ≡ 32
   pub widths : All Widths xs
 
--- The reader accepts the file l, and hands back these parts
+-- The reader accepts file l and returns these parts.
 pub record ReadAs (l n : List ℕ) (s : Setup) (xs : List Step) : Type 0 where
   pub accepted : contentsOf l .refusal ≡ 0
   pub note : noteOf l ≡ n
@@ -43,7 +43,7 @@ pub record ReadAs (l n : List ℕ) (s : Setup) (xs : List Step) : Type 0 where
   pub count : contentsOf l .count ≡ length xs
   pub steps : stepsOf l ≡ xs
 
--- ---- what the trailer says, in the bytes from its place on
+-- ---- the trailer's numbers, read from the bytes where it begins
 pub trailer-there : (l : List ℕ) → 8 ≤ length l → (countOf l ≡ numberAt (drop (trailerPlace l) l) 0 4) × (distanceOf l ≡ numberAt (drop (trailerPlace l) l) 4 4)
 trailer-there l h =
     let p : ℕ = trailerPlace l in
@@ -51,7 +51,7 @@ trailer-there l h =
     let f : length l - 4 ≡ p + 4 = omega arith in
     (ap (λ (q : ℕ). numberAt l q 4) e ∙ ap littleEndian (bytes-there l p 0 4), ap (λ (q : ℕ). numberAt l q 4) f ∙ ap littleEndian (bytes-there l p 4 4))
 
--- ---- the steps, from the place of the first on, whatever follows
+-- ---- the steps, read from the first record on, with any bytes after them
 steps-back : (l : List ℕ) (p : ℕ) (xs : List Step) (b : List ℕ) → All Widths xs → drop p l ≡ stepsBytes xs ++ b → stepsFrom l p (length xs) ≡ xs
 unfolding stepsFrom stepsBytes All
 steps-back l p [] b w e = refl
@@ -61,7 +61,7 @@ steps-back l p (x ∷ xs) b w e =
     let i : stepIn l p ≡ x = step-there l p ∙ rw f (step-back x (stepsBytes xs ++ b) (w .0)) in
     rw i (ap (_∷_ x) (steps-back l (p + 16) xs b (w .1) g))
 
--- ---- a file of a note, a setup in range and steps that the writer does not refuse
+-- ---- the file of a note, a setup and steps that the writer accepts
 module _ (note : List ℕ) (s : Setup) (xs : List Step) (f : Writable note s xs) where
   abbrev file : List ℕ
   file = fileBytes note s xs
@@ -72,7 +72,7 @@ module _ (note : List ℕ) (s : Setup) (xs : List Step) (f : Writable note s xs)
   long : length file ≡ fileLength (length note) count
   long = length-file note s xs (f .volumes)
 
-  -- what stands from each place on
+  -- The bytes from each part's beginning on.
   from-setup : drop (length note) file ≡ setupBytes s ++ (stepsBytes xs ++ trailerBytes count)
   unfolding fileBytes
   from-setup = drop-at note (setupBytes s ++ (stepsBytes xs ++ trailerBytes count)) (length note) refl
@@ -86,7 +86,7 @@ module _ (note : List ℕ) (s : Setup) (xs : List Step) (f : Writable note s xs)
       let e : trailerPlace file ≡ length note + 48 + 16 * count = omega (arith, long) in
       rw e (sym (drop-drop (16 * count) (length note + 48) file) ∙ rw from-steps (drop-at (stepsBytes xs) (trailerBytes count) (16 * count) (length-steps xs)))
 
-  -- the trailer, and so where the setup is
+  -- The trailer's numbers, which give the setup's place.
   trailer : (countOf file ≡ count) × (distanceOf file ≡ 56 + 16 * count)
   trailer =
       let t = trailer-there file (omega (arith, long)) in
@@ -102,7 +102,7 @@ module _ (note : List ℕ) (s : Setup) (xs : List Step) (f : Writable note s xs)
   placed : setupPlace file ≡ length note
   placed = omega (arith, long, distant)
 
-  -- its setup and its steps
+  -- The setup and the steps are the ones written.
   setup-same : setupIn file (setupPlace file) ≡ s
   setup-same = ap (setupIn file) placed ∙ setup-there file (length note) ∙ rw from-setup (setup-back s (stepsBytes xs ++ trailerBytes count) (f .in-range) (f .volumes))
 
@@ -115,7 +115,7 @@ module _ (note : List ℕ) (s : Setup) (xs : List Step) (f : Writable note s xs)
   unfolding setupFront
   spare = ap (λ (p : ℕ). reserved file p) placed ∙ sym (getD-drop (length note) file 3 0) ∙ rw from-setup refl
 
-  -- the reader's questions
+  -- The file passes the reader's tests.
   measured-yes : measured file ≡ true
   unfolding measured
   measured-yes =
@@ -144,7 +144,7 @@ module _ (note : List ℕ) (s : Setup) (xs : List Step) (f : Writable note s xs)
   unfolding contentsOf
   reads-back = record { accepted = rw formed; note = note-same; setup = rw formed setup-same; count = rw formed counted; steps = steps-same }
 
--- the same of what a call writes that is not refused; what is asked before that holds in every program
+-- The same for a call that is not refused. The premises about the volume bytes and the widths hold in every program.
 pub not-refused : (note : List ℕ) (s : Setup) (x : Steps) (room : ℕ) → length (s .volume) ≡ 32 → All Widths (held x) → writeRefusal (length note) s x room ≡ 0
     → ReadAs (fileBytes note s (held x)) note s (held x)
 unfolding writeRefusal

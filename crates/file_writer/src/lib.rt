@@ -1,4 +1,4 @@
-// The writer of run files: from a note, a setup and steps to the bytes that the reader takes apart again (02, A5).
+// Writes run files from a note, a setup and steps. The reader returns the same parts from them (02, A5).
 ghost use Prim.Native.Nat.{_+_, _*_, _≤_};
 ghost use mathlib.Core.Bool.{true};
 ghost use mathlib.Core.Path.{_≡_};
@@ -16,7 +16,7 @@ use bytes_layout::output::Report;
 use file_records::list::Steps;
 use protocol::setup::Setup;
 
-// Whether each step of a known kind has 0 in the fields that it does not use.
+// Returns whether every step of a known kind has 0 in the fields that it does not use.
 fn all_fit(steps: Steps) -> bool
     requires { ⌜ steps .len ≤ 4000 ⌝ }
     ensures { λ r. ⌜ r ≡ allFit (held steps) ⌝ }
@@ -31,7 +31,7 @@ fn all_fit(steps: Steps) -> bool
     ok
 }
 
-// Whether these steps and a note of this length make a run file, and there is room for it.
+// Returns whether these steps and a note of this length make a run file of at most `room` bytes.
 fn file_fits(note_len: usize, steps: Steps, room: usize) -> bool
     ensures { λ r. ⌜ r ≡ fileFits «note_len» steps room ⌝ }
 {
@@ -51,6 +51,7 @@ fn file_fits(note_len: usize, steps: Steps, room: usize) -> bool
     all_fit(steps)
 }
 
+// Writes the step records from `at` on, and returns the offset after them.
 fn write_steps(out: &mut [u8], at: usize, steps: Steps) -> usize
     requires { ⌜ steps .len ≤ 4000 ⌝ }
     requires { ⌜ at + 16 * steps .len ≤ length (now out) ⌝ }
@@ -67,7 +68,7 @@ fn write_steps(out: &mut [u8], at: usize, steps: Steps) -> usize
     place
 }
 
-// A file that fits, at the start of an output that has room for it.
+// Writes a file that fits at the start of the output, and returns its length.
 fn write_file(note: &[u8], setup: Setup, steps: Steps, out: &mut [u8]) -> usize
     requires { ⌜ inRange setup ≡ true ⌝ }
     requires { ⌜ fileFits (length (now note)) steps (length (now out)) ≡ true ⌝ }
@@ -80,9 +81,9 @@ fn write_file(note: &[u8], setup: Setup, steps: Steps, out: &mut [u8]) -> usize
     file_records::bytes::write_trailer(out, end, steps.len)
 }
 
-// The run file of a note, a setup and steps, at the start of the output. All is asked before the first byte is written: a setup out of range is 7; then 10
-// for more than 4,000 steps, a step of a known kind with an unused field that is not 0, a file of more than 65,536 bytes, or an output too short for it.
-// What is written the reader takes apart into the same note, setup and steps.
+// Writes the run file of a note, a setup and steps at the start of the output. Checks everything before it writes the first byte. Refusals: 7 for a
+// setup out of range; then 10 for more than 4,000 steps, a step of a known kind with a nonzero unused field, a file of more than 65,536 bytes, or an
+// output that is too short. The reader returns the same note, setup and steps from the file.
 pub fn write(note: &[u8], setup: Setup, steps: Steps, out: &mut [u8]) -> Report
     ensures reports { λ r. ⌜ Reports (writeRefusal (length (now (note .entry))) setup steps (length (now (out .entry)))) (fileBytes (now (note .entry)) setup (held steps)) (now (out .entry)) (now (out .exit)) r ⌝ }
     ensures reads { λ r. ⌜ (reportNumber r ≡ 0 → ReadAs (fileBytes (now (note .entry)) setup (held steps)) (now (note .entry)) setup (held steps)) ⌝ }

@@ -17,6 +17,7 @@ use Rattle.frame.specs.declared.Encoded.the-variants as encoded
 abbrev pub frameOf : Message → List ℕ
 frameOf m = laid (fieldsOf m)
 
+-- Decodes fields: accepted if they are those of a message.
 unfoldable pub accepted : Fields → Decoded
 accepted f = cond (sound f) (decoded.Accepted (messageIn f)) decoded.Refused
 
@@ -24,6 +25,7 @@ accepted f = cond (sound f) (decoded.Accepted (messageIn f)) decoded.Refused
 unfoldable pub isFrame : List ℕ → Bool
 isFrame l = eqb (length l) 32 && sound (fieldsIn l)
 
+-- Decodes bytes: accepted if they are a message's frame.
 unfoldable pub messageOf : List ℕ → Decoded
 messageOf l = cond (eqb (length l) 32) (accepted (fieldsIn l)) decoded.Refused
 
@@ -34,11 +36,11 @@ fits out = leb 32 (length out)
 abbrev pub encodedIn : List ℕ → Encoded
 encodedIn out = cond (fits out) encoded.Written encoded.Refused
 
--- "Bytes past the frame keep what they held"; where the output is too short, all do
+-- "Bytes past the frame keep what they held"; an output that is too short keeps all of its bytes.
 unfoldable pub framed : Message → List ℕ → List ℕ
 framed m out = cond (fits out) (frameOf m ++ drop 32 out) out
 
--- 01's number of each answer, and where it is 8
+-- The number of each answer in 01: 0, or 8 for a refusal.
 abbrev pub decodedNumber : Decoded → ℕ
 decodedNumber (decoded.Accepted m) = 0
 decodedNumber decoded.Refused = 8
@@ -50,12 +52,12 @@ encodedNumber encoded.Refused = 8
 abbrev pub refusal : Bool → ℕ
 refusal ok = cond ok 0 8
 
--- what decoding l answers
+-- r is the result of decoding l.
 pub record Decodes (l : List ℕ) (r : Decoded) : Type 0 where
   pub message : r ≡ messageOf l
   pub number : decodedNumber r ≡ refusal (isFrame l)
 
--- what encoding m into `before` answers, and what stands there after it
+-- r is the result of encoding m into an output, whose bytes were `before` and are `after`.
 pub record Encodes (m : Message) (before after : List ℕ) (r : Encoded) : Type 0 where
   pub answer : r ≡ encodedIn before
   pub number : encodedNumber r ≡ refusal (fits before)

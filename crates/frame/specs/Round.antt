@@ -1,4 +1,4 @@
--- Each message that fits has one frame, and each frame that is accepted is that of exactly one message.
+-- Every message that fits has one frame, and every accepted frame belongs to exactly one message.
 use Prim.Native.Nat.{ℕ}
 use native.Mathlib.Omega.{arith}
 use mathlib.Core.Bool.{true}
@@ -29,7 +29,7 @@ accepted-own m =
     ap (λ (n : Message). same (fieldsOf n) (fieldsOf m)) (message-back m) ∙ same-self (fieldsOf m) in
     rw e (ap Accepted (message-back m))
 
--- What is encoded decodes to the same message.
+-- An encoded message decodes to itself.
 pub decodes : (m : Message) → Fits m → messageOf (frameOf m) ≡ Accepted m
 unfolding messageOf laid numbers bytesOf
 decodes m h = ap accepted (fields-back (fieldsOf m) h) ∙ accepted-own m
@@ -37,7 +37,7 @@ decodes m h = ap accepted (fields-back (fieldsOf m) h) ∙ accepted-own m
 never : {A : Type 0} {m : Message} → Refused ≡ Accepted m → A
 never q = let z : _≡_ {A = ℕ} 0 1 = cc in absurd (omega arith)
 
--- what is accepted has the fields that stand in its frame
+-- A message accepted from fields has exactly those fields.
 fields-same : (f : Fields) (m : Message) → accepted f ≡ Accepted m → fieldsOf m ≡ f
 unfolding accepted
 fields-same f m e = ⊎-elim yes (λ t. never (rw t at e)) (true-or-false (same (fieldsOf (messageIn f)) f))
@@ -59,11 +59,11 @@ module _ (l : List ℕ) (b : Bytes l) (m : Message) (e : messageOf l ≡ Accepte
   unfolding messageOf
   fields-there = fields-same (fieldsIn l) m (rw (eq-eqb _ _ long) at e)
 
-  -- What decodes encodes to the same bytes.
+  -- A decoded message encodes to the same bytes.
   pub encodes : frameOf m ≡ l
   encodes = ap laid fields-there ∙ laid-back l b long
 
-  -- and it is a message that fits
+  -- A decoded message fits.
   pub decoded-fits : Fits m
   unfolding fieldsIn
   decoded-fits = rw fields-there (record {
@@ -84,6 +84,6 @@ one-message m n g h e = same-message (sym (decodes m g) ∙ (ap messageOf e ∙ 
     same-message : Accepted m ≡ Accepted n → m ≡ n
     same-message q = cc
 
--- A frame that is accepted is that of exactly one message: of the one that it decodes to (`encodes`), and of no other.
+-- Only the decoded message has this frame. (`encodes` shows that it does.)
 pub no-other : (l : List ℕ) → Bytes l → (m n : Message) → messageOf l ≡ Accepted m → Fits n → frameOf n ≡ l → n ≡ m
 no-other l b m n e h g = one-message n m h (decoded-fits l b m e) (g ∙ sym (encodes l b m e))

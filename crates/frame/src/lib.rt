@@ -1,21 +1,22 @@
-// A message as a frame of 32 bytes, and back (01, "Frame, run file and listing").
+// Encodes messages as frames of 32 bytes and decodes them (01, "Frame, run file and listing").
 ghost use mathlib.Core.Path.{_≡_};
 ghost use Rattle.frame.specs.Frame.{accepted, Decodes, Encodes};
 use message_fields::Fields;
 use protocol::message::Message;
 
-// What stands in bytes: a message, or no frame of one, which is 8 (`decodedNumber`).
+// The result of decoding: the message, or a refusal with number 8 (`decodedNumber`) if the bytes are not a frame.
 pub enum Decoded {
     Accepted(Message),
     Refused,
 }
 
-// The frame is in the output; or that is shorter than a frame, which is 8 (`encodedNumber`).
+// The result of encoding: written, or refused with number 8 (`encodedNumber`) if the output is shorter than a frame.
 pub enum Encoded {
     Written,
     Refused,
 }
 
+// Returns the message with these fields; refuses fields that no message has.
 fn accept(f: Fields) -> Decoded
     ensures { λ r. ⌜ r ≡ accepted f ⌝ }
 {
@@ -25,7 +26,7 @@ fn accept(f: Fields) -> Decoded
     Decoded::Refused
 }
 
-// The message of a frame, for any bytes.
+// Returns the message of a frame. Takes any bytes, and refuses those that are not a frame.
 pub fn decode(bytes: &[u8]) -> Decoded
     ensures { λ r. ⌜ Decodes (now (bytes .entry)) r ⌝ }
 {
@@ -35,7 +36,7 @@ pub fn decode(bytes: &[u8]) -> Decoded
     Decoded::Refused
 }
 
-// Writes the message's frame to the output's first 32 bytes, if it has so many. The others keep what they held.
+// Writes the message's frame to the first 32 bytes of the output and leaves the rest. Refuses a shorter output without changing it.
 pub fn encode(message: Message, out: &mut [u8]) -> Encoded
     ensures { λ r. ⌜ Encodes message (now (out .entry)) (now (out .exit)) r ⌝ }
 {

@@ -1,4 +1,4 @@
--- 01, "Frame, run file and listing": the fields of a message at their places in a frame.
+-- 01, "Frame, run file and listing": the layout of a message's fields in a frame.
 use Prim.Native.Nat.{ℕ}
 use mathlib.Core.List.{List, _++_}
 use lib.ListN.{getD}
@@ -18,7 +18,7 @@ numbers f = bytesOf 4 (f .number) ++ (bytesOf 4 (f .«volume_expiry») ++ (bytes
 unfoldable pub laid : Fields → List ℕ
 laid f = head f ++ (numbers f ++ bytesOf 8 (f .value))
 
--- the fields that stand in a frame's bytes
+-- The fields in a frame's bytes.
 unfoldable pub fieldsIn : List ℕ → Fields
 fieldsIn l =
     row (getD l 0 0) (getD l 1 0) (getD l 2 0) (getD l 3 0) (numberAt l 4 4) (numberAt l 8 4) (numberAt l 12 4) (numberAt l 16 4) (numberAt l 20 4)

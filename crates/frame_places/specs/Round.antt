@@ -1,4 +1,4 @@
--- Fields laid out are read back, and the other way round.
+-- Laying out fields and reading them are inverse to each other.
 use Prim.Native.Nat.{ℕ, _<_}
 use native.Mathlib.Omega.{arith}
 use mathlib.Core.List.{List, append-assoc}
@@ -8,7 +8,7 @@ use Rattle.bytes_layout.specs.Number.{littleEndian, bytesOf, bytesAt, limit, By
 use Rattle.message_fields.specs.declared.Fields.{Fields}
 use Rattle.frame_places.specs.Places.{numbers, laid, fieldsIn}
 
--- Each field has a number of its width, as every message of a program does
+-- Each number fits its width, as in every message that a program can build.
 pub record FieldsFit (f : Fields) : Type 0 where
   pub client : f .client < 256
   pub object : f .object < 256
@@ -19,13 +19,13 @@ pub record FieldsFit (f : Fields) : Type 0 where
   pub object-expiry : f .«object_expiry» < limit 4
   pub value : f .value < limit 8
 
--- fields: laid out and read back
+-- Fields that are laid out and read back are the same.
 pub fields-back : (f : Fields) → FieldsFit f → fieldsIn (laid f) ≡ f
 unfolding fieldsIn laid numbers littleEndian bytesOf bytesAt
 fields-back f h =
     rw (read-back 4 (f .number) (h .number), read-back 4 (f .«volume_expiry») (h .volume-expiry), read-back 4 (f .epoch) (h .epoch), read-back 4 (f .version) (h .version), read-back 4 (f .«object_expiry») (h .object-expiry), read-back 8 (f .value) (h .value))
 
--- a frame: read and laid out again
+-- A frame that is read and laid out again has the same bytes.
 pub laid-back : (l : List ℕ) → Bytes l → length l ≡ 32 → laid (fieldsIn l) ≡ l
 unfolding laid numbers fieldsIn
 laid-back l b h =

@@ -1,4 +1,4 @@
-// The fields of a message at their places in the 32 bytes of a frame.
+// Reads and writes a message's fields in the 32 bytes of a frame.
 ghost use Prim.Native.Nat.{_≤_};
 ghost use mathlib.Core.Path.{_≡_};
 ghost use lib.ListN.{length};
@@ -6,6 +6,7 @@ ghost use Rattle.bytes_layout.specs.Number.{Stored};
 ghost use Rattle.frame_places.specs.Places.{head, numbers, laid, fieldsIn};
 use message_fields::Fields;
 
+// Returns the fields as they are, without checking that they make a message.
 pub fn read(bytes: &[u8]) -> Fields
     requires { ⌜ 32 ≤ length (now bytes) ⌝ }
     ensures { λ r. ⌜ r ≡ fieldsIn (now (bytes .entry)) ⌝ }
@@ -24,6 +25,7 @@ pub fn read(bytes: &[u8]) -> Fields
     }
 }
 
+// Writes kind, client, object and value present.
 fn write_head(out: &mut [u8], f: Fields)
     requires { ⌜ 4 ≤ length (now out) ⌝ }
     ensures { λ _. ⌜ Stored (now (out .entry)) (now (out .exit)) 0 (head f) ⌝ }
@@ -31,6 +33,7 @@ fn write_head(out: &mut [u8], f: Fields)
     bytes_layout::write_four(out, 0, f.kind, f.client, f.object, f.present);
 }
 
+// Writes the five numbers of 4 bytes.
 fn write_numbers(out: &mut [u8], f: Fields)
     requires { ⌜ 24 ≤ length (now out) ⌝ }
     ensures { λ _. ⌜ Stored (now (out .entry)) (now (out .exit)) 4 (numbers f) ⌝ }
@@ -42,6 +45,7 @@ fn write_numbers(out: &mut [u8], f: Fields)
     bytes_layout::write_u32(out, 20, f.object_expiry);
 }
 
+// Writes all ten fields to the first 32 bytes of the output.
 pub fn write(out: &mut [u8], f: Fields)
     requires { ⌜ 32 ≤ length (now out) ⌝ }
     ensures { λ _. ⌜ Stored (now (out .entry)) (now (out .exit)) 0 (laid f) ⌝ }

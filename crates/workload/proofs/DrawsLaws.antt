@@ -1,4 +1,4 @@
--- What each way through a function found, put together.
+-- Lemmas cited by the function proofs: each derives a postcondition from the facts of one path.
 use Prim.Native.Nat.{ℕ, _+_, _*_, _%_, _^_, _<_, _≤_}
 use native.Mathlib.Nat.{mod-lt}
 use native.Mathlib.Omega.{arith}
@@ -12,12 +12,12 @@ use Rattle.protocol.specs.Gate.{isClock, isWrite, usesClient, usesObject, usesP
 use Rattle.workload.specs.declared.draws.Drawn.{Drawn}
 use Rattle.workload.specs.Draws.{next, draw, fieldsDrawn, onlyUsed, totalAfter, drawnAfter}
 
--- a remainder in the sum changes nothing modulo the same number
+-- Reducing the product first does not change the sum's remainder.
 pub next-by : (s p r : ℕ) → p ≡ (1664525 * s) % 4294967296 → r ≡ (p + 1013904223) % 2 ^ 32 → r ≡ next s
 unfolding next
 next-by s p r e f = omega (arith, e, f)
 
--- which fields the step uses, and what is left of each
+-- The step with its unused fields set to 0, assembled from what the calls returned.
 module _ (x : Step) where
   pub used-by : (client object place clock value : ℕ) (a b c d e : Bool) → a ≡ usesClient x → client ≡ cond a (x .client) 0 → b ≡ usesObject x → object ≡ cond b (x .object) 0
       → c ≡ usesPlace x → place ≡ cond c (x .place) 0 → d ≡ isClock x → clock ≡ cond d (x .clock) 0 → e ≡ isWrite x → value ≡ cond e (x .value) 0
@@ -34,7 +34,7 @@ module _ (x : Step) where
     unfolding totalAfter
     total-old h = rw (← e, h)
 
--- five draws one after the other
+-- Five draws in a row.
 module _ (s a b c d e : ℕ) (f : a ≡ next s) (g : b ≡ next a) (h : c ≡ next b) (i : d ≡ next c) (j : e ≡ next d) where
   five : (a ≡ draw s 1) × ((b ≡ draw s 2) × ((c ≡ draw s 3) × ((d ≡ draw s 4) × (e ≡ draw s 5))))
   unfolding draw
@@ -47,11 +47,11 @@ module _ (s a b c d e : ℕ) (f : a ≡ next s) (g : b ≡ next a) (h : c ≡ ne
   drawn-by q total after client object place x k l m n o =
       rw (o, n, k, l, m, five .0, five .1 .0, five .1 .1 .0, five .1 .1 .1 .0, five .1 .1 .1 .1)
 
--- a remainder by a count of at most 64 is a byte
+-- A remainder modulo a count of at most 64 fits into a byte.
 pub byte-left : (n m : ℕ) → 1 ≤ m → m ≤ 64 → n % m < 256
 byte-left n m g h = omega (arith, mod-lt n {m = m} g)
 
--- the counts of a setup in range
+-- Bounds on the counts of a setup in range.
 module _ (q : Setup) (e : inRange q ≡ true) where
   pub clients-counted : (1 ≤ q .clients) × (q .clients ≤ 64)
   clients-counted = (ranges q e .clients .0, omega (arith, ranges q e .clients .1))

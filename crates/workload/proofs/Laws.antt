@@ -1,4 +1,4 @@
--- What each way through a function, or a loop's turn, found, put together.
+-- Lemmas cited by the function proofs: each derives a postcondition or a loop invariant from the facts of one path or iteration.
 use Prim.Native.Nat.{ℕ, _+_, _<_, _≤_}
 use native.Mathlib.Numerals.{add-one}
 use native.Mathlib.Omega.{arith}
@@ -23,7 +23,7 @@ use Rattle.workload.specs.declared.Workload.{Workload}
 use Rattle.workload.specs.Workload.{seedOf, totalOf, stepOf, workload, stepsRefusal, workloadOf, fileRefusal}
 use Rattle.workload.specs.Laws.{total-small, same-refusal, unrefused, refused-alike}
 
--- ---- the steps drawn one after the other: k items are filled, and seed and total are those of step k
+-- ---- the loop that draws the steps: k items are filled, and seed and total are those of step k
 pub record Drawing (q : Setup) (s n : ℕ) (x : Steps) (last total k : ℕ) : Type 0 where
   pub filling : Filling (stepOf q s) n x k
   pub seed-is : last ≡ seedOf s k
@@ -49,7 +49,7 @@ module _ (q : Setup) (s n : ℕ) (x : Steps) (last total k : ℕ) (d : Drawing q
   pub drawing-end : n ≤ k → x ≡ stepsBy (stepOf q s) n
   drawing-end h = filling-end _ n x k (d .filling) h
 
--- ---- what is asked
+-- ---- the refusal
 module _ (q : Setup) (n : ℕ) (b : Bool) (e : b ≡ inRange q) where
   pub accepted : b ≡ true → n ≤ 4000 → 0 ≡ stepsRefusal q n
   unfolding stepsRefusal
@@ -63,7 +63,7 @@ module _ (q : Setup) (n : ℕ) (b : Bool) (e : b ≡ inRange q) where
   unfolding stepsRefusal
   out-of-range h = rw (← e, h)
 
--- ---- what is answered; r is the refusal that was found
+-- ---- the result; r is the refusal
 module _ (q : Setup) (s n r : ℕ) (e : r ≡ stepsRefusal q n) where
   pub in-range-then : r ≡ 0 → inRange q ≡ true
   in-range-then h = unrefused q n (sym e ∙ h) .0

@@ -1,4 +1,4 @@
--- 02, A5: what a seed draws, and the step that five draws make.
+-- 02, A5: the numbers drawn from a seed, and the step made of five of them.
 use Prim.Native.Nat.{ℕ, zero, suc, _+_, _*_, _%_}
 use mathlib.Core.Bool.{cond}
 use Rattle.protocol.specs.declared.setup.Setup.{Setup}
@@ -10,7 +10,7 @@ use Rattle.workload.specs.declared.draws.Drawn.{Drawn}
 unfoldable pub next : ℕ → ℕ
 next s = (1664525 * s + 1013904223) % 4294967296
 
--- "Each draw is that next number": the k-th after a seed. The first is draw s 1, so the seed itself is never drawn.
+-- "Each draw is that next number": draw k from seed s. The first is `draw s 1`; the seed itself is never drawn.
 unfoldable pub draw : ℕ → ℕ → ℕ
 draw s zero = s
 draw s (suc k) = next (draw s k)
@@ -38,11 +38,11 @@ onlyUsed x = record {
   value = cond (isWrite x) (x .value) 0;
 }
 
--- the step after a seed, with this total before it
+-- The step drawn from a seed, with the clock total before it.
 abbrev pub drawnStep : Setup → ℕ → ℕ → Step
 drawnStep q s total = onlyUsed (fieldsDrawn q s total)
 
--- the total after a step
+-- The clock total after a step.
 unfoldable pub totalAfter : Step → ℕ → ℕ
 totalAfter x total = cond (isClock x) (x .clock) total
 

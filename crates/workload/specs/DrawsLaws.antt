@@ -1,4 +1,4 @@
--- How large the numbers of a drawn step can be.
+-- Bounds on the numbers of a drawn step.
 use Prim.Native.Nat.{ℕ, _+_, _≤_}
 use native.Mathlib.Omega.{arith}
 use Rattle.laws.specs.Choice.{cond-keeps}
@@ -6,7 +6,7 @@ use Rattle.protocol.specs.declared.setup.Setup.{Setup}
 use Rattle.protocol.specs.Gate.{isClock, isWrite}
 use Rattle.workload.specs.Draws.{fieldsDrawn, onlyUsed, drawnStep, totalAfter}
 
--- a clock is at most 4 past the total before it, a value at most 4, and the total grows by 4 at most
+-- The clock is at most 4 more than the total before it, the value is at most 4, and the total grows by at most 4.
 module _ (q : Setup) (s total : ℕ) where
   pub clock-near : drawnStep q s total .clock ≤ total + 4
   unfolding onlyUsed fieldsDrawn

@@ -1,4 +1,4 @@
--- What holds of every workload: no clock passes 4 times the number of its steps, each step fits into a run file, and the file is read back.
+-- What holds of every workload: its clocks are at most 4 times the number of steps, every step fits into a run file, and the file reads back the same.
 use Prim.Native.Nat.{ℕ, zero, suc, _*_, _<_, _≤_}
 use native.Mathlib.Omega.{arith}
 use mathlib.Core.Bool.{Bool, true, false, cond, not, _||_}
@@ -29,7 +29,7 @@ use Rattle.workload.specs.DrawsLaws.{clock-near, value-small, total-near
 use Rattle.workload.specs.Workload.{seedOf, totalOf, stepOf, workload, stepsRefusal, fileRefusal}
 
 module _ (q : Setup) (s : ℕ) where
-  -- ---- the clock cannot overflow: 4,000 amounts of at most 4 are far below 2,147,483,647
+  -- ---- the clock cannot overflow: the sum of 4,000 amounts of at most 4 is far below 2,147,483,647
   pub total-small : (k : ℕ) → totalOf q s k ≤ 4 * k
   unfolding totalOf
   total-small zero = omega arith
@@ -38,7 +38,7 @@ module _ (q : Setup) (s : ℕ) where
   pub clock-small : (k : ℕ) → k < 4000 → stepOf q s k .clock ≤ 16000
   clock-small k h = omega (arith, clock-near q (seedOf s k) (totalOf q s k), total-small k)
 
--- ---- a step with its unused fields left at 0 fits
+-- ---- a step with its unused fields set to 0 fits
 kept : (used : Bool) (n : ℕ) → (used || eqb (cond used n 0) 0) ≡ true
 kept true n = refl
 kept false n = refl
@@ -54,12 +54,12 @@ module _ (q : Setup) (s n : ℕ) where
   workload-fits =
       rw (length-tabulate (stepOf q s) 0 n) (all-of (fitsAt (workload q s n)) n (λ k h. ap stepFits (tabulate-at (stepOf q s) n k noStep h) ∙ used-fits _))
 
-  -- so the writer has nothing else to ask of a workload
+  -- All steps fit, so the writer refuses a workload only for its sizes or its setup.
   pub same-refusal : (noteLength room : ℕ) → n ≤ 4000 → writeRefusal noteLength q (stepsBy (stepOf q s) n) room ≡ fileRefusal noteLength q n room
   unfolding writeRefusal fileFits fileRefusal
   same-refusal noteLength room h = rw (held-by (stepOf q s) n h, workload-fits, and-yes (sizesFit noteLength n room))
 
--- ---- what is not refused, and what is
+-- ---- which workloads are refused
 module _ (q : Setup) (n : ℕ) where
   pub unrefused : stepsRefusal q n ≡ 0 → (inRange q ≡ true) × (n ≤ 4000)
   unfolding stepsRefusal
@@ -84,7 +84,7 @@ module _ (q : Setup) (n : ℕ) where
         let sizes = asked (sizesFit noteLength n room) 9 0 (asked (inRange q) 6 _ e .1) .0 in
         leb-true _ _ (and-true _ _ (and-true _ _ sizes .0) .0)
 
--- ---- the reader accepts the file of a workload, and hands back its parts
+-- ---- the reader accepts a workload's file and returns its parts
 module _ (note : List ℕ) (q : Setup) (s n room : ℕ) (v : length (q .volume) ≡ 32) (e : fileRefusal (length note) q n room ≡ 0) where
   few : n ≤ 4000
   few = few-written q n (length note) room e

@@ -13,21 +13,21 @@ use Rattle.file_writer.specs.File.{sizesFit}
 use Rattle.workload.specs.Draws.{draw, drawnStep, totalAfter}
 use Rattle.workload.specs.declared.Workload.{Workload}
 
--- the seed of step k, counted from 0: the last draw of the step before it
+-- The seed of step k, counted from 0: the last draw of the step before it.
 unfoldable pub seedOf : ℕ → ℕ → ℕ
 seedOf s zero = s
 seedOf s (suc k) = draw (seedOf s k) 5
 
--- the total before step k: "a total that starts at 0"
+-- The clock total before step k: "a total that starts at 0".
 unfoldable pub totalOf : Setup → ℕ → ℕ → ℕ
 totalOf q s zero = 0
 totalOf q s (suc k) = totalAfter (drawnStep q (seedOf s k) (totalOf q s k)) (totalOf q s k)
 
--- step k
+-- Step k of the workload.
 abbrev pub stepOf : Setup → ℕ → ℕ → Step
 stepOf q s k = drawnStep q (seedOf s k) (totalOf q s k)
 
--- the first n steps of a seed
+-- The first n steps of a seed.
 abbrev pub workload : Setup → ℕ → ℕ → List Step
 workload q s n = tabulate (stepOf q s) 0 n
 
@@ -35,11 +35,11 @@ workload q s n = tabulate (stepOf q s) 0 n
 unfoldable pub stepsRefusal : Setup → ℕ → ℕ
 stepsRefusal q n = orRefuse (inRange q) 7 (orRefuse (leb n 4000) 10 0)
 
--- the steps, or none
+-- The refusal, and the steps; a refused workload has none.
 unfoldable pub workloadOf : Setup → ℕ → ℕ → Workload
 workloadOf q s n = record { refusal = stepsRefusal q n; steps = cond (eqb (stepsRefusal q n) 0) (stepsBy (stepOf q s) n) (blank 0) }
 
--- the refusal of a workload's file, with a note of this length and an output of so many bytes: "the file would pass 65,536 bytes, or the output is too
--- short" besides. No step has an unused field that is not 0.
+-- The refusal of a workload's file, for an output of `room` bytes. It covers the file's size too: "the file would pass 65,536 bytes, or the output is
+-- too short". No drawn step has an unused field that is not 0.
 unfoldable pub fileRefusal : ℕ → Setup → ℕ → ℕ → ℕ
 fileRefusal noteLength q n room = orRefuse (inRange q) 7 (orRefuse (sizesFit noteLength n room) 10 0)

@@ -1,4 +1,4 @@
-// 02, A5: the generator of a workload. A seed draws numbers, and five of them make a step.
+// 02, A5: the generator of a workload. Draws numbers from a seed, and makes a step of every five.
 ghost use Prim.Native.Nat.{_*_, _%_, _≤_};
 ghost use mathlib.Core.Bool.{true, cond};
 ghost use mathlib.Core.Path.{_≡_};
@@ -7,14 +7,14 @@ ghost use Rattle.workload.specs.Draws.{next, onlyUsed, totalAfter, drawn
 use protocol::setup::Setup;
 use protocol::step::Step;
 
-// The product modulo 2 to the 32nd.
+// Returns the seed times the generator's factor, modulo 2 to the 32nd.
 fn product(seed: u32) -> u32
     ensures { λ r. ⌜ r ≡ (1664525 * seed) % 4294967296 ⌝ }
 {
     (1664525 * (seed as u64) % 4294967296) as u32
 }
 
-// The next number after a seed. The addition wraps on purpose: the number is kept modulo 2 to the 32nd.
+// Returns the number after a seed. The addition wraps on purpose: numbers are kept modulo 2 to the 32nd.
 pub fn next(seed: u32) -> u32
     ensures { λ r. ⌜ r ≡ next seed ⌝ }
 {
@@ -48,7 +48,7 @@ fn value_if(used: bool, value: u64) -> u64
     0
 }
 
-// A step with the fields that its kind does not use left at 0.
+// Returns the step with the fields that its kind does not use set to 0.
 fn only_used(step: Step) -> Step
     ensures { λ r. ⌜ r ≡ onlyUsed step ⌝ }
 {
@@ -62,6 +62,7 @@ fn only_used(step: Step) -> Step
     }
 }
 
+// Returns the clock total after a step.
 fn total_after(step: Step, total: u32) -> u32
     ensures { λ r. ⌜ r ≡ totalAfter step total ⌝ }
 {
@@ -71,7 +72,7 @@ fn total_after(step: Step, total: u32) -> u32
     total
 }
 
-// A draw's remainder by a count of clients, objects or places.
+// Returns the draw modulo a count of clients, objects or places.
 fn remainder(draw: u32, count: u32) -> u8
     requires { ⌜ 1 ≤ count ⌝ }
     requires { ⌜ count ≤ 64 ⌝ }
@@ -80,14 +81,14 @@ fn remainder(draw: u32, count: u32) -> u8
     (draw % count) as u8
 }
 
-// A step, the last of its draws, and the total of the clock steps up to it.
+// A drawn step, the last of its draws, which seeds the next step, and the clock total after it.
 pub struct Drawn {
     pub step: Step,
     pub seed: u32,
     pub total: u32,
 }
 
-// The next step after a seed, for a setup in range. A total of 4,000 steps is at most 16,000.
+// Draws the next step, for a setup in range. The total of 4,000 steps is at most 16,000, so adding to it cannot overflow.
 pub fn draw_step(seed: u32, setup: Setup, total: u32) -> Drawn
     requires { ⌜ inRange setup ≡ true ⌝ }
     requires { ⌜ total ≤ 16000 ⌝ }

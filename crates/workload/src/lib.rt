@@ -1,4 +1,4 @@
-// 02, A5: a workload from a seed, as steps and as a run file.
+// 02, A5: makes a workload from a seed, as steps or as a run file.
 pub mod draws;
 
 ghost use Prim.Native.Nat.{_≤_};
@@ -14,12 +14,13 @@ use bytes_layout::output::Report;
 use file_records::list::Steps;
 use protocol::setup::Setup;
 
-// The steps of a workload. `refusal` is 7 for a setup out of range, 10 for more than 4,000 steps, and 0 else; a refused workload has no steps.
+// The steps of a workload. `refusal` is 7 for a setup out of range, 10 for more than 4,000 steps, else 0; a refused workload has no steps.
 pub struct Workload {
     pub refusal: u8,
     pub steps: Steps,
 }
 
+// Returns 7 for a setup out of range, 10 for more than 4,000 steps, else 0.
 fn refusal(setup: Setup, count: u32) -> u8
     ensures { λ r. ⌜ r ≡ stepsRefusal setup count ⌝ }
 {
@@ -32,7 +33,7 @@ fn refusal(setup: Setup, count: u32) -> u8
     7
 }
 
-// So many steps of a seed, for a setup in range.
+// Returns the first `count` steps of a seed, for a setup in range.
 fn drawn_steps(seed: u32, setup: Setup, count: u32) -> Steps
     requires { ⌜ inRange setup ≡ true ⌝ }
     requires { ⌜ count ≤ 4000 ⌝ }
@@ -54,7 +55,7 @@ fn drawn_steps(seed: u32, setup: Setup, count: u32) -> Steps
     steps
 }
 
-// The steps of a seed, as many as are wanted.
+// Returns the first `count` steps of a seed, or the refusal.
 pub fn steps(seed: u32, setup: Setup, count: u32) -> Workload
     ensures { λ r. ⌜ r ≡ workloadOf setup seed count ⌝ }
 {
@@ -71,8 +72,8 @@ pub fn steps(seed: u32, setup: Setup, count: u32) -> Workload
     }
 }
 
-// Their run file, at the start of the output. 7 for a setup out of range; then 10 for more than 4,000 steps, a file of more than 65,536 bytes, or an output
-// too short for it.
+// Writes the run file of these steps at the start of the output. Refusals: 7 for a setup out of range; then 10 for more than 4,000 steps, a file of
+// more than 65,536 bytes, or an output that is too short.
 pub fn write(seed: u32, note: &[u8], setup: Setup, count: u32, out: &mut [u8]) -> Report
     ensures { λ r. ⌜ Reports (fileRefusal (length (now (note .entry))) setup count (length (now (out .entry)))) (fileBytes (now (note .entry)) setup (workload setup seed count)) (now (out .entry)) (now (out .exit)) r ⌝ }
 {

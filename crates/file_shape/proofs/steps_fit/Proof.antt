@@ -8,7 +8,7 @@ use Rattle.file_shape.proofs.Laws.{Asked, steps-again, steps-end}
 use Rattle.file_shape.proofs.steps_fit.Statement.{statement}
 use Rattle.file_shape.proofs.steps_fit.Tie as tie
 
--- the running place is the one before record k
+-- The running place is that of record k, and `ok` says whether all records before it fit.
 abbrev Inv-loop : tie.InvT-loop
 Inv-loop file count place₀ ok₀ k₀ place ok k = (place ≡ placeBefore file k) × Asked file ok k
 
