@@ -1,4 +1,4 @@
--- What each way through a call found, put together.
+-- Lemmas cited by the function proofs: each derives a postcondition from the facts of one path.
 use Prim.Native.Nat.{ℕ, _<_, _≤_}
 use mathlib.Core.Bool.{Bool, true, false, cond}
 use mathlib.Core.List.{List}

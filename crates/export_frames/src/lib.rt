@@ -1,4 +1,5 @@
-// Frames of messages whose fields are ten numbers, for callers from other languages: each call 0 or 01's number of a refusal, which changes nothing.
+// Encodes and decodes frames for callers from other languages, which have a message's fields as ten numbers. Each call returns 0 or the refusal's
+// number in 01; a refused call changes nothing.
 pub mod numbers;
 
 ghost use Rattle.export_frames.specs.Calls.{EncodesFields, DecodesFields};
@@ -6,7 +7,8 @@ ghost use Rattle.export_frames.specs.Numbers.{fieldsFrom};
 use frame::Decoded;
 use frame::Encoded;
 
-// The frame of a message whose fields these are, in the frame's order; those that its kind lacks are 0.
+// Writes the frame of the message with these fields, which are in the frame's order; those that its kind lacks must be 0. Returns 8 for fields that no
+// message has or an output that is too short.
 pub fn encode(head: &[u8; 4], numbers: &[u32; 5], value: u64, out: &mut [u8]) -> u8
     ensures { λ r. ⌜ EncodesFields (fieldsFrom (now (head .entry)) (now (numbers .entry)) value) (now (out .entry)) (now (out .exit)) r ⌝ }
 {
@@ -20,7 +22,7 @@ pub fn encode(head: &[u8; 4], numbers: &[u32; 5], value: u64, out: &mut [u8]) ->
     8
 }
 
-// The fields of a frame's message, as ten numbers in the frame's order.
+// Stores the ten fields of a frame's message, in the frame's order. Returns 8 for bytes that are not a frame or room for fewer than ten numbers.
 pub fn decode(frame: &[u8], fields: &mut [u64]) -> u8
     ensures { λ r. ⌜ DecodesFields (now (frame .entry)) (now (fields .entry)) (now (fields .exit)) r ⌝ }
 {

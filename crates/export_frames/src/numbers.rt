@@ -1,4 +1,4 @@
-// A message's fields as ten numbers in the frame's order, for callers from other languages.
+// Converts a message's fields to and from ten numbers in the frame's order, for callers from other languages.
 ghost use Prim.Native.Nat.{_≤_};
 ghost use mathlib.Core.Path.{_≡_};
 ghost use lib.ListN.{length};
@@ -6,6 +6,7 @@ ghost use lib.Seq.{sets};
 ghost use Rattle.export_frames.specs.Numbers.{numbersOf, fieldsFrom};
 use message_fields::Fields;
 
+// Stores the ten fields in the first ten numbers of the output.
 pub fn store(out: &mut [u64], f: Fields)
     requires { ⌜ 10 ≤ length (now out) ⌝ }
     ensures { λ _. ⌜ now (out .exit) ≡ sets (now (out .entry)) 0 (numbersOf f) ⌝ }
@@ -22,6 +23,7 @@ pub fn store(out: &mut [u64], f: Fields)
     out[9] = f.value;
 }
 
+// Returns the fields given by a frame's head, its five numbers and its value.
 pub fn fields_from(head: &[u8; 4], numbers: &[u32; 5], value: u64) -> Fields
     ensures { λ r. ⌜ r ≡ fieldsFrom (now (head .entry)) (now (numbers .entry)) value ⌝ }
 {

@@ -1,4 +1,4 @@
--- What each way through a function, or a loop's turn, found, put together.
+-- Lemmas cited by the function proofs: each derives a postcondition or a loop invariant from the facts of one path or iteration.
 use Prim.Native.Nat.{ℕ, _+_, _*_, _/_, _%_, _<_, _≤_}
 use native.Mathlib.Omega.{arith}
 use mathlib.Core.List.{List}
@@ -26,7 +26,7 @@ module _ (l : List ℕ) (s : Setup) where
   unfolding setupLent
   setup-right g h e = rw (eq-eqb _ _ g, eq-eqb (getD l 3 0) 0 h) e
 
--- ---- records read one after the other: k items are filled, and the place is that of record k
+-- ---- the loop that reads the records: k items are filled, and the place is that of record k
 pub record Reading (l : List ℕ) (n : ℕ) (x : Steps) (place k : ℕ) : Type 0 where
   pub filling : Filling (stepLent l) n x k
   pub there : place ≡ 16 * k
@@ -46,7 +46,7 @@ module _ (l : List ℕ) (n : ℕ) (x : Steps) where
     pub reading-end : n ≤ k → x ≡ stepsBy (stepLent l) n
     reading-end h = filling-end _ n x k (r .filling) h
 
--- ---- the records as a whole
+-- ---- all records
 module _ (l : List ℕ) (x : Steps) where
   pub not-whole : (length l % 16 ≡ 0 → ⊥) → x ≡ blank 4001 → x ≡ stepsLent l
   unfolding stepsLent

@@ -1,4 +1,4 @@
--- Bytes that are no setup are refused by 7, and bytes that are no records by 10; what is written of lent parts is read back.
+-- Bytes that are not a setup are refused with 7, and bytes that are not records with 10; a file written from lent parts reads back the same.
 use Prim.Native.Nat.{ℕ, _/_, _%_, _≤_}
 use native.Mathlib.Omega.{arith}
 use mathlib.Core.Bool.{true, false}
@@ -24,7 +24,7 @@ use Rattle.file_writer.specs.File.{sizesFit, fileFits, writeRefusal}
 use Rattle.file_writer.specs.ReadBack.{ReadAs, not-refused}
 use Rattle.export_parts.specs.Lent.{setupWhole, setupLent, stepLent, recordsWhole, stepsLent}
 
--- ---- what is refused
+-- ---- refusals
 module _ (l : List ℕ) (n room : ℕ) where
   pub setup-out : setupWhole l ≡ false → inRange (setupLent l) ≡ false
   unfolding setupLent inRange
@@ -42,7 +42,7 @@ module _ (l : List ℕ) (n room : ℕ) where
   unfolding writeRefusal
   records-refused s t e = rw (t, not-fitting e)
 
--- ---- and what is read back, of records that are bytes
+-- ---- reading back; lent records are bytes, so the numbers of their steps fit their widths
 pub volumes-lent : (l : List ℕ) → length (setupLent l .volume) ≡ 32
 unfolding setupLent setupIn bytesAt
 volumes-lent l = cond-keeps (λ (s : Setup). length (s .volume) ≡ 32) (setupWhole l) (λ _. refl) (λ _. refl)

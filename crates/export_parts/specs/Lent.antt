@@ -1,4 +1,4 @@
--- 02, A5: the setup and the steps of a run file that is to be written, as bytes that a caller lends.
+-- 02, A5: the setup and the steps of a run file to write, from bytes that a caller lends.
 use Prim.Native.Nat.{ℕ, _*_, _/_, _%_}
 use mathlib.Core.Bool.{Bool, cond, _&&_}
 use mathlib.Core.List.{List}
@@ -11,22 +11,22 @@ use Rattle.file_shape.specs.Shape.{reserved}
 use Rattle.file_records.specs.declared.list.Steps.{Steps}
 use Rattle.file_records.specs.Held.{blank, stepsBy}
 
--- 48 bytes, and the one after the counts is 0
+-- There are 48 bytes, and the byte after the counts is 0.
 abbrev pub setupWhole : List ℕ → Bool
 setupWhole l = eqb (length l) 48 && eqb (reserved l 0) 0
 
--- the setup in these bytes; else one out of range
+-- The setup in these bytes, or one out of range if they are not a setup.
 unfoldable pub setupLent : List ℕ → Setup
 setupLent l = cond (setupWhole l) (setupIn l 0) noSetup
 
--- record k of these
+-- The step in record k.
 abbrev pub stepLent : List ℕ → ℕ → Step
 stepLent l k = stepIn l (16 * k)
 
--- whole records, at most 4,000
+-- All records are whole, and there are at most 4,000.
 abbrev pub recordsWhole : List ℕ → Bool
 recordsWhole l = eqb (length l % 16) 0 && leb (length l) 64000
 
--- the steps in these records; else more than a run file can have
+-- The steps in these records, or a list longer than any run file's if they are not records.
 unfoldable pub stepsLent : List ℕ → Steps
 stepsLent l = cond (recordsWhole l) (stepsBy (stepLent l) (length l / 16)) (blank 4001)

@@ -1,5 +1,5 @@
-// The parts of a run file as a caller in another language lends them: a setup in its 48 bytes, and steps in records of 16, as they stand in a file.
-// What is no such part becomes one that the writer refuses.
+// Reads the parts of a run file that a caller in another language lends: a setup in 48 bytes, and steps in records of 16 bytes, laid out as in a file.
+// Bytes that are not such a part become one that the writer refuses.
 ghost use Prim.Native.Nat.{_*_, _≤_};
 ghost use mathlib.Core.Path.{_≡_};
 ghost use lib.ListN.{length};
@@ -8,7 +8,7 @@ ghost use Rattle.export_parts.specs.Lent.{setupLent, stepLent, stepsLent
 use file_records::list::Steps;
 use protocol::setup::Setup;
 
-// Bytes of another length, or with a byte after the counts that is not 0, are a setup out of range.
+// Returns the setup in these bytes, or one out of range if there are not 48 bytes or the byte after the counts is not 0.
 pub fn setup_lent(bytes: &[u8]) -> Setup
     ensures { λ r. ⌜ r ≡ setupLent (now (bytes .entry)) ⌝ }
 {
@@ -21,6 +21,7 @@ pub fn setup_lent(bytes: &[u8]) -> Setup
     file_records::setup_in(bytes, 0)
 }
 
+// Returns the steps in the first `count` records.
 fn steps_in(records: &[u8], count: usize) -> Steps
     requires { ⌜ 16 * count ≤ length (now records) ⌝ }
     requires { ⌜ count ≤ 4000 ⌝ }
@@ -38,7 +39,7 @@ fn steps_in(records: &[u8], count: usize) -> Steps
     steps
 }
 
-// Records that are not whole, or more than 4,000, become a list that is longer than that of any run file.
+// Returns the steps in these records, or a list longer than any run file's if a record is not whole or there are more than 4,000.
 pub fn steps_lent(records: &[u8]) -> Steps
     ensures { λ r. ⌜ r ≡ stepsLent (now (records .entry)) ⌝ }
 {

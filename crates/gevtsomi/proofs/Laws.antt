@@ -1,4 +1,4 @@
--- What a call reports, as its caller is told.
+-- What the caller gets, derived from the call's report.
 use Prim.Native.Nat.{ℕ}
 use mathlib.Core.Bool.{Bool, true, false, cond}
 use mathlib.Core.List.{List}
@@ -16,7 +16,7 @@ use Rattle.file_writer.specs.File.{writeRefusal}
 use Rattle.workload.specs.Workload.{workload, fileRefusal}
 use Rattle.gevtsomi.specs.Calls.{lengthAfter, Writes, WritesFile, WritesWorkload}
 
--- a is the answer, r the number and m the length that the caller is told
+-- a is the report; r is the number and m the length that the caller gets.
 module _ (before after : List ℕ) (n : ℕ) (a : Report) (r m : ℕ) (f : r ≡ reportNumber a) (g : m ≡ lengthAfter a n) where
   pub told-all : (refusal : ℕ) (b : List ℕ) → Reports refusal b before after a → Writes refusal b before after n m r
   unfolding reportOf
@@ -26,7 +26,7 @@ module _ (before after : List ℕ) (n : ℕ) (a : Report) (r m : ℕ) (f : r ≡
       chosen true = refl
       chosen false = refl
 
-  -- the same where the setup t, and the steps y, are what stands in lent bytes
+  -- The same for a setup t and steps y that were read from lent bytes.
   module _ (note : List ℕ) (s t : Setup) (e : t ≡ s) where
     pub file-told : (x y : Steps) → y ≡ x → Reports (writeRefusal (length note) t y (length before)) (fileBytes note t (held y)) before after a
         → WritesFile note s x before after n m r

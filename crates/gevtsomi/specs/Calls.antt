@@ -1,4 +1,4 @@
--- What a caller from another language gets: the number of the refusal in 01 or 02, 0 for none, and what stands in what it lent.
+-- What a caller from another language gets: 0 or the refusal's number in 01 or 02, and the bytes and length in what it lent.
 use Prim.Native.Nat.{ℕ}
 use mathlib.Core.Bool.{cond}
 use mathlib.Core.List.{List}
@@ -17,26 +17,26 @@ use Rattle.run.specs.Listed.{fileListing, listRefusal}
 use Rattle.file_writer.specs.File.{writeRefusal}
 use Rattle.workload.specs.Workload.{workload, fileRefusal}
 
--- the length that a caller is told: that of what was written, and else what it was told before
+-- The caller's length after the call: the number of bytes written, or the old length after a refusal.
 abbrev pub lengthAfter : Report → ℕ → ℕ
 lengthAfter (report.Written n) before = n
 lengthAfter (report.Refused k) before = before
 
--- the bytes b at the start of an output, and their length; a call that is refused leaves both as they were
+-- The call writes the bytes b at the start of the output, and their length; a refused call changes neither.
 pub record Writes (refusal : ℕ) (b before after : List ℕ) (n m r : ℕ) : Type 0 where
   pub number : r ≡ refusal
   pub written : m ≡ cond (eqb refusal 0) (length b) n
   pub bytes : after ≡ sets before 0 (unlessRefused refusal b)
 
--- a listing
+-- The call writes a file's listing.
 abbrev pub Lists : List ℕ → List ℕ → List ℕ → ℕ → ℕ → ℕ → Type 0
 Lists file before after n m r = Writes (listRefusal file (length before)) (fileListing file) before after n m r
 
--- a run file of these steps
+-- The call writes a run file of these steps.
 abbrev pub WritesFile : List ℕ → Setup → Steps → List ℕ → List ℕ → ℕ → ℕ → ℕ → Type 0
 WritesFile note s x before after n m r = Writes (writeRefusal (length note) s x (length before)) (fileBytes note s (held x)) before after n m r
 
--- a run file of the first `count` steps of a seed
+-- The call writes a run file of the first `count` steps of a seed.
 abbrev pub WritesWorkload : ℕ → List ℕ → Setup → ℕ → List ℕ → List ℕ → ℕ → ℕ → ℕ → Type 0
 WritesWorkload seed note s count before after n m r =
     Writes (fileRefusal (length note) s count (length before)) (fileBytes note s (workload s seed count)) before after n m r

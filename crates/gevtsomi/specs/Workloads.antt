@@ -1,4 +1,4 @@
--- A workload's file from a lent setup: bytes that are no setup are refused by 7, and what is written is read back.
+-- A workload's file from a lent setup: bytes that are not a setup are refused with 7, and a written file reads back the same.
 use Prim.Native.Nat.{ℕ}
 use mathlib.Core.Bool.{false}
 use mathlib.Core.List.{List}

@@ -1,5 +1,5 @@
-// The library that other languages link (`rt staticlib gevtsomi`): calls on numbers and slices, each 0 or the number of a refusal in 01 or 02, which changes
-// nothing. A slice is two arguments, its address and its length.
+// The library that other languages link (`rt staticlib gevtsomi`). Its calls take numbers and slices, and return 0 or the refusal's number in 01 or 02;
+// a refused call changes nothing. A slice is two arguments, its address and its length.
 ghost use mathlib.Core.Path.{_≡_};
 ghost use Rattle.bytes_layout.specs.Report.{reportNumber};
 ghost use Rattle.export_parts.specs.Lent.{setupLent, stepsLent};
@@ -8,7 +8,7 @@ ghost use Rattle.export_frames.specs.Calls.{EncodesFields, DecodesFields};
 ghost use Rattle.export_frames.specs.Numbers.{fieldsFrom};
 use bytes_layout::output::Report;
 
-// The number of a call's answer; where bytes were written, how many is told too.
+// Returns 0 or the refusal's number; if bytes were written, stores how many.
 fn told(report: Report, written: &mut usize) -> u8
     ensures number { λ r. ⌜ r ≡ reportNumber report ⌝ }
     ensures length { λ _. ⌜ now (written .exit) ≡ lengthAfter report (now (written .entry)) ⌝ }
@@ -22,7 +22,8 @@ fn told(report: Report, written: &mut usize) -> u8
     }
 }
 
-// The listing of a run file's bytes, at the start of the output, and its length. 9 for what is no run file, 8 for an output that is too short.
+// Writes the listing of a run file at the start of the output, and stores its length. Returns 9 for bytes that are not a run file, 8 for an output
+// that is too short.
 #[no_mangle]
 pub extern "C" fn gevtsomi_list(file: &[u8], out: &mut [u8], written: &mut usize) -> u8
     ensures { λ r. ⌜ Lists (now (file .entry)) (now (out .entry)) (now (out .exit)) (now (written .entry)) (now (written .exit)) r ⌝ }
@@ -30,9 +31,9 @@ pub extern "C" fn gevtsomi_list(file: &[u8], out: &mut [u8], written: &mut usize
     told(run::list(file, out), written)
 }
 
-// The run file of a note, a setup and steps, at the start of the output, and its length: the setup in its 48 bytes, the steps in records of 16. 7 for what is
-// no setup in range; then 10 for records that are not whole, more than 4,000 or with an unused field that is not 0, for a file of more than 65,536 bytes, and
-// for an output that is too short.
+// Writes the run file of a note, a setup (48 bytes) and steps (records of 16 bytes) at the start of the output, and stores its length. Returns 7 for
+// bytes that are not a setup in range; then 10 for a record that is not whole, more than 4,000 records, a step of a known kind with a nonzero unused
+// field, a file of more than 65,536 bytes, or an output that is too short.
 #[no_mangle]
 pub extern "C" fn gevtsomi_write(
     note: &[u8],
@@ -50,8 +51,8 @@ pub extern "C" fn gevtsomi_write(
     )
 }
 
-// The run file of the first steps of a seed, likewise. 7 for what is no setup in range; then 10 for more than 4,000 steps, a file of more than 65,536 bytes,
-// or an output that is too short.
+// Writes the run file of the first `count` steps of a seed at the start of the output, and stores its length. Returns 7 for bytes that are not a setup
+// in range; then 10 for more than 4,000 steps, a file of more than 65,536 bytes, or an output that is too short.
 #[no_mangle]
 pub extern "C" fn gevtsomi_workload(
     seed: u32,
@@ -69,7 +70,8 @@ pub extern "C" fn gevtsomi_workload(
     )
 }
 
-// The frame of a message whose fields these are, in the frame's order; those that its kind lacks are 0.
+// Writes the frame of the message with these fields, which are in the frame's order; those that its kind lacks must be 0. Returns 8 for fields that no
+// message has or an output that is too short.
 #[no_mangle]
 pub extern "C" fn gevtsomi_encode(
     head: &[u8; 4],
@@ -82,7 +84,7 @@ pub extern "C" fn gevtsomi_encode(
     export_frames::encode(head, numbers, value, out)
 }
 
-// The fields of a frame's message, as ten numbers in the frame's order.
+// Stores the ten fields of a frame's message, in the frame's order. Returns 8 for bytes that are not a frame or room for fewer than ten numbers.
 #[no_mangle]
 pub extern "C" fn gevtsomi_decode(frame: &[u8], fields: &mut [u64]) -> u8
     ensures { λ r. ⌜ DecodesFields (now (frame .entry)) (now (fields .entry)) (now (fields .exit)) r ⌝ }

@@ -24,16 +24,16 @@ line step number value = field step space ++ (field number space ++ field value 
 abbrev pub lineOf : ℕ → Answer → List ℕ
 lineOf step a = line step (answerNumber a) (answerValue a)
 
--- the words of the header: s t e p, a n s w e r, v a l u e
+-- The header: "step answer value" and a newline, in ASCII.
 unfoldable pub header : List ℕ
 header = 115 ∷ 116 ∷ 101 ∷ 112 ∷ 32 ∷ 97 ∷ 110 ∷ 115 ∷ 119 ∷ 101 ∷ 114 ∷ 32 ∷ 118 ∷ 97 ∷ 108 ∷ 117 ∷ 101 ∷ 10 ∷ []
 
--- lines of answers, the first of them to step k
+-- The lines of these answers, the first of which is to step k.
 unfoldable pub linesFrom : ℕ → List Answer → List ℕ
 linesFrom k [] = []
 linesFrom k (a ∷ l) = lineOf k a ++ linesFrom (k + 1) l
 
--- the listing of a run's answers
+-- The listing of a run with these answers.
 abbrev pub listingOf : List Answer → List ℕ
 listingOf l = header ++ linesFrom 1 l
 
@@ -41,14 +41,14 @@ listingOf l = header ++ linesFrom 1 l
 abbrev pub refusedListing : List ℕ
 refusedListing = header ++ line 0 4 9
 
--- ---- how long they are
+-- ---- lengths
 pub length-line : (step number value : ℕ) → length (line step number value) ≡ (width step + 1) + ((width number + 1) + (width value + 1))
 unfolding line
 length-line step number value =
     length-append (field step space) (field number space ++ field value newline)
     ∙ omega (arith, length-append (field number space) (field value newline), length-field step space, length-field number space, length-field value newline)
 
--- a line of a step below 10,000 and an answer below 10 has at most 28 bytes
+-- A line with a step below 10,000 and an answer below 10 has at most 28 bytes.
 pub line-short : (step number value : ℕ) → step < 10000 → number < 10 → length (line step number value) ≤ 28
 unfolding tens
 line-short step number value h k =
@@ -65,7 +65,7 @@ answer-small (Completed n) = done-small n
 answer-small (Delivered m n) = done-small n
 answer-small (Refused k) = omega arith
 
--- lines of steps below 10,000
+-- The same for the lines of all steps below 10,000.
 pub lines-short : (k : ℕ) (l : List Answer) → k + length l ≤ 10000 → length (linesFrom k l) ≤ 28 * length l
 unfolding linesFrom
 lines-short k [] h = omega arith
@@ -76,6 +76,6 @@ pub length-header : length header ≡ 18
 unfolding header
 length-header = refl
 
--- a listing of at most 4,000 steps
+-- A listing of at most 4,000 steps has at most 112,018 bytes.
 pub listing-short : (l : List Answer) → length l ≤ 4000 → length (listingOf l) ≤ 112018
 listing-short l h = omega (arith, length-append header (linesFrom 1 l), length-header, lines-short 1 l (omega arith))

@@ -1,4 +1,4 @@
-// The listing of a run in bytes (01, "Frame, run file and listing"). Each function writes at a place of a lent output, and gives the place after.
+// Writes the listing of a run (01, "Frame, run file and listing"). Each function writes at the offset `at` and returns the offset after.
 ghost use Prim.Native.Nat.{_+_, _≤_};
 ghost use lib.ListN.{length};
 ghost use Rattle.bytes_layout.specs.Written.{Written};
@@ -12,7 +12,7 @@ pub fn write_header(out: &mut [u8], at: usize) -> usize
     bytes_layout::output::write_bytes(out, at, b"step answer value\n")
 }
 
-// A line of three numbers.
+// Writes a line of three numbers. Needs room for numbers of 20 digits.
 pub fn write_numbers(out: &mut [u8], at: usize, step: u64, number: u64, value: u64) -> usize
     requires { ⌜ at + 63 ≤ length (now out) ⌝ }
     ensures { λ r. ⌜ Written (now (out .entry)) (now (out .exit)) at (line step number value) r ⌝ }
@@ -22,7 +22,7 @@ pub fn write_numbers(out: &mut [u8], at: usize, step: u64, number: u64, value: u
     listing_decimal::write_field(out, third, value, 10)
 }
 
-// The line of a step and its answer.
+// Writes the line of a step and its answer.
 pub fn write_line(out: &mut [u8], at: usize, step: u64, answer: Answer) -> usize
     requires { ⌜ at + 63 ≤ length (now out) ⌝ }
     ensures { λ r. ⌜ Written (now (out .entry)) (now (out .exit)) at (lineOf step answer) r ⌝ }
@@ -36,7 +36,7 @@ pub fn write_line(out: &mut [u8], at: usize, step: u64, answer: Answer) -> usize
     )
 }
 
-// What is printed of a run file that is refused.
+// Writes the listing of a refused run file: the header and "0 4 9".
 pub fn write_refused(out: &mut [u8], at: usize) -> usize
     requires { ⌜ at + 81 ≤ length (now out) ⌝ }
     ensures { λ r. ⌜ Written (now (out .entry)) (now (out .exit)) at refusedListing r ⌝ }

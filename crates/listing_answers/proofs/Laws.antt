@@ -1,4 +1,4 @@
--- What each way through a function found, put together.
+-- Lemmas cited by the function proofs: each derives a postcondition from the facts of one path.
 use Prim.Native.Nat.{ℕ}
 use mathlib.Core.Path.{_≡_, sym, ap, _∙_}
 use borrow.Author.Tests.{eq-eqb, ne-eqb}

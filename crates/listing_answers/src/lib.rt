@@ -1,8 +1,9 @@
-// 01's number and value of each answer.
+// Returns the number and the value that 01 gives each answer.
 ghost use mathlib.Core.Path.{_≡_};
 ghost use Rattle.protocol.specs.Answers.{doneOrCompleted, answerNumber, answerValue};
 use protocol::step::Answer;
 
+// Returns 0 (done) if no write completed, else 3 (completed).
 fn done_or_completed(n: u32) -> u64
     ensures { λ r. ⌜ r ≡ doneOrCompleted n ⌝ }
 {
@@ -12,6 +13,7 @@ fn done_or_completed(n: u32) -> u64
     3
 }
 
+// Returns the answer's number; a delivery is done or completed.
 pub fn number_of(answer: Answer) -> u64
     ensures { λ r. ⌜ r ≡ answerNumber answer ⌝ }
 {
@@ -25,6 +27,7 @@ pub fn number_of(answer: Answer) -> u64
     }
 }
 
+// Returns the value shown, the number of writes completed or the refusal's number; else 0.
 pub fn value_of(answer: Answer) -> u64
     ensures { λ r. ⌜ r ≡ answerValue answer ⌝ }
 {

@@ -1,4 +1,4 @@
--- What each way through a function, or a loop's turn, found, put together.
+-- Lemmas cited by the function proofs: each derives a postcondition or a loop invariant from the facts of one path or iteration.
 use Prim.Native.Nat.{ℕ, suc, _+_, _-_, _/_, _<_, _≤_}
 use native.Mathlib.Omega.{arith}
 use mathlib.Core.List.{List, [], _∷_}
@@ -11,7 +11,7 @@ use Rattle.bytes_layout.specs.Number.{sets-then}
 use Rattle.listing_decimal.specs.Decimal.{digit, digits, further, width, decimal, field, length-digits, length-decimal, decimal-short}
 use Rattle.bytes_layout.specs.Written.{Written, written-then, sets-past}
 
--- ---- digits counted
+-- ---- the loop that counts digits
 module _ (y w A : ℕ) where
   pub digits-end : 20 ≤ w → w + further (20 - w) y ≡ A → w ≡ A
   unfolding further
@@ -25,7 +25,7 @@ module _ (y w A : ℕ) where
   unfolding further
   digits-again h k e = omega (arith, rw (left-more 20 w h, le-ltb y 10 k) at e)
 
--- ---- digits written, the last first
+-- ---- the loop that writes digits, the last one first
 module _ (l : List ℕ) (p y : ℕ) where
   last-first : (m : ℕ) → sets (set l (p + m) (digit y)) p (digits m (y / 10)) ≡ sets l p (digits (suc m) y)
   unfolding digits
@@ -44,7 +44,7 @@ module _ (l : List ℕ) (p y : ℕ) where
       let z : n ≡ 0 = omega arith in
       record { next = omega (arith, length-decimal x); bytes = record { stored = (rw z at i) ∙ rw e; long = k } }
 
--- ---- what follows a number
+-- ---- the byte after a number
 module _ (l m : List ℕ) (p x r : ℕ) where
   pub after-number : Written l m p (decimal x) r → p + 21 ≤ length l → r < length m
   after-number w h = omega (arith, decimal-short x, w .next, w .bytes .long)

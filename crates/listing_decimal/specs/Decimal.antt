@@ -1,4 +1,4 @@
--- Numbers in decimal, as ASCII digits, with no leading zero.
+-- Numbers in decimal: ASCII digits without leading zeros.
 use Prim.Native.Nat.{ℕ, zero, suc, _+_, _-_, _*_, _/_, _%_, _<_, _≤_}
 use native.Mathlib.Omega.{arith}
 use mathlib.Core.Bool.{cond}
@@ -12,28 +12,28 @@ use Rattle.laws.specs.Choice.{cond-keeps}
 abbrev pub digit : ℕ → ℕ
 digit n = 48 + n % 10
 
--- the w lowest digits of n, the highest of them first
+-- The w lowest digits of n, most significant first.
 unfoldable pub digits : ℕ → ℕ → List ℕ
 digits zero n = []
 digits (suc w) n = digits w (n / 10) ++ (digit n ∷ [])
 
--- how many digits n has after its first: none below 10. At most `most` are counted
+-- The number of digits of n after its first, counted up to `most`.
 unfoldable pub further : ℕ → ℕ → ℕ
 further zero n = 0
 further (suc most) n = cond (ltb n 10) 0 (suc (further most (n / 10)))
 
--- how many digits a number of 64 bits has
+-- The number of digits of a 64-bit number.
 abbrev pub width : ℕ → ℕ
 width n = suc (further 19 n)
 
 unfoldable pub decimal : ℕ → List ℕ
 decimal n = digits (width n) n
 
--- a number and the byte after it
+-- A number and the byte after it.
 abbrev pub field : ℕ → ℕ → List ℕ
 field n mark = decimal n ++ (mark ∷ [])
 
--- ---- how long a number is
+-- ---- lengths
 pub length-digits : (w n : ℕ) → length (digits w n) ≡ w
 unfolding digits
 length-digits zero n = refl
@@ -46,7 +46,7 @@ length-decimal n = length-digits (width n) n
 pub length-field : (n mark : ℕ) → length (field n mark) ≡ width n + 1
 length-field n mark = length-append (decimal n) (mark ∷ []) ∙ omega (arith, length-decimal n)
 
--- 10 to the k
+-- 10 to the power k.
 unfoldable pub tens : ℕ → ℕ
 tens zero = 1
 tens (suc k) = 10 * tens k
@@ -60,7 +60,7 @@ further-most (suc most) n =
 pub decimal-short : (x : ℕ) → length (decimal x) ≤ 20
 decimal-short x = omega (arith, length-decimal x, further-most 19 x)
 
--- a number below 10 to the k + 1 has at most k digits after its first
+-- A number below 10 to the power k + 1 has at most k digits after its first.
 pub further-below : (most k n : ℕ) → n < tens (suc k) → further most n ≤ k
 unfolding further tens
 further-below zero k n h = omega arith
@@ -68,8 +68,8 @@ further-below (suc most) zero n h = cond-keeps (λ (i : ℕ). i ≤ 0) (ltb n 10
 further-below (suc most) (suc k) n h =
     cond-keeps (λ (i : ℕ). i ≤ suc k) (ltb n 10) (λ _. omega arith) (λ _. omega (arith, further-below most k (n / 10) (omega arith)))
 
--- ---- what the digits say
--- the number that digits make after those that made n
+-- ---- reading the digits back
+-- The number that digits make if those before them make n.
 unfoldable pub readOn : ℕ → List ℕ → ℕ
 readOn n [] = n
 readOn n (b ∷ l) = readOn (10 * n + (b - 48)) l
@@ -93,7 +93,7 @@ enough zero n h = h
 enough (suc most) n h =
     cond-keeps (λ (k : ℕ). n < tens (suc k)) (ltb n 10) (λ e. omega (arith, ltb-true n 10 e)) (λ _. omega (arith, enough most (n / 10) (omega arith)))
 
--- the digits of a number of 64 bits make that number
+-- The digits of a 64-bit number make that number.
 pub read-back : (n : ℕ) → n < tens 20 → readOff (decimal n) ≡ n
 unfolding decimal
 read-back n h = read-digits (width n) n (enough 19 n h)

@@ -1,11 +1,11 @@
-// Numbers in decimal. Each function that writes does so at a place of a lent output, and gives the place after.
+// Writes numbers in decimal, at the offset `at` of an output. Each function that writes returns the offset after.
 ghost use Prim.Native.Nat.{_+_, _≤_};
 ghost use mathlib.Core.Path.{_≡_};
 ghost use lib.ListN.{length};
 ghost use Rattle.listing_decimal.specs.Decimal.{digit, width, decimal, field};
 ghost use Rattle.bytes_layout.specs.Written.{Written};
 
-// How many digits a number has.
+// Returns the number of digits.
 fn width(number: u64) -> usize
     ensures { λ r. ⌜ r ≡ width number ⌝ }
 {
@@ -21,14 +21,14 @@ fn width(number: u64) -> usize
     digits
 }
 
-// The last digit of a number.
+// Returns the last digit as an ASCII byte.
 fn digit(number: u64) -> u8
     ensures { λ r. ⌜ r ≡ digit number ⌝ }
 {
     48 + (number % 10) as u8
 }
 
-// From the last digit to the first.
+// Writes the digits, the last one first.
 fn write_number(out: &mut [u8], at: usize, number: u64) -> usize
     requires { ⌜ at + 20 ≤ length (now out) ⌝ }
     ensures { λ r. ⌜ Written (now (out .entry)) (now (out .exit)) at (decimal number) r ⌝ }
@@ -44,7 +44,7 @@ fn write_number(out: &mut [u8], at: usize, number: u64) -> usize
     at + n
 }
 
-// A number and the byte that ends it.
+// Writes a number and the byte that ends it.
 pub fn write_field(out: &mut [u8], at: usize, number: u64, end: u8) -> usize
     requires { ⌜ at + 21 ≤ length (now out) ⌝ }
     ensures { λ r. ⌜ Written (now (out .entry)) (now (out .exit)) at (field number end) r ⌝ }

@@ -1,4 +1,4 @@
--- What each way through a function found, put together.
+-- Lemmas cited by the function proofs: each derives a postcondition from the facts of one path.
 use Prim.Native.Nat.{ℕ, _≤_}
 use native.Mathlib.Omega.{arith}
 use mathlib.Core.Bool.{true, false}
@@ -18,7 +18,7 @@ use Rattle.bytes_layout.specs.Report.{Reports, written-all, refused-none}
 use Rattle.run.specs.Listed.{fileListing, listRefusal, listing-fits, listed-all, listed-formed}
 use Rattle.roadrun.specs.Printed.{printed, printed-short}
 
--- ---- what `list` did with an output that has room for any listing
+-- ---- the result of `list` with an output that holds any listing
 module _ (file before after : List ℕ) (r : Report) (room : 112640 ≤ length before) (d : Reports (listRefusal file (length before)) (fileListing file) before after r) where
   pub print-listed : (n : ℕ) → r ≡ report.Written n → Written before after 0 (printed file) n
   unfolding printed

@@ -1,4 +1,4 @@
--- What the program found on standard input. No contract can say which bytes C reads, so only their number is bounded.
+-- The result of reading standard input. No contract can say which bytes C reads, so only their number is bounded.
 use Prim.Native.Nat.{ℕ}
 use Rattle.roadrun.specs.declared.input.Input.{Input}
 use Rattle.roadrun.specs.declared.input.Input.the-variants.{Read, Failed}

@@ -1,4 +1,4 @@
--- What the program prints of the bytes that it reads.
+-- What the program prints for the bytes that it reads.
 use Prim.Native.Nat.{ℕ, _≤_}
 use native.Mathlib.Omega.{arith}
 use mathlib.Core.Bool.{cond}
@@ -13,7 +13,7 @@ use Rattle.run.specs.Listed.{fileListing, listing-fits}
 unfoldable pub printed : List ℕ → List ℕ
 printed l = cond (wellFormed l) (fileListing l) refusedListing
 
--- a buffer of a fixed size holds it
+-- A buffer of 112,640 bytes holds it.
 pub printed-short : (l : List ℕ) → length (printed l) ≤ 112640
 unfolding printed
 printed-short l = cond-keeps (λ (b : List ℕ). length b ≤ 112640) (wellFormed l) (listing-fits l) (λ _. short)

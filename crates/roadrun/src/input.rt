@@ -1,16 +1,16 @@
-// Standard input.
+// Reads standard input.
 ghost use Prim.Native.Nat.{_≤_};
 ghost use lib.ListN.{length};
 ghost use Rattle.roadrun.specs.Input.{inputLength};
 use libc::STDIN_FILENO;
 
-// What came of it: so many bytes, or a read that failed. `io::read_full` does not tell these apart.
+// The number of bytes up to the end of input, or a failed read. `io::read_full` does not tell the two apart.
 pub enum Input {
     Read(usize),
     Failed,
 }
 
-// Reads until the lent bytes are full or the input ends.
+// Reads until `file` is full or the input ends, and returns the number of bytes read.
 pub fn read(file: &mut [u8]) -> Input
     ensures { λ r. ⌜ inputLength r ≤ length (now (file .exit)) ⌝ }
 {

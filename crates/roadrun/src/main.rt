@@ -1,5 +1,5 @@
-// Reads a run file on standard input and prints its listing (01, "Frame, run file and listing"). A program has no exit status: a read or a write that
-// fails is told on standard error.
+// Reads a run file from standard input and prints its listing (01, "Frame, run file and listing"). The program cannot set an exit status, so it
+// reports a failed read or write on standard error.
 mod input;
 
 ghost use Prim.Native.Nat.{_≤_};
@@ -10,7 +10,7 @@ use bytes_layout::output::Report;
 use input::Input;
 use libc::STDOUT_FILENO;
 
-// What is printed of a file's bytes, at the start of an output that has room for any: so a call that is refused met a file that is.
+// Writes what is printed for a file at the start of the output, and returns its length. The output holds any listing, so a refusal means a bad file.
 fn print(file: &[u8], out: &mut [u8]) -> usize
     requires { ⌜ 112640 ≤ length (now out) ⌝ }
     ensures { λ r. ⌜ Written (now (out .entry)) (now (out .exit)) 0 (printed (now (file .entry))) r ⌝ }
@@ -21,8 +21,8 @@ fn print(file: &[u8], out: &mut [u8]) -> usize
     }
 }
 
-// A file that is longer than a run file can be is refused all the same when one byte more is read than fits. Of a file that could not be read to its end
-// nothing is printed: the listing of a part would pass for that of the file.
+// Reads one byte more than a run file can have, so that an over-long file is refused and not truncated. Prints nothing for a file that could not be
+// read to its end: the listing of a part would pass for that of the whole.
 fn main() {
     let mut file = [0u8; 65537];
     let Input::Read(n) = input::read(&mut file) else {

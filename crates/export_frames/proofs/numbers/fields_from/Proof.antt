@@ -1,4 +1,4 @@
--- Rattle proves this by itself; the file is here so that a must-fail edit is refused at the fact that fails.
+-- Rattle proves this without help; the file makes a must-fail edit fail at the fact that it breaks.
 use mathlib.Core.Path.{refl}
 use borrow.Author.Needs.{needs}
 use Rattle.export_frames.proofs.numbers.fields_from.Statement.{statement}
