@@ -1,4 +1,4 @@
-// One change, by the number of its field: 1 to 7 the setup, 10 to 31 the tables, 40 to 50 the message list, 60 to 63 copies, 70 to 74 requests.
+// Applies one change, by the number of its field: 1 to 7 the setup, 10 to 31 the tables, 40 to 50 the message list, 60 to 63 copies, 70 to 74 requests.
 use crate::Case;
 use crate::text::byte;
 use crate::text::word;
@@ -11,7 +11,7 @@ use state_words::client;
 use state_words::network;
 use state_words::server;
 
-// A setup of zeros.
+// Returns the case that changes start from: a setup of zeros, and no records lent.
 pub fn none() -> Case {
     let volume = [0u8; 32];
     let setup = Setup {
@@ -30,6 +30,7 @@ pub fn none() -> Case {
     }
 }
 
+// Returns the setup with one field changed.
 fn with(setup: Setup, field: u64, place: usize, number: u64) -> Setup {
     let mut setup = setup;
     match field {
@@ -44,7 +45,7 @@ fn with(setup: Setup, field: u64, place: usize, number: u64) -> Setup {
     setup
 }
 
-// From here on as many records are lent as the setup has, so that a case about the setup is not one about their number.
+// Returns the case that lends as many records as the setup has, so that a changed setup is not refused for the number of records.
 fn lending(setup: Setup) -> Case {
     let clients = setup.clients as usize;
     let objects = setup.objects as usize;
@@ -55,7 +56,7 @@ fn lending(setup: Setup) -> Case {
     }
 }
 
-// Where a field stands in the words; past their end where it does not.
+// Returns where a field begins in the words, or their length if it is not there.
 fn in_words(field: u64) -> usize {
     match field {
         10 => network::CLOCK,
@@ -85,7 +86,7 @@ fn in_words(field: u64) -> usize {
     }
 }
 
-// The same of the values.
+// Returns where a field begins in the values, or their length if it is not there.
 fn in_values(field: u64) -> usize {
     match field {
         20 => server::VALUE,
@@ -96,7 +97,7 @@ fn in_values(field: u64) -> usize {
     }
 }
 
-// Nothing is stored past the end.
+// Stores a word, unless its index is past the end.
 fn put(words: &mut Words, from: usize, place: usize, number: u64) {
     if from < WORDS {
         if place < WORDS - from {
@@ -105,6 +106,7 @@ fn put(words: &mut Words, from: usize, place: usize, number: u64) {
     }
 }
 
+// Stores a value, unless its index is past the end.
 fn put_value(values: &mut Values, from: usize, place: usize, number: u64) {
     if from < VALUES {
         if place < VALUES - from {
@@ -113,7 +115,7 @@ fn put_value(values: &mut Values, from: usize, place: usize, number: u64) {
     }
 }
 
-// A message's words, in the frame's order.
+// Stores a word of a message; fields 41 to 49 are its words in the frame's order.
 fn put_message(words: &mut Words, field: u64, place: usize, number: u64) {
     if place < 64 {
         if 41 <= field {
@@ -125,6 +127,7 @@ fn put_message(words: &mut Words, field: u64, place: usize, number: u64) {
     }
 }
 
+// Applies a change to the setup, to the number of records lent, or to the tables.
 pub fn change(
     case: Case,
     words: &mut Words,

@@ -1,11 +1,11 @@
-// A case: what its first step is handed, and how many records it lends; its text, and the changes that it is made by.
+// A test case: its setup and the number of records it lends, the text it is read from (`text`), and the changes that make it (`change`).
 pub mod change;
 pub mod text;
 
 ghost use Prim.Native.Nat.{_≤_};
 use protocol::setup::Setup;
 
-// What a step is handed besides the words and values. The records stand in the words too; the first so many copies and requests are lent.
+// What a step gets besides the words and values. The words hold the client records too; the first `copies` and `requests` of them are lent.
 pub struct Case {
     pub setup: Setup,
     pub copies: usize,
@@ -21,13 +21,14 @@ fn at_most(most: usize, number: usize) -> usize
     most
 }
 
-// As many as the case says, and no more than there are.
+// Returns the number of copies that the case lends, at most all 512.
 pub fn copies_lent(case: Case) -> usize
     ensures { λ r. ⌜ r ≤ 512 ⌝ }
 {
     at_most(512, case.copies)
 }
 
+// Returns the number of requests that the case lends, at most all 16.
 pub fn requests_lent(case: Case) -> usize
     ensures { λ r. ⌜ r ≤ 16 ⌝ }
 {

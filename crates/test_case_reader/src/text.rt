@@ -1,9 +1,10 @@
-// The text of cases: numbers among words, whatever is not a digit stands between them.
+// Reads the text of cases: decimal numbers, separated by anything that is not a digit.
 use protocol::step::Step;
 
+// A number in the text.
 pub struct Found {
     pub value: u64,
-    // the place after it
+    // the offset after it
     pub next: usize,
 }
 
@@ -22,6 +23,7 @@ fn first_digit(bytes: &[u8], at: usize) -> usize {
     i
 }
 
+// Appends a digit. A number of 19 digits takes no more, so it cannot overflow.
 fn with_digit(number: u64, byte: u8) -> u64 {
     if number < 1000000000000000000 {
         if 48 <= byte {
@@ -31,7 +33,7 @@ fn with_digit(number: u64, byte: u8) -> u64 {
     number
 }
 
-// The first number from a place on; 0 where there is none.
+// Returns the first number from `at` on, or 0 if there is none.
 pub fn number(bytes: &[u8], at: usize) -> Found {
     let mut i = first_digit(bytes, at);
     let mut value = 0;
@@ -47,7 +49,7 @@ pub fn number(bytes: &[u8], at: usize) -> Found {
     Found { value, next: i }
 }
 
-// The place after so many numbers.
+// Returns the offset after `count` numbers.
 pub fn after(bytes: &[u8], from: usize, count: u64) -> usize {
     let mut at = from;
     let mut i = 0;
@@ -58,6 +60,7 @@ pub fn after(bytes: &[u8], from: usize, count: u64) -> usize {
     at
 }
 
+// Returns three times the count, or 0 for a count of 65,536 or more.
 pub fn threefold(count: u64) -> u64 {
     if count < 65536 {
         return count * 3;
@@ -65,6 +68,7 @@ pub fn threefold(count: u64) -> u64 {
     0
 }
 
+// Returns the number as a word, or the largest word if it does not fit.
 pub fn word(number: u64) -> u32 {
     if number < 4294967296 {
         return number as u32;
@@ -72,6 +76,7 @@ pub fn word(number: u64) -> u32 {
     4294967295
 }
 
+// Returns the number as a byte, or the largest byte if it does not fit.
 pub fn byte(number: u64) -> u8 {
     if number < 256 {
         return number as u8;
@@ -79,7 +84,7 @@ pub fn byte(number: u64) -> u8 {
     255
 }
 
-// Six numbers: kind, client, object, place, clock, value.
+// Reads a step from six numbers: kind, client, object, place, clock, value.
 pub fn step(bytes: &[u8], at: usize) -> Step {
     let kind = number(bytes, at);
     let client = number(bytes, kind.next);

@@ -1,4 +1,4 @@
-// Frames worked out by hand from 01's layout, one line for each: what it decodes to, then that message's frame again, in an output of 36 bytes.
+// Decodes frames worked out by hand from 01's layout. Prints a line for each: the message's fields, then its frame, encoded again into 36 bytes.
 mod show;
 
 ghost use Prim.Native.Nat.{_<_};
@@ -31,7 +31,7 @@ fn whole() {
     );
 }
 
-// A frame of the kind, with the byte at one place changed: refused where the kind lacks the field that stands there.
+// Decodes a frame of this kind that is 0 but for one more byte.
 fn changed(kind: u8, at: usize, b: u8)
     requires { ⌜ at < 32 ⌝ }
 {
@@ -52,13 +52,13 @@ fn refused() {
     changed(0, 1, 0);
     changed(7, 1, 0);
     changed(255, 1, 0);
-    // value present: 2, set where the kind lacks it, and a value that is not marked
+    // value present: 2, set for a kind without a value, and unset with a value that is not 0
     changed(2, 3, 2);
     changed(1, 3, 1);
     changed(5, 3, 1);
     changed(2, 24, 1);
     changed(2, 31, 1);
-    // a field that the kind lacks
+    // a field that the kind lacks, not 0
     changed(1, 8, 1);
     changed(1, 23, 1);
     changed(1, 24, 1);

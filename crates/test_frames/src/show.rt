@@ -28,6 +28,7 @@ fn encoded(r: Encoded) {
     }
 }
 
+// Prints a message's fields and its frame, encoded in an output of 36 bytes.
 fn again(m: Message) {
     fields(message_fields::fields_of(m));
     let mut out = [238u8; 36];
@@ -36,6 +37,7 @@ fn again(m: Message) {
     end();
 }
 
+// Prints the message that the bytes decode to, or 8.
 pub fn frame(s: &[u8]) {
     match frame::decode(s) {
         Decoded::Accepted(m) => again(m),
@@ -43,7 +45,7 @@ pub fn frame(s: &[u8]) {
     }
 }
 
-// An output of 31 bytes is left as it was.
+// Encodes into an output of 31 bytes, which is refused and left as it was.
 pub fn short_output() {
     let kind = Kind::Ack {
         object: 1,

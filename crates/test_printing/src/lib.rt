@@ -1,4 +1,4 @@
-// What the test programs print: numbers in decimal, each with a space after it or, by `last`, with the line's end; bytes in hexadecimal; and steps.
+// Prints for the test programs: decimal numbers, each followed by a space or, with `last`, by a newline; bytes in hexadecimal; and steps.
 use libc::STDOUT_FILENO;
 use protocol::step::Step;
 

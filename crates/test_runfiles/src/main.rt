@@ -1,10 +1,10 @@
-// Run files made up by hand from 01's layout, one line for each: refusal, the note's length and its bytes, the setup with its first and last volume byte,
-// how many steps and where they begin; and first and last steps, and what is read after them.
+// Reads run files made by hand from 01's layout. Prints a line for each: the refusal, the note's length and bytes, the setup with its first and last
+// volume byte, the number of steps and where they begin. For some files it also prints the first and the last step, and what is read after them.
 mod show;
 
 ghost use Prim.Native.Nat.{_<_};
 
-// Nothing but a setup (1 client, 1 volume, 1 object, tv 10, t 100, m 3) and a trailer.
+// Returns the smallest run file: a setup (1 client, 1 volume, 1 object, tv 10, t 100, m 3) and a trailer.
 fn smallest() -> [u8; 56] {
     let mut f = [0u8; 56];
     f[0] = 1;
@@ -17,7 +17,7 @@ fn smallest() -> [u8; 56] {
     f
 }
 
-// The same with one byte changed.
+// Reads the smallest file with one byte changed.
 fn changed(at: usize, b: u8)
     requires { ⌜ at < 56 ⌝ }
 {
@@ -29,7 +29,7 @@ fn changed(at: usize, b: u8)
 fn small() {
     let f = smallest();
     show::file(&f);
-    // a byte short, at the front and at the end
+    // one byte missing at the front, then at the end
     show::file(show::cut(&f, 1, 56));
     show::file(show::cut(&f, 0, 55));
     show::file(b"");
@@ -51,7 +51,8 @@ fn small() {
     changed(55, 1);
 }
 
-// A note of two bytes, two steps (clock 258; write object 0 of the value 2 to the 56th + 7), and the same setup: 90 bytes. The last byte is one more.
+// Returns a file of 90 bytes with one byte too many after it: a note of two bytes, the same setup, and two steps (clock 258; write the value 2 to the
+// 56th + 7 to object 0).
 fn two_steps() -> [u8; 91] {
     let mut f = [0u8; 91];
     f[0] = b'h';
@@ -89,7 +90,7 @@ fn steps() {
 }
 
 fn step_fields() {
-    // fields that a clock step and a write do not use, and one that a write does
+    // fields that a clock step and a write do not use, then one that a write uses
     changed_step(51, 1);
     changed_step(52, 1);
     changed_step(53, 1);
@@ -103,7 +104,7 @@ fn step_fields() {
     changed_step(66, 10);
 }
 
-// A note that is a run file itself: the setup is found from the end.
+// Reads a file whose note is itself a run file: the setup is found from the end.
 fn note_like_a_file() {
     let mut f = [0u8; 112];
     f[0] = 1;
@@ -126,7 +127,7 @@ fn note_like_a_file() {
     show::file(&f);
 }
 
-// A note of any bytes: zeros at both ends, a newline, the largest byte, digits, a quote and half of a two-byte character.
+// Reads a file whose note has unusual bytes: zeros at both ends, 255, a newline, a carriage return, a digit, a quote and a two-byte character.
 fn note_of_any_bytes() {
     let mut f = [0u8; 65];
     f[1] = 255;
@@ -144,14 +145,14 @@ fn note_of_any_bytes() {
     f[21] = 3;
     f[61] = 56;
     show::file(&f);
-    // a byte shorter at each end: the note loses its first byte, and the trailer its last
+    // one byte missing at the front, where the note loses it, then at the end, where the trailer does
     show::file(show::cut(&f, 1, 65));
     show::file(show::cut(&f, 0, 64));
-    // all of the note gone
+    // the whole note missing
     show::file(show::cut(&f, 9, 65));
 }
 
-// After a first byte that is one too many: 65,536 bytes, a note of 1,480 and 4,000 steps, the last of which delivers place 63.
+// Returns one byte too many, then the largest file: 65,536 bytes, with a note of 1,480 bytes and 4,000 steps, the last of which delivers place 63.
 fn largest() -> [u8; 65537] {
     let mut f = [0u8; 65537];
     f[0] = 7;
@@ -185,7 +186,7 @@ fn large() {
     show::steps(show::cut(&f, 1, 65537));
 }
 
-// 4,001 steps, in a file that is right otherwise.
+// Reads a file of 4,001 steps that is otherwise right.
 fn too_many_steps() {
     let mut f = [0u8; 64072];
     f[0] = 1;

@@ -17,7 +17,7 @@ fn setup(s: Setup) {
     number(s.volume[31] as u64);
 }
 
-// The bytes from one place up to another.
+// Returns the bytes from `from` up to `to`, or none if the file does not have them.
 pub fn cut(f: &[u8], from: usize, to: usize) -> &[u8] {
     if from <= to {
         if to <= f.len() {
@@ -27,7 +27,7 @@ pub fn cut(f: &[u8], from: usize, to: usize) -> &[u8] {
     &f[..0]
 }
 
-// The note's length, and its bytes in brackets.
+// Prints the note's length, and its bytes in brackets.
 fn note(s: &[u8]) {
     number(s.len() as u64);
     io::write_all(1, b"[");
@@ -35,7 +35,7 @@ fn note(s: &[u8]) {
     io::write_all(1, b"] ");
 }
 
-// The refusal, the note, and what else was read.
+// Prints the refusal, the note, and what else was read.
 pub fn file(f: &[u8]) {
     let r = file_reader::read(f);
     number(r.refusal as u64);
@@ -46,14 +46,14 @@ pub fn file(f: &[u8]) {
     last(r.first as u64);
 }
 
-// What is read at the trailer's place, where no record fits.
+// Prints what is read at the trailer's place, where no record fits.
 fn after_last(f: &[u8], place: usize)
     requires { ⌜ place ≡ trailerPlace (now f) ⌝ }
 {
     step(file_reader::step_at(f, place));
 }
 
-// The first and the last step of a file, found by going through all records, and what is read after them, where the trailer begins.
+// Goes through all records of a file. Prints the first and the last step, and what is read after them, where the trailer begins.
 pub fn steps(f: &[u8]) {
     let r = file_reader::read(f);
     if r.refusal == 0 {

@@ -1,11 +1,11 @@
-// Steps on tables that no run reaches: unsound ones, and ones at or past a limit. The cases stand in the file `stdin`, as numbers among words; the model
-// reads the same file, and what it prints of its answers and its tables is the file `stdout`.
+// Performs steps on tables that no run reaches: unsound ones, and ones at or past a limit. The cases are in the file `stdin`, as numbers among words.
+// The model reads the same file; the file `stdout` is what it prints of its answers and tables.
 use state_words::Values;
 use state_words::Words;
 use test_case_reader::Case;
 use test_case_reader::text::Found;
 
-// So many changes, each of three numbers: field, place, value.
+// Applies `count` changes, each of three numbers: field, place, value.
 fn changed(
     bytes: &[u8],
     from: usize,
@@ -35,7 +35,7 @@ fn changed(
     case
 }
 
-// So many steps, each on what the last one left. For each a line, and what it left.
+// Performs `count` steps, each on what the one before it left. Prints each answer and what the step changed.
 fn taken(
     bytes: &[u8],
     from: usize,
@@ -63,7 +63,7 @@ fn taken(
     }
 }
 
-// One case, whose number was read: how many changes and which, how many steps and which. Gives the place after it.
+// Performs one case, whose number was read: the number of changes, the changes, the number of steps, the steps. Returns the offset after it.
 fn case(bytes: &[u8], id: Found, base: Case, words: &Words, values: &Values) -> usize {
     let changes = test_case_reader::text::number(bytes, id.next);
     let steps_at = test_case_reader::text::after(
@@ -99,6 +99,7 @@ fn case(bytes: &[u8], id: Found, base: Case, words: &Words, values: &Values) -> 
     )
 }
 
+// Performs cases up to the end of the text, at most 1,000.
 fn cases(bytes: &[u8], from: usize, base: Case, words: &Words, values: &Values) {
     let mut at = from;
     let mut i = 0u64;
@@ -112,7 +113,7 @@ fn cases(bytes: &[u8], from: usize, base: Case, words: &Words, values: &Values) 
     }
 }
 
-// The base's changes stand first.
+// Performs all cases. The text begins with the changes that make the base, which every case starts from.
 fn run(bytes: &[u8]) {
     let changes = test_case_reader::text::number(bytes, 0);
     let mut words = [0u32; 3498];

@@ -1,4 +1,4 @@
-// A step on the clients' records as the words hold them: the first so many are lent to the public step, and what it left of them is kept in the words.
+// Performs a step on client records that the words hold: lends the first of them to the public step, and stores what it left in the words.
 ghost use Prim.Native.Nat.{_≤_};
 use protocol::records::Copy;
 use protocol::records::Request;
@@ -50,7 +50,8 @@ fn keep(words: &mut Words, values: &mut Values, copies: [Copy; 512], requests: [
     keep_requests(&mut *words, requests);
 }
 
-// The first `lent_copies` copies and `lent_requests` requests are lent to `step`. So a case can lend another number than the setup has, which is unsound.
+// Lends the first `lent_copies` copies and `lent_requests` requests to `step`, so that a case can lend more or fewer than the setup has, which is
+// unsound.
 fn step_on(
     setup: Setup,
     words: &mut Words,
@@ -75,6 +76,7 @@ fn step_on(
     answer
 }
 
+// Performs a step of a case and returns its answer.
 pub fn take(case: Case, words: &mut Words, values: &mut Values, step: Step) -> Answer {
     let setup = case.setup;
     let copies = copies_in(&*words, &*values);

@@ -1,4 +1,4 @@
-// The answer to a step, printed.
+// Prints the answer to a step.
 use crate::lines::end;
 use crate::lines::fields;
 use crate::lines::spaced;
@@ -26,7 +26,7 @@ fn delivered(message: Message, writes: u32) {
     fields(message_fields::fields_of(message));
 }
 
-// The case, 01's number and value of the answer, and the message in it.
+// Prints the case, the answer's number and value in 01, and the message in it.
 pub fn show(id: u64, answer: Answer) {
     io::print_decimal(1, id);
     match answer {

@@ -1,5 +1,5 @@
-// A field before and after a step: a line `name place: number` for each element that is another one. A place per client and volume, or per client and
-// object, is two numbers.
+// Prints a line `name place: number` for each element of a field that a step changed. A place per client and volume, or per client and object, is two
+// numbers.
 ghost use Prim.Native.Nat.{_+_, _≤_};
 ghost use Rattle.state_words.specs.Fields.{WORDS, VALUES};
 use crate::lines::end;
@@ -9,7 +9,7 @@ use crate::lines::text;
 use state_words::Values;
 use state_words::Words;
 
-// How many elements of a field are one client's.
+// How the elements of a field are counted: by one number, by client and volume, or by client and object.
 pub enum Row {
     One,
     Volumes,
@@ -44,7 +44,7 @@ fn word(name: &[u8], row: Row, i: usize, before: u32, after: u32) {
     element(name, row, i, before as u64, after as u64);
 }
 
-// `count` words from `from` on.
+// Prints the changes among `count` words from `from` on.
 pub fn words(name: &[u8], row: Row, from: usize, count: usize, before: &Words, after: &Words)
     requires { ⌜ from + count ≤ WORDS ⌝ }
 {
@@ -55,7 +55,7 @@ pub fn words(name: &[u8], row: Row, from: usize, count: usize, before: &Words, a
     }
 }
 
-// The 32 values from `from` on, one an object.
+// Prints the changes among the 32 values from `from` on, one per object.
 pub fn values(name: &[u8], from: usize, before: &Values, after: &Values)
     requires { ⌜ from + 32 ≤ VALUES ⌝ }
 {

@@ -1,4 +1,4 @@
-// What a step left, printed: a line for each element of the tables, each message and each record that is another one than before.
+// Prints what a step changed: a line for each element of the tables, each message and each record that differs.
 pub mod answer;
 mod elements;
 pub mod lines;

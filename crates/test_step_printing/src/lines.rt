@@ -1,11 +1,11 @@
-// The pieces of the printed lines.
+// Prints the pieces of lines.
 use message_fields::Fields;
 
 pub fn text(bytes: &[u8]) {
     io::write_all(1, bytes);
 }
 
-// A number with words before it.
+// Prints a number with words before it.
 pub fn number(words: &[u8], value: u64) {
     text(words);
     io::print_decimal(1, value);
@@ -19,7 +19,7 @@ pub fn end() {
     text(b"\n");
 }
 
-// A message as its ten fields, in the frame's order.
+// Prints a message's ten fields, in the frame's order.
 pub fn fields(message: Fields) {
     spaced(message.kind as u64);
     spaced(message.client as u64);

@@ -1,4 +1,4 @@
-// The clients' records, those that are not lent too, and the messages: a line for each that is another one than before.
+// Prints a line for each message and each client record, lent or not, that a step changed.
 use crate::lines::end;
 use crate::lines::fields;
 use crate::lines::number;

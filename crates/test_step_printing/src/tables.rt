@@ -1,4 +1,4 @@
-// What a step left of the tables, printed: a line for each element that is another one than before; and its answer.
+// Prints a line for each element of the tables that a step changed.
 
 use crate::elements::Row;
 use crate::elements::values;
@@ -10,7 +10,7 @@ use state_words::Words;
 use state_words::client;
 use state_words::server;
 
-// A number that there is one of.
+// Prints a single number if it changed.
 pub fn one(name: &[u8], before: u32, after: u32) {
     if before != after {
         number(name, after as u64);

@@ -1,4 +1,4 @@
-// 02, A5, worked out apart from the code: what three seeds draw, and the steps of that; a small file of them; and what is refused.
+// 02, A5: prints the draws and the steps of three seeds, a small run file, and refusals. The expected output was worked out apart from the code.
 use bytes_layout::output::Report;
 use protocol::setup::Setup;
 use protocol::step::Step;
@@ -7,7 +7,7 @@ use test_printing::end;
 use test_printing::last;
 use test_printing::number;
 
-// 3 clients, 2 volumes, 4 objects, of which two are in each volume; tv 10, t 100, m 3.
+// Returns a setup of 3 clients and 2 volumes with two objects each; tv 10, t 100, m 3.
 fn setup() -> Setup {
     let mut volume = [0u8; 32];
     volume[2] = 1;
@@ -23,7 +23,7 @@ fn setup() -> Setup {
     }
 }
 
-// The first 20 draws of a seed in a line.
+// Prints the first 20 draws of a seed in a line.
 fn twenty_draws(seed: u32) {
     let mut last = seed;
     let mut k = 0u32;
@@ -35,7 +35,7 @@ fn twenty_draws(seed: u32) {
     end();
 }
 
-// The first 10 steps of a seed: kind, client, object, place, clock, value.
+// Prints the first 10 steps of a seed: kind, client, object, place, clock, value.
 fn ten_steps(seed: u32) {
     let steps = workload::steps(seed, setup(), 10).steps;
     let mut k = 0;
@@ -45,7 +45,7 @@ fn ten_steps(seed: u32) {
     }
 }
 
-// The number of the refusal, 0 for none, and then how many bytes were written.
+// Prints the refusal's number, or 0 and the number of bytes written.
 fn report(r: Report) {
     match r {
         Report::Written(n) => {
@@ -61,7 +61,7 @@ fn vectors(seed: u32) {
     ten_steps(seed);
 }
 
-// A file of 92 bytes in an output of 96, whose last bytes stay; an output of 91 stays as it was.
+// Writes a file of 92 bytes into an output of 96, whose last bytes stay, and into one of 91, which is refused and stays as it was.
 fn small_files() {
     let mut out = [170u8; 96];
     report(workload::write(1, b"ride", setup(), 2, &mut out));
@@ -73,7 +73,7 @@ fn small_files() {
     end();
 }
 
-// The most steps and the longest file, and one more of each; a setup out of range is told first.
+// Writes the longest file with the most steps, then one byte and one step too many. A setup out of range is refused before too many steps.
 fn sizes() {
     let mut out = [0u8; 65537];
     let note = [0u8; 1481];
@@ -85,7 +85,7 @@ fn sizes() {
     report(workload::write(1, b"", s, 4001, &mut out));
 }
 
-// What the writer makes of one step, in a file of 72 bytes, or of a list that claims to be longer than a run file can be.
+// Writes a list of one step, whose file has 72 bytes, or of a length that may be more than a run file can have.
 fn one_step(step: Step, len: u32) {
     let mut steps = file_records::list::blank(len);
     steps.items[0] = step;
@@ -107,7 +107,7 @@ fn given_steps() {
     one_step(read, 1);
     one_step(read, 4001);
     one_step(read, 4294967295);
-    // a field that a read does not use, and one of a kind that is not known
+    // a field that a read does not use, then the same in a step of an unknown kind
     let mut odd = read;
     odd.clock = 258;
     one_step(odd, 1);

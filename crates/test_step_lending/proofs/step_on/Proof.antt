@@ -1,4 +1,5 @@
--- `test_step_lending::step_on` meets its contract: a walk of its MIR, by hand. The words, the values and the first elements of two local arrays are lent to `step` and come back; then all of them are lent or given to `keep`. No branch. Assumes nothing.
+-- Proves that `test_step_lending::step_on` meets its contract, by a walk of its MIR written by hand. The words, the values and the first elements of two
+-- local arrays are lent to `step` and come back; then all of them are lent or given to `keep`. There is no branch, and nothing is assumed.
 use mathlib.Core.Path.{_≡_, refl, sym, subst, ap, _∙_}
 use Prim.Native.Nat.{ℕ, _+_, _-_, _<_, _≤_, _^_}
 use native.Mathlib.Omega.{arith}
@@ -110,7 +111,7 @@ Vs = Array u64 640
 abbrev stayed : Stays (this.ended .signature .params) (this.ended .kept)
 stayed = (stay-none (λ _. S) yes, (stay-ref (0 ∷ []) tt (plain (λ _. Ws)), (stay-ref (1 ∷ []) tt (plain (λ _. Vs)), (stay-none (λ _. AR) yes, (stay-none (λ _. AQ) yes, (stay-none (λ _. usize) yes, (stay-none (λ _. usize) yes, (stay-none (λ _. U) yes, tt))))))))
 
--- the large types, shut: the walk of the body never looks into them
+-- The large types, kept opaque: the walk of the body never looks into them.
 unfoldable sty : Ty
 sty = S′.mir
 
@@ -123,11 +124,11 @@ room-R n h = (omega (arith, h), omega (arith, h))
 room-Q : (n : ℕ) → n ≤ 16 → Room Q n
 room-Q n h = (omega (arith, h), omega (arith, h))
 
--- a part that comes back as long as it was, and the rest
+-- The length of a part that comes back unchanged in length, plus the rest.
 sums : (p q m n k : ℕ) → p ≡ n → q ≡ m - n → m ≡ k → n ≤ k → p + q ≡ k
 sums p q m n k e f g h = omega (arith, e, f, g, h)
 
--- of what a call ensures, the last values alone
+-- Drops all that a call ensures except the last values.
 lasts-of : {M : Type 1} (𝓤 : URA M) (H : Heap 𝓤) (A : Atoms 𝓤) (T : Ended) (c : Clauses 𝓤 T) (κs : Lfts (T .signature .lifetimes)) (a : Args (T .signature) κs) (g : c κs a .ghost) (r : Res (T .signature) κs) → ent 𝓤 (ensured 𝓤 H A T c κs a g r) (ex 𝓤 (λ (us : Lasts T κs a). sem 𝓤 H A (lasts T κs a us)))
 lasts-of 𝓤 H A T c κs a g r = exE 𝓤 _ (λ us. via 𝓤 _ (fst∗ 𝓤 (sem 𝓤 H A (lasts T κs a us)) (c κs a .ensures g r (atExit T κs a us))) (exI 𝓤 (λ (us : Lasts T κs a). sem 𝓤 H A (lasts T κs a us)) us))
 
@@ -137,7 +138,8 @@ On-step 𝓤 H A mem run = tripleOf 𝓤 H A step-c.signature (step-c.spec 𝓤 
 abbrev On-keep : {M : Type 1} (𝓤 : URA M) (H : Heap 𝓤) (A : Atoms 𝓤) (mem : Memory → SProp 𝓤) (run : Routine → Fun 𝓤) → Contract 𝓤
 On-keep 𝓤 H A mem run = tripleOf 𝓤 H A keep-c.signature (keep-c.spec 𝓤 H A mem run)
 
--- lent are the words ws and the values xs: each with its lifetime κ, that lifetime's share q, its place (b, o) and its name γ; of the copies l and the requests ks the first n and m
+-- The words ws and the values xs are lent, each with its lifetime κ, that lifetime's share q, its place (b, o) and its name γ; and the first n of the
+-- copies l and the first m of the requests ks.
 module _ {M : Type 1} (𝓤 : URA M) (H : Heap 𝓤) (A : Atoms 𝓤) (W : Given 𝓤 H A) (at-mem : Memory → SProp 𝓤) (run : Routine → Fun 𝓤) (κw κx : Lft) (qw qx : Share) (st : Setup) (bw ow : ℕ) (γw : GName) (ws : List ℕ) (bx ox : ℕ) (γx : GName) (xs : List ℕ) (l : List Copy) (ks : List Request) (n m : ℕ) (uq : Step)
     (is-st : Is S st ((LL.val S-.the-type S′.the-laws st) ∷ [])) (is-l : Is AR l ((array-vals (LL.vals R-.the-type R′.the-laws)) l)) (is-k : Is AQ ks ((array-vals (LL.vals Q-.the-type Q′.the-laws)) ks)) (n-fits : n < 2 ^ 64) (m-fits : m < 2 ^ 64) (is-u : Is U uq ((LL.val U-.the-type U′.the-laws uq) ∷ [])) (few : n ≤ 512) (fewq : m ≤ 16) where
   room : Room R n
@@ -203,7 +205,7 @@ module _ {M : Type 1} (𝓤 : URA M) (H : Heap 𝓤) (A : Atoms 𝓤) (W : Given
   abbrev Post : Val → SProp 𝓤
   Post = walkOf 𝓤 H A this.ended stayed (this.clauses 𝓤 H A at-mem run) .post (((κw, (κx, tt)), (qw, (qx, tt)), tt, a, at), tt)
 
-  -- the machine's test of types, of a type that is shut
+  -- The machine's type test, for an opaque type.
   typed-n : {w : Val} (r : Answer) → Is N r (w ∷ []) → TB (hasTy nty w) × WT w
   unfolding nty
   typed-n {w} r is = (EL.lawful N-.the-type N′.the-laws 𝓤 H A W tt .typed r _ is .0)
@@ -253,7 +255,7 @@ module _ {M : Type 1} (𝓤 : URA M) (H : Heap 𝓤) (A : Atoms 𝓤) (W : Given
       move ! (1 ∷ 0 ∷ []) $ join ! $ frame ! $ nothing ! $ done !
 
   module _ (𝓣 : Tables 𝓤 H) (fm : FmC 𝓤 H (W .laws) (𝓣 .C)) (known-step : Triple 𝓤 (𝓣 .C #step·step) (On-step 𝓤 H A at-mem run)) (known-keep : Triple 𝓤 (𝓣 .C #lending·keep) (On-keep 𝓤 H A at-mem run)) where
-    -- what the body starts from: both borrows open, the arguments in their locals
+    -- The state at the start of the body: both borrows open, the arguments in their locals.
     abbrev Start : ℕ → ℕ → ℕ → ℕ → ℕ → ℕ → ℕ → ℕ → ℕ → ℕ → ℕ → ℕ → ℕ → ℕ → ℕ → ℕ → ℕ → ℕ → ℕ → ℕ → ℕ → ℕ → ℕ → List (Item 𝓤)
     Start l₀ l₁ l₂ l₃ l₄ l₅ l₆ l₇ l₈ l₉ l₁₀ l₁₁ l₁₂ l₁₃ l₁₄ l₁₅ l₁₆ l₁₇ l₁₈ l₁₉ l₂₀ l₂₁ l₂₂ = ‵ (partAt Ws fullShare ws bw ow) ∷ ‵ (fobor κw qw (Body (mem Ws) bw ow γw)) ∷ ‵ (fobs γw (Ws .coded .code ws)) ∷ ‵ (fauth γw (Ws .coded .code ws))
         ∷ ‵ (partAt Vs fullShare xs bx ox) ∷ ‵ (fobor κx qx (Body (mem Vs) bx ox γx)) ∷ ‵ (fobs γx (Vs .coded .code xs)) ∷ ‵ (fauth γx (Vs .coded .code xs))

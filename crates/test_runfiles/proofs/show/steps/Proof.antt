@@ -7,7 +7,7 @@ use Rattle.file_reader.specs.Reading.{accepted}
 use Rattle.test_runfiles.proofs.show.steps.Statement.{statement}
 use Rattle.test_runfiles.proofs.show.steps.Tie as tie
 
--- the running place is the one before record k
+-- The running place is that of record k.
 abbrev Inv-loop : tie.InvT-loop
 Inv-loop f count place₀ k₀ place k = (k ≤ count) × (place ≡ placeBefore f k)
 
@@ -50,7 +50,7 @@ loop-less-2 c = search needs
 loop-again-2 : tie.Need-loop-again-2 Inv-loop μ-loop
 loop-again-2 c = (omega (arith, c .before .before .loop-test .taken), place-next _ _ _ (c .before .before .before .loop .inv .1))
 
--- after the last record it is the trailer's
+-- After the last record, the running place is the trailer's.
 after-last-requires : tie.Need-after-last-requires Inv-loop μ-loop
 after-last-requires c κs =
     let l = c .before in
