@@ -1,5 +1,5 @@
--- Proves that `test_step_lending::step_on` meets its contract, by a walk of its MIR written by hand. The words, the values and the first elements of two
--- local arrays are lent to `step` and come back; then all of them are lent or given to `keep`. There is no branch, and nothing is assumed.
+-- Proves that `test_step_lending::step_on` meets its contract, by a walk of its MIR written by hand. The words, the values and the first elements of
+-- two local arrays are lent to `step` and come back; then all of them are lent or given to `keep`. There is no branch, and nothing is assumed.
 use mathlib.Core.Path.{_≡_, refl, sym, subst, ap, _∙_}
 use Prim.Native.Nat.{ℕ, _+_, _-_, _<_, _≤_, _^_}
 use native.Mathlib.Omega.{arith}
@@ -275,11 +275,11 @@ module _ {M : Type 1} (𝓤 : URA M) (H : Heap 𝓤) (A : Atoms 𝓤) (W : Given
         assigns ! (agg ! (and-then ! (load ! (from ! (stop !)) (look ! 22 refl)) (and-then ! (load ! (from ! (stop !)) (look ! 14 refl)) (no-more !)))) (from ! (stop !)) (init ! 23 refl (tt, (tt, (record { fits = n-fits }, tt)))) $
         assigns ! (addr ! (from ! (stop !))) (from ! (stop !)) (init ! 24 refl (tt, tt)) $
         assigns ! (agg ! (and-then ! (load ! (from ! (stop !)) (look ! 24 refl)) (and-then ! (load ! (from ! (stop !)) (look ! 15 refl)) (no-more !)))) (from ! (stop !)) (init ! 25 refl (tt, (tt, (record { fits = m-fits }, tt)))) $
-        -- the first of the copies
+        -- the first copies
         move ! (17 ∷ []) $ use1 W (‵ (cellAt fullShare (AR .mir) (va l ∷ []) l₉ 0)) (W .laws .at-raw fullShare (tyArray R′.mir 512) l₉ 0 (va l)) $ owned ! AR (Is AR) (array-makes 𝓤 H A W R (LL.makes R-.the-type R′.the-plain 𝓤 H A) 512) l _ is-l $ move ! (1 ∷ 0 ∷ []) $ use2 W (‵ (mem AR .lies l l₉ 0)) (lies-in 𝓤 H A W AR l l₉ 0 (va l ∷ [])) $
         use1 W (‵ (arr-parts (shares R) 512 .part fullShare l l₉ 0)) (array-apart 𝓤 H A W R fullShare tt 512 l l₉ 0) $ fsplit ! $ feqL ! (λ len-R. rewrite ! 0 (λ (z : List Copy). ‵ (row R fullShare z l₉ 0)) (sym (take-append-drop n l)) refl $
         use1 W (‵ (row R fullShare (take n l) l₉ 0) ⊛ ‵ (cells (mem R) (drop-list n l) l₉ (place-at 0 (mem R .size) (length (take n l))))) (cut-row 𝓤 H A W R (named 0) [] l₉ 0 (take n l) (drop-list n l)) $ split ! $
-        -- the first of the requests
+        -- the first requests
         move ! (19 ∷ []) $ use1 W (‵ (cellAt fullShare (AQ .mir) (vaq ks ∷ []) l₁₀ 0)) (W .laws .at-raw fullShare (tyArray Q′.mir 16) l₁₀ 0 (vaq ks)) $ owned ! AQ (Is AQ) (array-makes 𝓤 H A W Q (LL.makes Q-.the-type Q′.the-plain 𝓤 H A) 16) ks _ is-k $ move ! (1 ∷ 0 ∷ []) $ use2 W (‵ (mem AQ .lies ks l₁₀ 0)) (lies-in 𝓤 H A W AQ ks l₁₀ 0 (vaq ks ∷ [])) $
         use1 W (‵ (arr-parts (shares Q) 16 .part fullShare ks l₁₀ 0)) (array-apart 𝓤 H A W Q fullShare tt 16 ks l₁₀ 0) $ fsplit ! $ feqL ! (λ len-Q. rewrite ! 0 (λ (z : List Request). ‵ (row Q fullShare z l₁₀ 0)) (sym (take-append-drop m ks)) refl $
         use1 W (‵ (row Q fullShare (take m ks) l₁₀ 0) ⊛ ‵ (cells (mem Q) (drop-list m ks) l₁₀ (place-at 0 (mem Q .size) (length (take m ks))))) (cut-row 𝓤 H A W Q (named 0) [] l₁₀ 0 (take m ks) (drop-list m ks)) $ split ! $
