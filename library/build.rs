@@ -10,7 +10,7 @@ const IN_THE_REPOSITORY: &str = "../target/staticlib/libgevtsomi.a";
 fn main() {
     let package = PathBuf::from(env::var_os("CARGO_MANIFEST_DIR").expect("set by cargo"));
     let named = env::var_os(VARIABLE).unwrap_or_else(|| IN_THE_REPOSITORY.into());
-    // A path that is not absolute counts from the package.
+    // A relative path starts at the package.
     let archive = package.join(named);
     println!("cargo:rerun-if-env-changed={VARIABLE}");
     println!("cargo:rerun-if-changed={}", archive.display());

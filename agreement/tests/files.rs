@@ -1,5 +1,5 @@
-//! Run files, in process: the same bytes and refusals as the model's, from
-//! parts that callers lend and from workloads.
+//! Compares run files with the model's in one process: the same bytes and
+//! refusals, from parts that callers lend and from workloads.
 
 use gevtsomi::{list, workload, write, Refused, LISTING_BYTES};
 use model::gen::{workload_calls, writer_calls};
@@ -9,7 +9,7 @@ use model::writer::workload_file;
 
 const SEEDS: std::ops::Range<u64> = 1..41;
 
-/// How many calls were answered with 0, 7 and 10.
+/// The number of calls answered with 0, 7 and 10.
 #[derive(Default)]
 struct Answered {
     done: usize,
@@ -27,14 +27,16 @@ impl Answered {
         } += 1;
     }
 
-    /// A comparison that never meets one of them is worth little.
+    /// Returns whether each answer came often. A comparison that never meets
+    /// one of them is worth little.
     fn all(&self) -> bool {
         [self.done, self.bad_setup, self.not_written].iter().all(|&count| count > 500)
     }
 }
 
-/// What a call leaves in an output of so much room is the file at its start,
-/// if there is one, and all else is as it was.
+/// Returns whether a call answers like the model and leaves, in an output of
+/// `room` bytes, the file at the start, if there is one, and all else as it
+/// was.
 fn leaves(
     room: usize,
     file: &Result<Vec<u8>, u8>,
@@ -63,7 +65,7 @@ fn files_of_parts_are_the_models() {
     assert!(answered.all());
 }
 
-/// And the library lists each as the model does.
+/// The library also lists each file as the model does.
 #[test]
 fn files_of_workloads_are_the_models() {
     let mut answered = Answered::default();
@@ -83,7 +85,8 @@ fn files_of_workloads_are_the_models() {
     assert!(answered.all());
 }
 
-/// The listing beside the library's example in C, by the model alone.
+/// The listing beside the library's C example is checked against the model
+/// alone.
 #[test]
 fn the_examples_listing_is_the_models() {
     let mut setup = [0; 48];

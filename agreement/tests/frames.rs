@@ -1,4 +1,5 @@
-//! Frames, in process: the same bytes and messages as the model's.
+//! Compares frames with the model's in one process: the same bytes and
+//! messages.
 
 use gevtsomi::{decode, encode, Kind, Message, Refused, FRAME_BYTES};
 use model::frame as model_frame;
@@ -7,7 +8,7 @@ use model::message as model_message;
 
 const MESSAGES: usize = 20_000;
 
-/// The model's message of the same fields.
+/// Returns the model's message with the same fields.
 fn of_model(message: &Message) -> model_message::Message {
     let kind = match message.kind {
         Kind::Renew { object, number, epoch, version } => {
@@ -34,7 +35,7 @@ fn of_model(message: &Message) -> model_message::Message {
     model_message::Message { client: message.client, kind }
 }
 
-/// A number of any size, often at an end of its range.
+/// Draws a number of any size, often at an end of its range.
 fn word(rng: &mut Rng) -> u32 {
     match rng.below(6) {
         0 => 0,

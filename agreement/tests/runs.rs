@@ -1,4 +1,4 @@
-//! Whole runs, in process: the same listings as the model's.
+//! Compares whole runs with the model's in one process: the same listings.
 
 use gevtsomi::{list, Refused, LISTING_BYTES};
 use model::examples;
@@ -9,7 +9,8 @@ use model::runfile::read;
 const SEEDS: [u64; 2] = [1, 2];
 const RUNS: usize = 1_000;
 
-/// What the library writes, and that it writes nothing past that.
+/// Returns the listing that the library writes. Checks that it writes nothing
+/// past it.
 fn listed(file: &[u8]) -> Vec<u8> {
     let mut output = vec![0xaa; LISTING_BYTES + 16];
     let len = list(file, &mut output).expect("room for any listing");
@@ -26,8 +27,8 @@ fn examples_are_the_models() {
     }
 }
 
-/// The library's package has a copy of one of them, so that it can be tested
-/// where there is no model.
+/// The library's package has a copy of one example, so that it can be tested
+/// without the model.
 #[test]
 fn the_librarys_copy_is_the_document() {
     let document = &examples::all()[0];
@@ -47,7 +48,7 @@ fn generated_runs_are_the_models() {
     }
 }
 
-/// What is no run file is 9, also where the output has no room for a listing.
+/// Refusals are the model's, even where the output has no room for a listing.
 #[test]
 fn damaged_files_are_refused_where_the_model_refuses_them() {
     let mut refused = 0;
@@ -68,7 +69,7 @@ fn damaged_files_are_refused_where_the_model_refuses_them() {
     assert!(refused > 0);
 }
 
-/// The longest lines that a run can have: 4,000 times 20 digits shown.
+/// Lists a run with the longest lines possible: reads that show 20 digits.
 #[test]
 fn the_longest_listing_fits() {
     use model::gen::setups::sized;

@@ -1,4 +1,5 @@
-//! Time to read a file and to write one, and the stack that writing takes.
+//! Measures the time to read a file and to write one, and the stack that
+//! writing takes.
 
 use std::io;
 
@@ -18,7 +19,7 @@ pub fn reading(effort: Effort) {
     print(&medians(effort, &file, &[&proved_refusal, &model_refusal]));
 }
 
-/// A file that is refused needs no output.
+/// Returns the library's refusal. A refused file needs no output.
 fn proved_refusal(file: &[u8]) -> usize {
     gevtsomi::list(file, &mut []).expect_err("no run file").number.into()
 }
@@ -27,7 +28,8 @@ fn model_refusal(file: &[u8]) -> usize {
     read(file).expect_err("no run file").into()
 }
 
-/// The workload's file from its seed, and the same one from its step records.
+/// Times writing the workload's file from its seed, and the same file from its
+/// step records.
 pub fn writing(effort: Effort) {
     let file = load_file();
     let (setup, records) = parts(&file);
@@ -43,7 +45,7 @@ pub fn writing(effort: Effort) {
     print(&medians(effort, records, &[&by_library, &by_model]));
 }
 
-/// In KiB, from the seed and from the steps.
+/// Returns the stack in KiB, from the seed and from the steps.
 pub fn stack_of_writing() -> io::Result<[u64; 2]> {
     let file = load_file();
     let (setup, records) = parts(&file);
@@ -53,7 +55,7 @@ pub fn stack_of_writing() -> io::Result<[u64; 2]> {
     Ok([seed, steps])
 }
 
-/// The setup and the step records of a file without a note.
+/// Returns the setup and the step records of a file without a note.
 fn parts(file: &[u8]) -> (&[u8], &[u8]) {
     file[..file.len() - TRAILER_BYTES].split_at(SETUP_BYTES)
 }

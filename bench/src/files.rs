@@ -1,4 +1,4 @@
-//! The run files that are timed, the same in every run of the program.
+//! Makes the run files that are timed, the same in every run of the program.
 
 use std::fmt;
 
@@ -14,17 +14,17 @@ use model::setup::Setup;
 use model::step_record::Step;
 use model::write_runfile::{setup_bytes, write};
 
-/// Of the workload.
+/// The seed of the workload.
 pub const SEED: u32 = 1;
 
 pub struct Timed {
     pub name: &'static str,
     pub file: Vec<u8>,
-    /// Messages under way, on the average over the steps.
+    /// The average number of messages under way over the steps.
     pub queue: f64,
-    /// How many reads were shown a copy.
+    /// The number of reads that were shown a copy.
     pub shown: usize,
-    /// How many writes were not completed at once.
+    /// The number of writes that did not complete at once.
     pub waited: usize,
 }
 
@@ -36,8 +36,9 @@ impl fmt::Display for Timed {
     }
 }
 
-/// The largest setup, with a list of messages that is mostly full and with one
-/// that is worked off, the smallest, and a workload; each with the most steps.
+/// Returns runs of the most steps: in the largest setup with the message list
+/// mostly full, and with messages delivered in time; in the smallest setup; and
+/// a workload.
 pub fn runs() -> Vec<Timed> {
     vec![
         timed("16 clients, 8 volumes, 32 objects, by chance", largest(), by_chance),
@@ -47,12 +48,12 @@ pub fn runs() -> Vec<Timed> {
     ]
 }
 
-/// In this setup a workload does not tie objects to clients.
+/// Returns a setup in which a workload does not tie objects to clients.
 fn load_setup() -> Setup {
     spread(sized(3, 2, 4))
 }
 
-/// The library's file of the workload that is timed.
+/// Returns the library's file of the timed workload.
 pub fn load_file() -> Vec<u8> {
     let mut file = vec![0; FILE_BYTES];
     let setup = setup_bytes(&load_setup());
@@ -61,12 +62,12 @@ pub fn load_file() -> Vec<u8> {
     file
 }
 
-/// The most clients, volumes and objects.
+/// Returns the setup with the most clients, volumes and objects.
 pub fn largest() -> Setup {
     spread(sized(16, 8, 32))
 }
 
-/// Objects evenly over the volumes.
+/// Spreads the objects evenly over the volumes.
 fn spread(mut setup: Setup) -> Setup {
     for object in 0..setup.objects {
         setup.volume_of[usize::from(object)] = object % setup.volumes;
@@ -74,6 +75,7 @@ fn spread(mut setup: Setup) -> Setup {
     setup
 }
 
+/// Builds a run to the most steps by calling `more`.
 fn timed(name: &'static str, setup: Setup, more: fn(&mut Builder)) -> Timed {
     let mut builder = Builder::new(Rng::new(1), setup);
     let mut messages = 0;
@@ -95,7 +97,8 @@ fn load(name: &'static str) -> Timed {
     described(name, file, messages)
 }
 
-/// With how many messages were under way, added up over the steps.
+/// Counts what a run does. `messages` is the number of messages under way,
+/// added up over the steps.
 fn described(name: &'static str, file: Vec<u8>, messages: usize) -> Timed {
     let kinds = parts(&file).expect("a run file").steps().map(|step| step.kind);
     let lines = String::from_utf8(listing(&file)).expect("a listing is text");
@@ -106,14 +109,14 @@ fn described(name: &'static str, file: Vec<u8>, messages: usize) -> Timed {
     Timed { name, queue: messages as f64 / STEPS as f64, shown, waited, file }
 }
 
-/// Reads, asks and writes, with the list of messages mostly full, some lost
-/// and some doubled, and restarts.
+/// Takes a random step: reads, asks, writes and restarts, with the message list
+/// mostly full, and some messages lost or doubled.
 fn by_chance(builder: &mut Builder) {
     random_steps::take(builder, 1);
 }
 
-/// Messages are delivered from the front before they are many, and a few
-/// objects are asked for, so that copies are shown and writes wait.
+/// Takes a step of a run that delivers messages from the front before there are
+/// many, and asks for few objects, so that copies are shown and writes wait.
 fn in_time(builder: &mut Builder) {
     let (client, object) = (builder.any_client(), builder.any_object() % 4);
     let step = match builder.rng.below(100) {
@@ -129,10 +132,9 @@ fn in_time(builder: &mut Builder) {
     builder.push(step);
 }
 
-/// What a run grows by, its sizes, and a run of each size: messages that are
-/// delivered in time between more and more clients, and about more and more
-/// objects; and an ask and a loss at the front in turn, with more and more
-/// messages under way.
+/// Returns what a run grows by, with a run for each size: messages delivered in
+/// time with more and more clients, and with more and more objects; and an ask
+/// and a loss at the front in turn, with more and more messages under way.
 pub fn growing() -> Vec<(&'static str, Vec<(usize, Vec<u8>)>)> {
     let delivered = |setup| timed("", spread(setup), in_time).file;
     let clients = [1, 4, 16].map(|n| (n.into(), delivered(sized(n, 8, 32))));
@@ -148,8 +150,8 @@ fn under_way(messages: usize) -> Vec<u8> {
     write(&[], &largest(), &steps)
 }
 
-/// The same file but for its last step, where a field that the kind does not
-/// use is not 0: read to its end, and refused.
+/// Returns the same file with a bad last step: an unused field is not 0. So the
+/// file is read to its end and then refused.
 pub fn refused_at_its_end(file: &[u8]) -> Vec<u8> {
     let mut file = file.to_vec();
     let last_step = file.len() - 8 - 16;

@@ -1,5 +1,5 @@
-//! Instructions a step, counted by callgrind. Times differ from run to run;
-//! these counts do not, so that two states of the code can be compared.
+//! Counts instructions per step with callgrind. Times differ from run to run;
+//! these counts do not, so two states of the code can be compared.
 
 use std::fs::File;
 use std::hint::black_box;
@@ -16,14 +16,15 @@ use crate::subjects::{named, same};
 
 const VALGRIND: &str = "valgrind";
 
-/// How often a file is listed in the two processes whose counts are
-/// subtracted. What a process does before it lists, and what its first
-/// listing costs more than the others, is in both and drops out.
+/// How often a file is listed in each of the two processes whose counts are
+/// subtracted. Start-up and the extra cost of the first listing are in both
+/// counts and cancel out.
 const REPEATS: [usize; 2] = [2, 4];
 
-/// Where the processor has it, glibc clears and copies large pieces of memory
-/// by one instruction with a repeat prefix, which callgrind counts once a byte.
-/// From these sizes on alone, so that it takes the usual 32 bytes at a time.
+/// On processors that have it, glibc clears and copies large pieces of memory
+/// with one instruction with a repeat prefix, which callgrind counts once per
+/// byte. These thresholds are never reached, so glibc takes the usual 32 bytes
+/// at a time.
 const NO_REPEAT_PREFIX: &str =
     "glibc.cpu.x86_rep_stosb_threshold=1000000000:glibc.cpu.x86_rep_movsb_threshold=1000000000";
 
@@ -48,7 +49,7 @@ pub fn report() -> io::Result<()> {
     Ok(())
 }
 
-/// A run file for other processes to read, until it is dropped.
+/// A run file that other processes can read until it is dropped.
 struct Stored(PathBuf);
 
 impl Stored {
@@ -61,7 +62,7 @@ impl Stored {
 
 impl Drop for Stored {
     fn drop(&mut self) {
-        // What cannot be removed is left to whoever clears that folder.
+        // A file that cannot be removed stays in the temporary folder.
         let _ = fs::remove_file(&self.0);
     }
 }
@@ -72,7 +73,7 @@ fn per_step(file: &Path, subject: &str) -> io::Result<f64> {
     Ok(difference as f64 / ((more - fewer) * STEPS) as f64)
 }
 
-/// The instructions of a process of this program that does `repeat`.
+/// Returns the number of instructions of a process that runs `repeat`.
 fn counted(file: &Path, subject: &str, times: usize) -> io::Result<u64> {
     let mut command = Command::new(VALGRIND);
     command.args(["--tool=callgrind", "--callgrind-out-file=/dev/null"]).arg(env::current_exe()?);
@@ -83,7 +84,7 @@ fn counted(file: &Path, subject: &str, times: usize) -> io::Result<u64> {
     count.ok_or_else(|| io::Error::other(format!("{VALGRIND} counted nothing:\n{said}")))
 }
 
-/// Tells what to install where it is missing.
+/// Fails with what to install if valgrind is missing.
 fn installed(valgrind: &str) -> io::Result<()> {
     let started = Command::new(valgrind).arg("--version").output();
     let missing = "valgrind is not installed; on Debian: apt-get install valgrind";
@@ -93,12 +94,12 @@ fn installed(valgrind: &str) -> io::Result<()> {
     })
 }
 
-/// The count in what callgrind says at the end.
+/// Returns the count from callgrind's output.
 fn collected(said: &str) -> Option<u64> {
     said.lines().find_map(|line| line.split_once("Collected : ")?.1.trim().parse().ok())
 }
 
-/// Lists the file on standard input again and again.
+/// Lists the file on standard input `times` times.
 pub fn repeat(subject: &str, times: &str) -> io::Result<()> {
     let (subject, times) = (named(subject)?, times.parse::<usize>().map_err(io::Error::other)?);
     let mut file = Vec::new();
@@ -110,9 +111,9 @@ pub fn repeat(subject: &str, times: &str) -> io::Result<()> {
     Ok(())
 }
 
-/// Aligns the frame that has it. How memory is cleared depends on where in a
-/// page it begins, and where a stack begins on the environment; from here on
-/// all frames are at the same places of their pages.
+/// Aligns the stack frame that has it. How memory is cleared depends on its
+/// offset in a page, and the stack's start depends on the environment. From
+/// this frame on, all frames have the same offsets in every run.
 #[repr(align(4096))]
 struct Page(usize);
 

@@ -1,4 +1,4 @@
-//! Runs of one kind of step, in the largest setup.
+//! Makes runs of one kind of step, in the largest setup.
 
 use std::fmt;
 
@@ -10,9 +10,9 @@ use crate::files::largest;
 
 pub struct Kind {
     pub name: &'static str,
-    /// What is done, and what comes of it.
+    /// What the steps do, and with what effect.
     how: &'static str,
-    /// What the listing has for each step: answer and value.
+    /// The answer and value that the listing has for each step.
     answer: &'static str,
     pub file: Vec<u8>,
 }
@@ -23,7 +23,7 @@ impl fmt::Display for Kind {
     }
 }
 
-/// Each takes the most steps: those of the start, then the turn over and over.
+/// Returns runs of the most steps: those of `start`, then `turn` over and over.
 pub fn kinds() -> Vec<Kind> {
     let run = |name, how, answer, start: &[Step], turn: &[Step]| {
         let steps: Vec<Step> = start.iter().chain(turn.iter().cycle()).copied().take(STEPS).collect();

@@ -1,7 +1,8 @@
-//! The proved library beside the model, on the same files in one process:
-//! time per step, how it grows, time to read and to write a file, peak memory
-//! and stack. With `--brief` it prints the same tables of a few repetitions,
-//! with `--instructions` instructions a step, which are the same every time.
+//! Compares the proved library with the model, on the same files in one
+//! process: time per step, how it grows, time to read and to write a file, peak
+//! memory and stack. `--brief` prints the same tables from a few repetitions,
+//! `--instructions` prints instructions per step, which are the same every
+//! time.
 
 mod file_times;
 mod files;
@@ -30,7 +31,7 @@ fn main() -> ExitCode {
         [] => report(FULL),
         ["--brief"] => report(BRIEF),
         ["--instructions"] => instructions::report(),
-        // What this program asks of a process of its own:
+        // The program starts itself with these arguments.
         ["peak", subject] => memory::print_peak(subject),
         ["repeat", subject, times] => instructions::repeat(subject, times),
         _ => {

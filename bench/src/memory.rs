@@ -1,5 +1,5 @@
-//! Peak memory of a process that does one thing, and the stack that a call
-//! takes.
+//! Measures the peak memory of a process that does one thing, and the stack
+//! that a call takes.
 
 use std::process::Command;
 use std::sync::atomic::{AtomicUsize, Ordering};
@@ -8,11 +8,12 @@ use std::{env, fs, io, thread};
 use crate::files::runs;
 use crate::subjects::named;
 
-/// Of the next thread that is measured. A thread may be given the stack of one
-/// that has ended, some of it in memory still, but not where it wants more.
+/// The stack size of the next measured thread. Each is larger than the last: a
+/// thread of the same size may get the stack of one that has ended, with some
+/// of it still in memory.
 static STACK: AtomicUsize = AtomicUsize::new(4 << 20);
 
-/// The peak of a process of this program that lists the first file, in KiB.
+/// Returns the peak memory, in KiB, of a process that lists the first file.
 pub fn of(subject: &str) -> io::Result<u64> {
     let output = Command::new(env::current_exe()?).args(["peak", subject]).output()?;
     let text = String::from_utf8_lossy(&output.stdout).trim().to_owned();
@@ -26,7 +27,7 @@ pub fn print_peak(subject: &str) -> io::Result<()> {
     Ok(())
 }
 
-/// VmHWM, the most memory that this process has had, in KiB.
+/// Returns VmHWM, the most memory that this process has had, in KiB.
 fn peak() -> io::Result<u64> {
     let status = fs::read_to_string("/proc/self/status")?;
     let line = status.lines().find_map(|line| line.strip_prefix("VmHWM:"));
@@ -34,8 +35,8 @@ fn peak() -> io::Result<u64> {
     number.ok_or_else(|| io::Error::other("no VmHWM in /proc/self/status"))
 }
 
-/// The stack that a call takes, in KiB: what it brings into memory of the
-/// stack of a new thread, in whole pages.
+/// Returns the stack that a call takes, in KiB: the whole pages of a new
+/// thread's stack that it brings into memory.
 pub fn stack(call: impl FnOnce() + Send) -> io::Result<u64> {
     let measured = || {
         let before = resident()?;
@@ -49,13 +50,13 @@ pub fn stack(call: impl FnOnce() + Send) -> io::Result<u64> {
     })
 }
 
-/// In a frame of its own, which is not there before the call.
+/// Makes the call in a frame of its own, which is not there before the call.
 #[inline(never)]
 fn apart(call: impl FnOnce()) {
     call();
 }
 
-/// How many KiB of this thread's stack are in memory.
+/// Returns how many KiB of this thread's stack are in memory.
 fn resident() -> io::Result<u64> {
     let local = 0_u8;
     let here = std::ptr::addr_of!(local) as u64;
@@ -65,7 +66,7 @@ fn resident() -> io::Result<u64> {
     number.ok_or_else(|| io::Error::other("no mapping of the stack in /proc/self/smaps"))
 }
 
-/// Whether the line begins a mapping that holds the address.
+/// Returns whether the line begins a mapping that contains the address.
 fn holds(line: &str, address: u64) -> bool {
     let bound = |text| u64::from_str_radix(text, 16).ok();
     let range = line.split(' ').next().and_then(|range| range.split_once('-'));

@@ -1,5 +1,4 @@
-//! What is measured: a file's bytes to its listing's, by the library and by
-//! two models.
+//! What is measured: making a file's listing, by the library and by two models.
 
 use std::io;
 
@@ -13,17 +12,18 @@ pub fn proved(file: &[u8]) -> usize {
     gevtsomi::list(file, &mut output).expect("room for any listing")
 }
 
-/// The model that asks question 1 before each step.
+/// Lists with the model that asks question 1 before each step.
 pub fn asking(file: &[u8]) -> usize {
     listing(file).len()
 }
 
-/// The model that does not ask it, as the proved run does not.
+/// Lists with the model that does not ask it. The proved run does not either.
 pub fn trusting(file: &[u8]) -> usize {
     listing_trusting(file).len()
 }
 
-/// The subject by the word that a second process of this program is given.
+/// Returns the subject with this name, which a process that the program starts
+/// gets as an argument.
 pub fn named(word: &str) -> io::Result<Subject<'static>> {
     match word {
         "nothing" => Ok(&|_| 0),
@@ -34,7 +34,7 @@ pub fn named(word: &str) -> io::Result<Subject<'static>> {
     }
 }
 
-/// What is measured is the same work.
+/// Checks that all subjects do the same work.
 pub fn same(file: &[u8]) {
     let mut output = [0; LISTING_BYTES];
     let len = gevtsomi::list(file, &mut output).expect("room for any listing");

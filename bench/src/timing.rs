@@ -1,26 +1,27 @@
-//! Medians of interleaved rounds.
+//! Takes medians of interleaved rounds.
 
 use std::hint::black_box;
 use std::time::{Duration, Instant};
 
 use crate::subjects::Subject;
 
-/// How much is measured. A round of each subject comes after the other, so
-/// that whatever else the machine does meets them alike.
+/// How much is measured. Rounds of the subjects alternate, so that other load
+/// on the machine affects them alike.
 #[derive(Clone, Copy)]
 pub struct Effort {
     rounds: usize,
-    /// How long a round of one subject should take at least.
+    /// The least time that a round of one subject should take.
     round: Duration,
 }
 
-/// What the numbers of docs/PERFORMANCE.md are taken with.
+/// For the numbers in docs/PERFORMANCE.md.
 pub const FULL: Effort = Effort { rounds: 41, round: Duration::from_millis(20) };
 
 /// Enough to see that everything runs.
 pub const BRIEF: Effort = Effort { rounds: 3, round: Duration::from_millis(2) };
 
-/// Nanoseconds that each subject takes for the file, median over the rounds.
+/// Returns the nanoseconds that each subject takes for the file, as the median
+/// over the rounds.
 pub fn medians(effort: Effort, file: &[u8], subjects: &[Subject]) -> Vec<f64> {
     let repeats: Vec<usize> = subjects.iter().map(|subject| repeats(effort, file, *subject)).collect();
     let mut times = vec![Vec::new(); subjects.len()];

@@ -1,5 +1,5 @@
-/* A message to its frame and back: prints the bytes of the frame of a GRANT,
-   then the fields that they hold. */
+/* Encodes a GRANT and decodes it again: prints the bytes of its frame, then some
+   of the decoded fields. */
 #include "gevtsomi.h"
 
 #include <inttypes.h>
@@ -7,7 +7,7 @@
 
 int main(void)
 {
-    /* to client 2, of object 5, with a value */
+    /* for client 2 and object 5, with a value */
     const uint8_t head[4] = {GEVTSOMI_GRANT, 2, 5, 1};
     /* number, volume expiry, epoch, version, object expiry */
     const uint32_t numbers[5] = {7, 110, 1, 3, 400};

@@ -3,8 +3,8 @@
 
 #include <stdio.h>
 
-/* Not on the stack, which the call needs for itself. One byte more than a run
-   file has shows that a file is too long. */
+/* Not on the stack, which the call needs for itself. The file has room for one
+   byte too many, so that an over-long file is refused and not truncated. */
 static uint8_t file[GEVTSOMI_FILE_BYTES + 1];
 static uint8_t listing[GEVTSOMI_LISTING_BYTES];
 

@@ -12,7 +12,7 @@ static const uint8_t setup[GEVTSOMI_SETUP_BYTES] = {3, 2, 4, 0, 10, 0, 0, 0, 100
 /* Not on the stack, which the call needs for itself. */
 static uint8_t file[GEVTSOMI_FILE_BYTES];
 
-/* Whether the text is a number of 32 bits. */
+/* Returns whether the text is a 32-bit number, and stores the number. */
 static int number(const char *text, uint32_t *value)
 {
     char *end;
@@ -32,7 +32,7 @@ int main(int argc, char **argv)
         fprintf(stderr, "expected a seed and a number of steps\n");
         return 2;
     }
-    /* No note: none of its bytes are lent, but no null address either. */
+    /* There is no note: its length is 0, but its address must not be null. */
     refusal = gevtsomi_workload(seed, setup, 0, setup, sizeof setup, steps, file, sizeof file,
                                 &written);
     if (refusal != GEVTSOMI_DONE) {

@@ -1,11 +1,11 @@
-//! The proved functions as the archive has them. A slice is two arguments,
-//! its address and its length. Each function gives 0 or a refusal's number,
-//! and reads and writes only what it is lent, during the call.
+//! Calls the proved functions in the archive. A slice is two arguments, its
+//! address and its length. Each function returns 0 or the refusal's number, and
+//! reads and writes only what it is lent, and only during the call.
 
 use crate::message::Fields;
 use crate::Refused;
 
-/// How many numbers a frame's fields are.
+/// The number of fields in a frame.
 const FIELDS: usize = 10;
 
 mod ffi {
@@ -55,6 +55,7 @@ mod ffi {
     }
 }
 
+/// Returns a refusal unless the number is 0.
 fn accepted(number: u8) -> Result<(), Refused> {
     match number {
         0 => Ok(()),
@@ -90,7 +91,7 @@ pub fn decode(frame: &[u8]) -> Result<Fields, Refused> {
         ffi::gevtsomi_decode(frame.as_ptr(), frame.len(), fields.as_mut_ptr(), fields.len())
     })?;
     let [kind, client, item, present, number, volume_expiry, epoch, version, object_expiry, value] = fields;
-    // Each number came out of a field of that width.
+    // Each number comes from a field of this width, so nothing is cut off.
     Ok(Fields {
         kind: kind as u8,
         client: client as u8,

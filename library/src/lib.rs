@@ -1,11 +1,11 @@
-//! The lease system of document 01 as a library to link: a whole run from
-//! the bytes of its file to the bytes of its listing, run files from their
-//! parts or from a seed, and messages to and from frames.
+//! The lease system of document 01 as a library. It lists whole runs, writes
+//! run files from their parts or from a seed, and converts messages to and from
+//! frames.
 //!
-//! What runs is the proved code in `libgevtsomi.a`. This package only turns
-//! slices, messages and a file's parts into its arguments: it decides
-//! nothing, allocates nothing and does no input or output, so that firmware
-//! can link it.
+//! The work is done by the proved code in `libgevtsomi.a`. This package only
+//! turns slices, messages and a file's parts into its arguments. It decides
+//! nothing, allocates nothing and does no input or output, so that firmware can
+//! link it.
 #![no_std]
 #![warn(missing_docs)]
 
@@ -25,7 +25,7 @@ pub use run::{list, FILE_BYTES, LISTING_BYTES, LIST_STACK_BYTES};
 /// A call was refused; it changed nothing.
 #[derive(Clone, Copy, Debug, PartialEq, Eq)]
 pub struct Refused {
-    /// The number of the question of documents 01 and 02 that was answered
+    /// The number of the question in documents 01 and 02 that was answered
     /// "no".
     pub number: u8,
 }

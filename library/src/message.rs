@@ -1,17 +1,16 @@
 //! Messages between server and clients, and a frame's ten fields.
 
-/// A message names its client, whichever way it goes, and carries one kind
-/// with that kind's fields.
+/// A message between the server and one client, with the fields of its kind.
 #[derive(Clone, Copy, Debug, PartialEq, Eq)]
 pub struct Message {
     /// The client that sends or receives it.
     pub client: u8,
-    /// What it says.
+    /// Its kind and that kind's fields.
     pub kind: Kind,
 }
 
-/// The six kinds, in the order of their numbers in a frame. The fields are
-/// those that document 01 names.
+/// The six kinds, in the order of their numbers in a frame. Document 01 defines
+/// the fields.
 #[allow(missing_docs)]
 #[derive(Clone, Copy, Debug, PartialEq, Eq)]
 pub enum Kind {
@@ -27,17 +26,17 @@ pub enum Kind {
         object_expiry: u32,
         value: Option<u64>,
     },
-    /// The server is about to change an object; this is its version to come.
+    /// The server is about to change an object; `version` is its next version.
     Invalidate { object: u8, epoch: u32, version: u32 },
     /// A client erased its copy.
     Ack { object: u8, epoch: u32, version: u32 },
     /// The server asks a client to drop its leases of a volume.
     Offer { volume: u8, number: u32, epoch: u32 },
-    /// The client did so.
+    /// The client dropped its leases of the volume.
     Dropped { volume: u8, number: u32, epoch: u32 },
 }
 
-/// A frame's fields in its order; 0 where the kind lacks one.
+/// A frame's fields, in its order; those that the kind lacks are 0.
 #[derive(Clone, Copy, Debug, Default)]
 pub(crate) struct Fields {
     pub kind: u8,
@@ -82,7 +81,7 @@ impl Fields {
         }
     }
 
-    /// The message; the kind is one of the six.
+    /// Returns the message. The kind must be one of the six.
     pub fn message(&self) -> Message {
         let Fields { item, number, epoch, version, .. } = *self;
         let kind = match self.kind {

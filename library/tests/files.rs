@@ -1,5 +1,5 @@
-//! Run files: 01's example from its parts, the first steps of a workload by
-//! hand, and what is refused.
+//! Run files: 01's example from its parts, the first steps of a workload worked
+//! out by hand, and refusals.
 
 use std::thread;
 
@@ -17,7 +17,7 @@ fn records(steps: &[Step]) -> Vec<u8> {
     steps.iter().flat_map(Step::record).collect()
 }
 
-/// The steps that document 01 prints the listing of.
+/// Returns the records of the steps whose listing document 01 shows.
 fn document() -> Vec<u8> {
     let kinds = [2, 3, 5, 5, 5, 3, 5, 5, 2].map(|kind| Step { kind, ..NONE });
     let clock = |clock| Step { kind: 1, clock, ..NONE };
@@ -26,8 +26,9 @@ fn document() -> Vec<u8> {
     records(&[&kinds[..], &[write, lose, clock(10), read, clock(11), clock(4)]].concat())
 }
 
-/// With 3 clients and 4 objects, from 50 draws worked out apart from any code
-/// of ours; the first are 1,013,904,223 and 1,196,435,762.
+/// Returns the records of the steps for 3 clients and 4 objects. The 50 draws
+/// were worked out apart from any code of this repository; the first are
+/// 1,013,904,223 and 1,196,435,762.
 fn ten_steps_of_seed_0() -> Vec<u8> {
     let step = |[kind, client, object, place, clock, value]: [u8; 6]| Step {
         kind,
@@ -52,8 +53,8 @@ fn ten_steps_of_seed_0() -> Vec<u8> {
     records(&fields.map(step))
 }
 
-/// What a call writes to an output of so much room, and that it writes
-/// nothing past the file.
+/// Returns what a call writes to an output of `room` bytes. Checks that it
+/// writes nothing past the file.
 fn written(room: usize, call: impl FnOnce(&mut [u8]) -> Result<usize, Refused>) -> Vec<u8> {
     let mut output = vec![0xaa; room];
     let len = call(&mut output).expect("a file");
@@ -62,7 +63,8 @@ fn written(room: usize, call: impl FnOnce(&mut [u8]) -> Result<usize, Refused>) 
     output
 }
 
-/// What a call refuses leaves the output as it was.
+/// Checks that a call is refused with this number and leaves the output as it
+/// was.
 fn refused(number: u8, room: usize, call: impl FnOnce(&mut [u8]) -> Result<usize, Refused>) {
     let mut output = vec![0xaa; room];
     assert_eq!(call(&mut output), Err(Refused { number }), "{room} bytes of output");
@@ -90,7 +92,7 @@ fn a_workload_is_the_file_of_its_steps() {
     }
 }
 
-/// Also where there are reasons for 10.
+/// The setup is checked first, even where there are reasons for 10.
 #[test]
 fn what_is_no_setup_is_7() {
     let good = setup(1, 1, 1);
@@ -121,7 +123,7 @@ fn what_has_no_file_is_10() {
     for count in [STEPS as u32 + 1, u32::MAX] {
         refused(10, FILE_BYTES, |output| workload(1, &[], &setup, count, output));
     }
-    // The note is as long as the file has room, and not longer.
+    // A note may fill a file up to the limit, but no further.
     let note = vec![b'n'; FILE_BYTES + 1 - 56 - largest.len()];
     refused(10, FILE_BYTES + 1, |output| write(&note, &setup, &largest, output));
     refused(10, FILE_BYTES + 1, |output| workload(1, &note, &setup, STEPS as u32, output));
@@ -152,7 +154,8 @@ fn steps_of_an_unknown_kind_are_written_as_they_are() {
     }
 }
 
-/// On a thread that has no more, and needs some of it for itself.
+/// Calls on a thread with just that much stack, some of which the thread needs
+/// for itself.
 #[test]
 fn the_stack_that_is_named_is_enough() {
     let setup = setup(16, 8, 32).bytes();

@@ -1,4 +1,4 @@
-//! Frames: each kind by its bytes, and what is refused.
+//! Frames: the bytes of each kind, and refusals.
 
 use gevtsomi::{decode, encode, Kind, Message, Refused, FRAME_BYTES};
 
@@ -23,7 +23,7 @@ const KINDS: [Kind; 6] = [
     Kind::Dropped { volume: 6, number: 7, epoch: 1 },
 ];
 
-/// The same six, laid out as document 01 says: four bytes, five numbers of 4
+/// The same six messages in document 01's layout: four bytes, five numbers of 4
 /// bytes and the value in 8.
 #[rustfmt::skip]
 const FIELDS: [([u8; 4], [u32; 5], u64); 6] = [

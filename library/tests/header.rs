@@ -1,4 +1,4 @@
-//! The header for C says what the package says.
+//! The C header has the same numbers as the package.
 
 use gevtsomi::{
     decode, list, workload, write, Setup, FILE_BYTES, FRAME_BYTES, LISTING_BYTES, LIST_STACK_BYTES,
@@ -8,7 +8,7 @@ use gevtsomi::{
 const HEADER: &str = include_str!("../gevtsomi.h");
 const FILE: &[u8] = include_bytes!("data/document.run");
 
-/// The number that the header defines a name as.
+/// Returns the number that the header defines for a name.
 fn defined(name: &str) -> usize {
     let mut definitions = HEADER.lines().filter_map(|line| line.strip_prefix("#define ")?.split_once(' '));
     let (_, number) = definitions.find(|(defined, _)| *defined == name).expect(name);

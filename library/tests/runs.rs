@@ -1,4 +1,4 @@
-//! Whole runs: document 01's example, and what is refused.
+//! Whole runs: document 01's example, and refusals.
 
 use std::thread;
 
@@ -35,7 +35,7 @@ fn an_output_too_short_stays_as_it_was() {
     }
 }
 
-/// Also where the output has no room for a listing.
+/// The file is checked first, even where the output has no room for a listing.
 #[test]
 fn what_is_no_run_file_is_refused() {
     let mut too_long = vec![0; FILE_BYTES + 1 - FILE.len()];
@@ -51,7 +51,8 @@ fn what_is_no_run_file_is_refused() {
     );
 }
 
-/// On a thread that has no more, and needs some of it for itself.
+/// Calls on a thread with just that much stack, some of which the thread needs
+/// for itself.
 #[test]
 fn the_stack_that_is_named_is_enough() {
     let mut output = vec![0; LISTING_BYTES];
