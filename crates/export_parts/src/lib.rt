@@ -1,5 +1,5 @@
 // Reads the parts of a run file that a caller in another language lends: a setup in 48 bytes, and steps in records of 16 bytes, laid out as in a file.
-// Bytes that are not such a part become one that the writer refuses.
+// Other bytes become a part that the writer refuses.
 ghost use Prim.Native.Nat.{_*_, _≤_};
 ghost use mathlib.Core.Path.{_≡_};
 ghost use lib.ListN.{length};

@@ -17,7 +17,7 @@ use Rattle.file_reader.specs.declared.Contents.{Contents}
 use Rattle.file_reader.specs.File.{stepAt, contents, contentsOf}
 use Rattle.file_reader.specs.Steps.{stepsOf, step-is}
 
--- What holds of an accepted file: the lengths of its parts, a setup in range, the number of steps, and where the running place starts.
+-- Facts about an accepted file: the lengths of its parts, a setup in range, the number of steps, and where the running place starts.
 pub record Accepted (l : List ℕ) (r : Contents) : Type 0 where
   pub parts : Parts l
   pub in-range : inRange (r .setup) ≡ true

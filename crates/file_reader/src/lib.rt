@@ -13,6 +13,7 @@ pub struct Contents {
     pub first: usize,
 }
 
+// Returns the contents of a refused file: refusal 9, and 0 in all other fields.
 fn refused() -> Contents
     ensures { λ r. ⌜ r ≡ noContents ⌝ }
 {

@@ -12,7 +12,7 @@ use Rattle.protocol.specs.Setup.{between, inRange}
 use Rattle.file_records.specs.Records.{setupIn}
 use Rattle.file_shape.specs.Shape.{countOf, distanceOf, setupPlace, firstPlace, reserved, stepsFit, trailerFits, measured, contentsFit, wellFormed}
 
--- What holds of a file that is `measured`.
+-- What `measured` guarantees about a file.
 pub record Parts (l : List ℕ) : Type 0 where
   pub long : 56 ≤ length l
   pub short : length l ≤ 65536

@@ -37,7 +37,7 @@ fileFits n x room = sizesFit n (x .len) room && allFit (held x)
 unfoldable pub writeRefusal : ℕ → Setup → Steps → ℕ → ℕ
 writeRefusal n s x room = orRefuse (inRange s) 7 (orRefuse (fileFits n x room) 10 0)
 
--- ---- what holds of a file that fits
+-- ---- what `fileFits` guarantees
 pub record Fitting (n : ℕ) (x : Steps) (room : ℕ) : Type 0 where
   pub few : x .len ≤ 4000
   pub short : fileLength n (x .len) ≤ 65536

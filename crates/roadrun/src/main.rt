@@ -10,7 +10,7 @@ use bytes_layout::output::Report;
 use input::Input;
 use libc::STDOUT_FILENO;
 
-// Writes what is printed for a file at the start of the output, and returns its length. The output holds any listing, so a refusal means a bad file.
+// Writes what the program prints for a file to `out`, and returns its length. The buffer holds any listing, so a refusal means a bad file.
 fn print(file: &[u8], out: &mut [u8]) -> usize
     requires { ⌜ 112640 ≤ length (now out) ⌝ }
     ensures { λ r. ⌜ Written (now (out .entry)) (now (out .exit)) 0 (printed (now (file .entry))) r ⌝ }

@@ -12,6 +12,7 @@ fn is_digit(byte: u8) -> bool {
     (48 <= byte) & (byte <= 57)
 }
 
+// Returns the offset of the first digit from `at` on, or the end of the text.
 fn first_digit(bytes: &[u8], at: usize) -> usize {
     let mut i = at;
     while i < bytes.len() {

@@ -45,7 +45,7 @@ pub fn frame(s: &[u8]) {
     }
 }
 
-// Encodes into an output of 31 bytes, which is refused and left as it was.
+// Encodes into an output of 31 bytes, which is refused and left unchanged.
 pub fn short_output() {
     let kind = Kind::Ack {
         object: 1,

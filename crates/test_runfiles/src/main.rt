@@ -74,6 +74,7 @@ fn two_steps() -> [u8; 91] {
     f
 }
 
+// Reads the file of two steps with one byte changed.
 fn changed_step(at: usize, b: u8)
     requires { ⌜ at < 91 ⌝ }
 {

@@ -1,4 +1,4 @@
-// Performs a step on client records that the words hold: lends the first of them to the public step, and stores what it left in the words.
+// Performs a step on the client records in the words: lends the first of them to the public step, and stores them back afterwards.
 ghost use Prim.Native.Nat.{_≤_};
 use protocol::records::Copy;
 use protocol::records::Request;
@@ -9,6 +9,7 @@ use state_words::Values;
 use state_words::Words;
 use test_case_reader::Case;
 
+// Returns all copies in the tables.
 fn copies_in<'a>(words: &'a Words, values: &'a Values) -> [Copy; 512] {
     let mut copies = [setup::fresh::fresh_copy(); 512];
     let mut i = 0;
@@ -19,6 +20,7 @@ fn copies_in<'a>(words: &'a Words, values: &'a Values) -> [Copy; 512] {
     copies
 }
 
+// Returns all requests in the words.
 fn requests_in(words: &Words) -> [Request; 16] {
     let mut requests = [setup::fresh::fresh_request(); 16];
     let mut i = 0;
@@ -45,6 +47,7 @@ fn keep_requests(words: &mut Words, requests: [Request; 16]) {
     }
 }
 
+// Stores all records back in the tables.
 fn keep(words: &mut Words, values: &mut Values, copies: [Copy; 512], requests: [Request; 16]) {
     keep_copies(&mut *words, &mut *values, copies);
     keep_requests(&mut *words, requests);

@@ -12,6 +12,7 @@ fn line(answer: u64, value: u64) {
     end();
 }
 
+// Prints done if no write completed, else completed and how many.
 fn completed(writes: u32) {
     if writes == 0 {
         line(0, 0);

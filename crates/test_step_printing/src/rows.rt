@@ -69,6 +69,7 @@ fn same_request(before: Request, after: Request) -> bool {
         & (before.object == after.object)
 }
 
+// Prints whether a request is open.
 fn stands(standing: bool) {
     if standing {
         text(b", standing");

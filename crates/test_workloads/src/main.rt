@@ -61,7 +61,7 @@ fn vectors(seed: u32) {
     ten_steps(seed);
 }
 
-// Writes a file of 92 bytes into an output of 96, whose last bytes stay, and into one of 91, which is refused and stays as it was.
+// Writes a file of 92 bytes into an output of 96, whose last 4 bytes stay, and into one of 91, which is refused and left unchanged.
 fn small_files() {
     let mut out = [170u8; 96];
     report(workload::write(1, b"ride", setup(), 2, &mut out));

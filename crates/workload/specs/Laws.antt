@@ -1,4 +1,4 @@
--- What holds of every workload: its clocks are at most 4 times the number of steps, every step fits into a run file, and the file reads back the same.
+-- Facts about every workload: its clocks are at most 4 times the number of steps, every step fits into a run file, and the file reads back the same.
 use Prim.Native.Nat.{ℕ, zero, suc, _*_, _<_, _≤_}
 use native.Mathlib.Omega.{arith}
 use mathlib.Core.Bool.{Bool, true, false, cond, not, _||_}

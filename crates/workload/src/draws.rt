@@ -21,6 +21,7 @@ pub fn next(seed: u32) -> u32
     std::num::wrapping_add_u32(product(seed), 1013904223)
 }
 
+// Returns the field if the step uses it, else 0. The same for a clock and a value below.
 fn byte_if(used: bool, byte: u8) -> u8
     ensures { λ r. ⌜ r ≡ cond used byte 0 ⌝ }
 {
