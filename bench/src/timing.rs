@@ -14,7 +14,7 @@ pub struct Effort {
     round: Duration,
 }
 
-/// For the numbers in docs/PERFORMANCE.md.
+/// The effort behind the numbers in docs/PERFORMANCE.md.
 pub const FULL: Effort = Effort { rounds: 41, round: Duration::from_millis(20) };
 
 /// Enough to see that everything runs.

@@ -41,7 +41,7 @@ impl Setup {
 }
 
 /// A step of a run. Fields that its kind does not use are 0; a step of an
-/// unknown kind may have anything in them.
+/// unknown kind may have anything in its fields.
 #[derive(Clone, Copy, Debug, Default, PartialEq, Eq)]
 pub struct Step {
     /// 1 clock, 2 read, 3 ask, 4 write, 5 deliver, 6 lose, 7 double, 8 restart

@@ -31,7 +31,7 @@ fn whole() {
     );
 }
 
-// Decodes a frame of this kind that is 0 but for one more byte.
+// Decodes a frame of this kind with one byte set; all its other bytes are 0.
 fn changed(kind: u8, at: usize, b: u8)
     requires { ⌜ at < 32 ⌝ }
 {

@@ -69,7 +69,7 @@ fn same_request(before: Request, after: Request) -> bool {
         & (before.object == after.object)
 }
 
-// Prints whether a request is open.
+// Prints whether the client has a request standing.
 fn stands(standing: bool) {
     if standing {
         text(b", standing");
