@@ -1,10 +1,10 @@
-//! Every text of a picture fits where it stands, no two share any room, and
-//! every message names its receiver.
+//! Every text of a picture fits where it stands, no two share any room, lines
+//! run behind the grounds of labels, and every message names its receiver.
 
 mod boxes;
 mod common;
 
-use boxes::{number, parts, Part};
+use boxes::{number, parts, Part, Shape};
 use common::example;
 use model::answer::Answer;
 use model::gen::runs::{run, Run};
@@ -82,6 +82,7 @@ fn assert_readable(picture: &str, name: &str) {
         if let Some((one, other)) = part.overlap() {
             panic!("{name}, {}: {one:?} meets {other:?}", part.name);
         }
+        assert_eq!(crossing(&part), None, "{name}, {}", part.name);
         match part.name.as_str() {
             "header" => assert_in_columns(&part, name),
             "lanes" => assert_in_bars(&part, name),
@@ -100,22 +101,31 @@ fn assert_in_columns(header: &Part, name: &str) {
     }
 }
 
+/// What crosses a label otherwise than behind its ground, or a mark that a
+/// ground hides.
+fn crossing(part: &Part) -> Option<String> {
+    part.near().into_iter().find_map(|(text, near)| {
+        let grounds = || near.iter().filter(|ground| ground.is_ground_of(text));
+        let bare = |shape: &Shape| !grounds().any(|ground| ground.place >= shape.place);
+        let through = near.iter().find(|shape| shape.runs_through(text) && bare(shape));
+        let hidden = near.iter().find(|mark| grounds().any(|ground| ground.hides(mark)));
+        let crossed = through.map(|shape| format!("{shape:?} runs through {text:?}"));
+        crossed.or(hidden.map(|mark| format!("{mark:?} is behind {text:?}")))
+    })
+}
+
 /// What a bar says is inside it, and what a step says inside its column.
 fn assert_in_bars(lanes: &Part, name: &str) {
-    let mut texts = lanes.texts.iter();
-    for group in &lanes.groups {
-        let count = group.iter().filter(|element| element.starts_with("<text ")).count();
-        let bar = group.iter().find(|element| element.starts_with("<rect "));
-        for text in texts.by_ref().take(count) {
-            let ((left, top), (right, bottom)) = text.bounds();
-            if text.class == "bar-text" {
-                let (x, y) = (number(bar.unwrap(), "x"), number(bar.unwrap(), "y"));
-                let end = (x + number(bar.unwrap(), "width"), y + number(bar.unwrap(), "height"));
-                assert!(text.within((x, y), end), "{name}: {text:?} outside {bar:?}");
-            } else if text.class.starts_with("value") || text.class.ends_with("receiver") {
-                let column = ((left + right) / 2.0 / COLUMN).floor() * COLUMN;
-                assert!(text.within((column, top), (column + COLUMN, bottom)), "{name}: {text:?}");
-            }
+    for (text, near) in lanes.near() {
+        let ((left, top), (right, bottom)) = text.bounds();
+        if text.class == "bar-text" {
+            let ground = near.iter().find(|shape| shape.is_ground_of(text)).expect("a ground");
+            let class = ground.class.strip_prefix("ground ").expect("a bar's colour");
+            let mut bars = near.iter().filter(|shape| shape.class == class);
+            assert!(bars.any(|bar| ground.within(bar)), "{name}: {text:?} outside its bar");
+        } else if text.class.starts_with("value") || text.class.ends_with("receiver") {
+            let column = ((left + right) / 2.0 / COLUMN).floor() * COLUMN;
+            assert!(text.within((column, top), (column + COLUMN, bottom)), "{name}: {text:?}");
         }
     }
 }
@@ -125,6 +135,22 @@ fn every_text_fits_and_no_two_meet() {
     for (place, run) in examples().chain(generated()).chain(long()).enumerate() {
         let timeline = Timeline::new(&run);
         assert_readable(&svg(&run, whole(&timeline)), &format!("run {place}"));
+    }
+}
+
+/// The same pictures are found wrong where labels have no grounds, or where
+/// lines are drawn after them.
+#[test]
+fn a_line_through_a_label_is_found() {
+    for run in examples().skip(4).take(2) {
+        let picture = svg(&run, whole(&Timeline::new(&run)));
+        let bare: Vec<&str> = picture.lines().filter(|line| !line.contains("class=\"ground")).collect();
+        assert!(crossing(&lanes(&bare.join("\n"))).unwrap().contains("runs through"));
+        let (last, others): (Vec<&str>, Vec<&str>) =
+            picture.lines().partition(|line| line.starts_with("<line class=\"arrow"));
+        let end = others.iter().position(|line| line.starts_with("<svg class=\"signs\"")).unwrap() - 1;
+        let after = [&others[..end], &last, &others[end..]].concat();
+        assert!(crossing(&lanes(&after.join("\n"))).unwrap().contains("runs through"));
     }
 }
 
@@ -163,7 +189,7 @@ fn the_widest_picture_is_below_16_000_pixels() {
 /// The words on each write's bar.
 fn writes(lanes: &Part) -> impl Iterator<Item = &str> {
     let written =
-        |group: &&Vec<String>| group.iter().any(|element| element.starts_with("<rect class=\"write"));
+        |group: &&Vec<String>| group.iter().any(|element| element.starts_with("<rect class=\"ground write"));
     let texts = lanes.groups.iter().filter(written).flatten().filter(|element| element.starts_with("<text "));
     texts.map(|element| element.split_once('>').unwrap().1.strip_suffix("</text>").unwrap())
 }
@@ -214,9 +240,12 @@ fn every_message_names_its_receiver() {
         let timeline = Timeline::new(&run);
         let lanes = lanes(&svg(&run, whole(&timeline)));
         assert_eq!(arrows(&lanes).count(), timeline.flights.len());
-        for (group, flight) in arrows(&lanes).zip(&timeline.flights) {
+        for (number, flight) in timeline.flights.iter().enumerate() {
             let named = format!("{}</text>", receiver(&flight.message));
-            assert!(group.iter().any(|element| element.ends_with(&named)), "run {place}: {group:?}");
+            let opens = format!("<g data-flight=\"{number}\"");
+            let said: Vec<&String> =
+                lanes.groups.iter().filter(|group| group[0].starts_with(&opens)).flatten().collect();
+            assert!(said.iter().any(|element| element.ends_with(&named)), "run {place}: {said:?}");
         }
     }
 }
@@ -270,7 +299,8 @@ fn every_mark_is_in_the_legend() {
         .map(|class| first(&class))
         .collect();
     assert!(drawn.len() > 15, "{drawn:?}");
-    for class in drawn.iter().filter(|class| !["lane", "row", "column", "refusal"].contains(&class.as_str()))
+    for class in
+        drawn.iter().filter(|class| !["lane", "row", "column", "refusal", "ground"].contains(&class.as_str()))
     {
         assert!(legend.contains(&format!("class=\"{class}")), "{class}");
     }

@@ -96,7 +96,9 @@ fn every_write_tells_what_fixes_its_end() {
     for number in (2..50).chain(52..100) {
         let run = run(23, number);
         let (picture, timeline) = (svg(&run, whole(&run)), Timeline::new(&run));
-        let mut titles = picture.split("<title>write of object ").skip(1);
+        // Of the bars; their words say the same.
+        let bar = |group: &&str| group.split("</g>").next().unwrap().contains("<rect class=\"write");
+        let mut titles = picture.split("<title>write of object ").skip(1).filter(bar);
         for write in timeline.spans.iter().filter(|span| matches!(span.track, Track::Write(_))) {
             let title = titles.next().unwrap().lines().next().unwrap();
             let line = &timeline.step(write.from).line;

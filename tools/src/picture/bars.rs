@@ -4,9 +4,9 @@ use model::step_record::{CLOCK, RESTART_SERVER, WRITE};
 
 use super::about::About;
 use super::layout::{row, Layout, COLUMN};
-use super::letters::{fitting, LABEL};
-use super::svg::{at, Svg};
-use super::tiles::{Taken, Tile};
+use super::letters::{width, LABEL};
+use super::svg::{at, Point, Svg, LEVEL};
+use super::tiles::{tries, Taken, Tile};
 use super::words::{span_title, wordings};
 use crate::timeline::spans::Span;
 use crate::timeline::tracks::Track;
@@ -23,45 +23,88 @@ struct Bar {
     to: f64,
 }
 
-pub fn draw(timeline: &Timeline, layout: &Layout, taken: &mut Taken, svg: &mut Svg) {
-    for span in &timeline.spans {
+impl Bar {
+    /// What the window shows of a span, if it does.
+    fn of(timeline: &Timeline, layout: &Layout, span: &Span) -> Option<Bar> {
         let (from, to) = (done(timeline, layout, span.from), end(timeline, layout, span));
-        let Some(top) = layout.row(span.track).filter(|_| layout.shows(from, to)) else {
-            continue;
+        let top = layout.row(span.track).filter(|_| layout.shows(from, to))?;
+        Some(Bar { top, from, to: to.min(layout.width) })
+    }
+
+    /// From its left end or the window's.
+    fn tile(&self, high: f64, low: f64) -> Tile {
+        Tile::level(at(self.from.max(0.0), self.top + high), at(self.to, self.top + low))
+    }
+}
+
+fn shown<'a>(timeline: &'a Timeline, layout: &'a Layout) -> impl Iterator<Item = (&'a Span, Bar)> + 'a {
+    timeline.spans.iter().filter_map(|span| Some((span, Bar::of(timeline, layout, span)?)))
+}
+
+pub fn draw(timeline: &Timeline, layout: &Layout, taken: &mut Taken, svg: &mut Svg) {
+    for (span, bar) in shown(timeline, layout) {
+        taken.cross(bar.tile(2.0, 18.5));
+        svg.titled(&span_title(timeline, span), About::row(row(span.track)), |svg| match span.track {
+            Track::Write(_) => write(timeline, layout, svg, span, bar),
+            _ => mark(svg, span, bar),
+        });
+    }
+}
+
+/// What the bars say, on a ground of their colour.
+pub fn words(timeline: &Timeline, layout: &Layout, taken: &mut Taken, svg: &mut Svg) {
+    for (span, bar) in shown(timeline, layout) {
+        let Some(class) = class(timeline, layout, span) else { continue };
+        let room = match span.track {
+            Track::Write(_) => before_latest(timeline, layout, span, bar),
+            _ => bar.to,
         };
-        let bar = Bar { top, from, to: to.min(layout.width) };
+        let wordings = wordings(timeline, span);
+        let labels = labels(taken, &wordings, Bar { to: room, ..bar });
+        if labels.is_empty() {
+            continue;
+        }
         svg.titled(&span_title(timeline, span), About::row(row(span.track)), |svg| {
-            mark(svg, span, bar);
-            let room = match span.track {
-                Track::Write(_) => write(timeline, layout, svg, span, bar),
-                _ => bar.to,
-            };
-            if named(span.track) {
-                label(taken, svg, &wordings(timeline, span), Bar { to: room, ..bar });
+            for (from, words) in labels {
+                svg.ground(&format!("ground {class}"), &Tile::of_words(from, LEVEL, words, LABEL));
+                svg.text("bar-text", from, words);
             }
         });
     }
 }
 
 fn mark(svg: &mut Svg, span: &Span, bar: Bar) {
-    let mut rect =
-        |class, down, height| svg.rect(class, at(bar.from, bar.top + down), bar.to - bar.from, height);
+    let line = |svg: &mut Svg, class: &str, down: f64| {
+        svg.line(class, at(bar.from, bar.top + down), at(bar.to, bar.top + down))
+    };
     match span.track {
-        Track::Write(_) => (),
-        Track::Guard(_) => rect("guard", 4.0, 11.0),
-        Track::VolumeLease(..) => rect("volume-lease", 4.0, 11.0),
-        Track::ObjectLease(..) => rect("object-lease", 4.0, 11.0),
-        Track::ServerVolumeLease(..) | Track::ServerObjectLease(..) => rect("noted", 2.0, 2.0),
-        Track::Copy(..) => svg.line("copy", at(bar.from, bar.top + 16.3), at(bar.to, bar.top + 16.3)),
-        Track::Unreachable(..) => {
-            svg.line("unreachable", at(bar.from, bar.top + 18.3), at(bar.to, bar.top + 18.3))
-        }
+        Track::ServerVolumeLease(..) | Track::ServerObjectLease(..) => rect(svg, "noted", bar, 2.0, 2.0),
+        Track::Copy(..) => line(svg, "copy", 16.3),
+        Track::Unreachable(..) => line(svg, "unreachable", 18.3),
+        track => rect(svg, lease(track), bar, 4.0, 11.0),
     }
 }
 
-fn named(track: Track) -> bool {
-    use Track::*;
-    matches!(track, Write(_) | Guard(_) | VolumeLease(..) | ObjectLease(..))
+fn rect(svg: &mut Svg, class: &str, bar: Bar, down: f64, height: f64) {
+    svg.rect(class, at(bar.from, bar.top + down), bar.to - bar.from, height);
+}
+
+fn lease(track: Track) -> &'static str {
+    match track {
+        Track::Guard(_) => "guard",
+        Track::VolumeLease(..) => "volume-lease",
+        _ => "object-lease",
+    }
+}
+
+/// Of a bar that has words.
+fn class(timeline: &Timeline, layout: &Layout, span: &Span) -> Option<&'static str> {
+    match span.track {
+        Track::Write(_) if cut_off(timeline, layout, span) => Some("write cut-off"),
+        Track::Write(_) => Some("write"),
+        Track::Guard(_) | Track::VolumeLease(..) | Track::ObjectLease(..) => Some(lease(span.track)),
+        _ => None,
+    }
 }
 
 /// Where a step has done its work: a clock step at its column's right edge,
@@ -85,33 +128,46 @@ fn end(timeline: &Timeline, layout: &Layout, span: &Span) -> f64 {
     }
 }
 
-fn label(taken: &mut Taken, svg: &mut Svg, wordings: &[String], bar: Bar) {
+/// From the bar's beginning and again far from it, clear of what no label may
+/// hide.
+fn labels<'a>(taken: &mut Taken, wordings: &'a [String], bar: Bar) -> Vec<(Point, &'a str)> {
+    let mut labels = Vec::new();
     let mut x = bar.from.max(0.0);
     while x < bar.to {
-        if let Some(words) = fitting(wordings, bar.to - x - 5.0, LABEL) {
-            let from = at(x + 3.0, bar.top + 12.4);
-            svg.text("bar-text", from, words);
-            taken.take(Tile::of_words(from, at(1.0, 0.0), words, LABEL));
-        }
+        let right = bar.to.min(x + AGAIN) - 2.0;
+        let spots = wordings.iter().flat_map(|words| {
+            let room = right - x - 3.0 - width(words, LABEL);
+            tries(room).map(move |far| (at(x + 3.0 + far, bar.top + 12.4), words.as_str()))
+        });
+        let tiles = spots.map(|(from, words)| (Tile::of_words(from, LEVEL, words, LABEL), (from, words)));
+        labels.extend(taken.first(tiles));
         x += AGAIN;
     }
+    labels
+}
+
+fn cut_off(timeline: &Timeline, layout: &Layout, span: &Span) -> bool {
+    ended(layout, span).is_some_and(|step| timeline.step(step).step.kind == RESTART_SERVER)
+}
+
+/// The step in the window that ended it.
+fn ended(layout: &Layout, span: &Span) -> Option<usize> {
+    span.to.filter(|&step| step <= layout.window.to)
 }
 
 /// A write has its latest end where the clock reaches it: a tick in the bar,
-/// or past its completion with a thin line up to there. How far its words may
-/// go: they keep clear of the tick.
-fn write(timeline: &Timeline, layout: &Layout, svg: &mut Svg, span: &Span, bar: Bar) -> f64 {
+/// or past its completion with a thin line up to there.
+fn write(timeline: &Timeline, layout: &Layout, svg: &mut Svg, span: &Span, bar: Bar) {
     let Bar { top, from, to } = bar;
-    let ended = span.to.filter(|&step| step <= layout.window.to);
-    let cut_off = ended.is_some_and(|step| timeline.step(step).step.kind == RESTART_SERVER);
-    svg.rect(if cut_off { "write cut-off" } else { "write" }, at(from, top + 4.0), to - from, 11.0);
+    let cut_off = cut_off(timeline, layout, span);
+    rect(svg, if cut_off { "write cut-off" } else { "write" }, bar, 4.0, 11.0);
     svg.line("drop", at(from, top + 15.0), at(from, layout.server));
-    if ended.is_some() && !cut_off {
+    if ended(layout, span).is_some() && !cut_off {
         svg.shape("completed", &[at(to, top + 4.0), at(to + 6.0, top + 9.5), at(to, top + 15.0)]);
     }
     let (latest, reached) = latest_end(timeline, layout, span);
     if latest > to && cut_off {
-        return to;
+        return;
     }
     if latest > to {
         svg.line("latest-rest", at(to, top + 9.5), at(latest.min(layout.width), top + 9.5));
@@ -119,10 +175,13 @@ fn write(timeline: &Timeline, layout: &Layout, svg: &mut Svg, span: &Span, bar: 
     if reached && latest <= layout.width {
         svg.line("latest", at(latest, top + 2.0), at(latest, top + 17.0));
     }
-    if reached {
-        to.min(latest)
-    } else {
-        to
+}
+
+/// How far a write's words may go: they keep clear of the tick.
+fn before_latest(timeline: &Timeline, layout: &Layout, span: &Span, bar: Bar) -> f64 {
+    match latest_end(timeline, layout, span) {
+        (latest, true) => bar.to.min(latest),
+        _ => bar.to,
     }
 }
 

@@ -6,7 +6,10 @@ let fold = y => y;
 const pictured = [...names.querySelectorAll('text'), ...lanes.querySelectorAll('line, rect, circle, polygon, text')];
 const drawn = new Map(pictured.map(element =>
   [element, Object.fromEntries([...element.attributes].map(one => [one.name, one.value]))]));
-const flights = new Set([...lanes.querySelectorAll('.arrow')].map(arrow => arrow.parentNode));
+const flights = [...lanes.querySelectorAll('.arrow')].map(arrow => arrow.parentNode);
+// What is said of a flight, apart from its arrow.
+const said = new Map([...lanes.querySelectorAll('[data-flight]')].filter(group => !group.querySelector('.arrow'))
+  .map(group => [group.dataset.flight, group]));
 const laneLines = new Map([...names.querySelectorAll('.lane-name')].map(name =>
   [name.parentNode.dataset.client ?? 'server', drawn.get(name).y - 4]));
 const fullHeight = +lanes.dataset.height;
@@ -23,9 +26,9 @@ function foldAll() {
   fold = y => bands.reduce((to, [top, bottom]) => to - Math.max(0, Math.min(y, bottom) - top), y);
   for (const element of pictured) {
     const group = element.parentNode;
-    if (!flights.has(group) && shows(group)) place(element, drawn.get(element));
+    if (!group.dataset.flight && shows(group)) place(element, drawn.get(element));
   }
-  const lowest = reroute([...flights].filter(shows));
+  const lowest = reroute(flights.filter(shows));
   for (const svg of [names, lanes]) {
     svg.dataset.height = Math.max(fold(fullHeight), lowest);
     svg.setAttribute('viewBox', `0 0 ${svg.dataset.width} ${svg.dataset.height}`);
@@ -85,27 +88,41 @@ function turn(group, toY) {
   const arrow = group.querySelector('.arrow');
   const [x1, y1, x2, y2] = ['x1', 'y1', 'x2', 'y2'].map(name => +drawn.get(arrow)[name]);
   const fromY = beginning(group, y1);
-  const [was, is] = [Math.atan2(y2 - y1, x2 - x1), Math.atan2(toY - fromY, x2 - x1)];
-  const [length, degrees] = [Math.hypot(toY - fromY, x2 - x1), angle => angle * 180 / Math.PI];
+  const way = { x1, y1, fromY, was: Math.atan2(y2 - y1, x2 - x1), is: Math.atan2(toY - fromY, x2 - x1),
+    length: Math.hypot(toY - fromY, x2 - x1) };
   arrow.setAttribute('y1', fromY);
   arrow.setAttribute('y2', toY);
-  const start = `translate(${x1} ${fromY}) rotate(${degrees(is)})`;
-  for (const element of [...group.children].filter(one => one !== arrow && drawn.has(one))) {
+  const words = said.get(group.dataset.flight)?.children ?? [];
+  for (const element of [...group.children, ...words].filter(one => one !== arrow && drawn.has(one))) {
     const { class: name, transform } = drawn.get(element);
     if (transform) {
-      const [e, f] = transform.match(/[-0-9.]+/g).slice(4).map(Number);
-      const along = (e - x1) * Math.cos(was) + (f - y1) * Math.sin(was);
-      const across = (f - y1) * Math.cos(was) - (e - x1) * Math.sin(was);
-      const wide = element.textContent.length * 5.185;
-      const there = Math.max(8, Math.min(along, length - 12 - wide));
-      const fits = there + wide < length && free(x1, fromY, is, there, wide, across);
-      element.setAttribute('transform', `${start} translate(${there} ${across})`);
-      element.setAttribute('visibility', fits || !filters.length ? 'visible' : 'hidden');
+      if (element.tagName === 'text') turnLabel(element, way);
     } else if (name.startsWith('head')) {
-      const tip = `translate(${x2} ${toY}) rotate(${degrees(is - was)})`;
+      const tip = `translate(${x2} ${toY}) rotate(${degrees(way.is - way.was)})`;
       element.setAttribute('transform', `${tip} translate(${-x2} ${-y2})`);
     } else {
       element.setAttribute('transform', `translate(0 ${name.startsWith('doubled') ? fromY - y1 : toY - y2})`);
     }
+  }
+}
+
+const degrees = angle => angle * 180 / Math.PI;
+
+// How far along the way and across it an element was drawn.
+function onWay(element, { x1, y1, was }) {
+  const [e, f] = drawn.get(element).transform.match(/[-0-9.]+/g).slice(4).map(Number);
+  return [(e - x1) * Math.cos(was) + (f - y1) * Math.sin(was), (f - y1) * Math.cos(was) - (e - x1) * Math.sin(was)];
+}
+
+// A label along the way, with its ground.
+function turnLabel(text, way) {
+  const [along, across] = onWay(text, way);
+  const wide = text.textContent.length * 5.185;
+  const there = Math.max(8, Math.min(along, way.length - 12 - wide));
+  const fits = there + wide < way.length && free(way.x1, way.fromY, way.is, there, wide, across);
+  for (const element of [text.previousElementSibling, text]) {
+    const place = `translate(${there} ${onWay(element, way)[1]})`;
+    element.setAttribute('transform', `translate(${way.x1} ${way.fromY}) rotate(${degrees(way.is)}) ${place}`);
+    element.setAttribute('visibility', fits || !filters.length ? 'visible' : 'hidden');
   }
 }

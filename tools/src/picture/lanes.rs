@@ -3,7 +3,7 @@
 use super::about::About;
 use super::layout::{Layout, COLUMN, ROW};
 use super::letters::VALUE;
-use super::svg::{at, Point, Svg};
+use super::svg::{at, Point, Svg, LEVEL};
 use super::tiles::{Taken, Tile};
 
 /// Columns after which a lane is named again.
@@ -28,13 +28,15 @@ fn lanes(layout: &Layout) -> Vec<(About, String, f64)> {
     std::iter::once(server).chain(clients).collect()
 }
 
-pub fn lines(layout: &Layout, svg: &mut Svg) {
+pub fn lines(layout: &Layout, taken: &mut Taken, svg: &mut Svg) {
     for (row, top) in &layout.rows {
         let y = top + ROW;
         svg.group(About::row(*row), |svg| svg.line("row", at(0.0, y), at(layout.width, y)));
     }
     for (lane, _, y) in lanes(layout) {
-        svg.group(lane, |svg| svg.line("lane", at(0.0, y), at(layout.width, y)));
+        let (from, to) = (at(0.0, y), at(layout.width, y));
+        taken.cross(Tile::line(from, to, 1.5));
+        svg.group(lane, |svg| svg.line("lane", from, to));
     }
 }
 
@@ -44,9 +46,12 @@ pub fn again(layout: &Layout, taken: &mut Taken, svg: &mut Svg) {
         let mut x = AGAIN;
         while x + AGAIN / 2.0 < layout.width {
             let spots = (0..24).map(|column| at(x + f64::from(column) * COLUMN / 2.0, y - 4.0));
-            let free = |spot: &Point| taken.try_take(Tile::of_words(*spot, at(1.0, 0.0), &name, VALUE));
-            if let Some(spot) = spots.into_iter().find(free) {
-                svg.group(lane, |svg| svg.text("again", spot, &name));
+            let tile = |spot: Point| Tile::of_words(spot, LEVEL, &name, VALUE);
+            if let Some(spot) = taken.best(spots.map(|spot| (tile(spot), spot))) {
+                svg.group(lane, |svg| {
+                    svg.ground("ground", &tile(spot));
+                    svg.text("again", spot, &name)
+                });
             }
             x += AGAIN;
         }

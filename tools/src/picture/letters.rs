@@ -28,11 +28,6 @@ fn advance(c: char) -> f64 {
     }
 }
 
-/// The first of these wordings that fits.
-pub fn fitting(wordings: &[String], room: f64, size: f64) -> Option<&str> {
-    wordings.iter().map(String::as_str).find(|words| width(words, size) <= room)
-}
-
 /// What fits, and a sign that there is more.
 pub fn cut(words: &str, room: f64, size: f64) -> String {
     let mut kept = words.to_string();

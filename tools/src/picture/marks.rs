@@ -30,8 +30,10 @@ pub fn draw(timeline: &Timeline, layout: &Layout, taken: &mut Taken, svg: &mut S
             mark(layout, taken, svg, view, spot);
             if let Some((class, words)) = said(view) {
                 let beside = at(spot.x, layout.beside(spot.y));
+                let tile = Tile::of_centered(beside, &words, VALUE);
+                svg.ground("ground", &tile);
                 svg.text(&format!("value {class}"), beside, &words);
-                taken.take(Tile::of_centered(beside, &words, VALUE));
+                taken.take(tile);
             }
         });
     }
@@ -46,12 +48,12 @@ fn mark(layout: &Layout, taken: &mut Taken, svg: &mut Svg, view: &StepView, spot
             svg.circle("ask-first", spot, 6.0);
             svg.text("question", at(x, y + 3.2), "?");
         }
-        (answer, WRITE) => write(svg, answer, spot),
-        (_, ASK) => return svg.circle("asked", spot, 3.0),
+        (answer, WRITE) => write(svg, taken, answer, spot),
+        (_, ASK) => svg.circle("asked", spot, 3.0),
         (_, RESTART_SERVER | RESTART_CLIENT) => return restart(layout, taken, svg, view, spot),
         _ => return,
     }
-    taken.take(Tile::level(at(x - 6.0, y - 6.0), at(x + 6.0, y + 6.0)));
+    taken.take(Tile::around(spot, 7.0));
 }
 
 /// What stands beside the lane's line, with its class. The answer of a write
@@ -67,11 +69,12 @@ fn said(view: &StepView) -> Option<(&'static str, String)> {
     }
 }
 
-fn write(svg: &mut Svg, answer: Answer, spot: Point) {
+fn write(svg: &mut Svg, taken: &mut Taken, answer: Answer, spot: Point) {
     let Point { x, y } = spot;
     svg.rect("accepted", at(x - 4.0, y - 4.0), 8.0, 8.0);
     if matches!(answer, Answer::Completed(_)) {
         svg.shape("completed", &[at(x + 4.0, y - 6.0), at(x + 11.0, y), at(x + 4.0, y + 6.0)]);
+        taken.take(Tile::around(at(x + 6.0, y), 6.0));
     }
 }
 

@@ -9,6 +9,7 @@ pub mod layout;
 mod legend;
 mod letters;
 mod marks;
+mod messages;
 mod page;
 mod paths;
 pub mod svg;
@@ -50,16 +51,20 @@ impl Parts {
         let layout = Layout::new(timeline, window);
         let header_height = header::height(timeline, &layout);
         let (mut header, mut names, mut body) = (Svg::default(), Svg::default(), Svg::default());
-        let (mut marks, mut taken) = (Svg::default(), Taken::default());
         header::draw(timeline, &layout, header_height, &mut header);
         lanes::names(&layout, NAMES, &mut names);
+        let (mut taken, shown) = (Taken::default(), paths::shown(&layout, &timeline.flights));
         marks::columns(timeline, &layout, &mut body);
-        lanes::lines(&layout, &mut body);
+        lanes::lines(&layout, &mut taken, &mut body);
         bars::draw(timeline, &layout, &mut taken, &mut body);
-        marks::draw(timeline, &layout, &mut taken, &mut marks);
-        arrows::draw(timeline, &layout, &mut taken, &mut body);
+        arrows::draw(timeline, &layout, &shown, &mut taken, &mut body);
+        marks::draw(timeline, &layout, &mut taken, &mut body);
+        // Words come last, on their grounds: first what has one place alone.
+        messages::reserve(&layout, &shown, &mut taken);
+        bars::words(timeline, &layout, &mut taken, &mut body);
+        messages::draw(timeline, &layout, &shown, &mut taken, &mut body);
         lanes::again(&layout, &mut taken, &mut body);
-        Parts { layout, header_height, header: header.0, names: names.0, lanes: body.0 + &marks.0 }
+        Parts { layout, header_height, header: header.0, names: names.0, lanes: body.0 }
     }
 
     /// Of the lanes, with what is right of the last column.

@@ -38,8 +38,22 @@ impl Path {
     }
 }
 
+/// A message of which the window has something, with its place in the list
+/// of flights.
+pub struct Shown<'a> {
+    pub place: usize,
+    pub flight: &'a Flight,
+    pub path: Path,
+}
+
+pub fn shown<'a>(layout: &Layout, flights: &'a [Flight]) -> Vec<Shown<'a>> {
+    let paths = all(layout, flights).into_iter().zip(flights).enumerate();
+    let shown = paths.map(|(place, (path, flight))| Shown { place, flight, path });
+    shown.filter(|one| layout.shows(one.path.from.x, one.path.to.x)).collect()
+}
+
 /// All of them, also outside the window.
-pub fn all(layout: &Layout, flights: &[Flight]) -> Vec<Path> {
+fn all(layout: &Layout, flights: &[Flight]) -> Vec<Path> {
     let mut paths: Vec<Path> = Vec::with_capacity(flights.len());
     for (place, flight) in flights.iter().enumerate() {
         let from = from(layout, &paths, flight);

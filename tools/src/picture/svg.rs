@@ -4,12 +4,16 @@
 use std::fmt::Write;
 
 use super::about::About;
+use super::tiles::Tile;
 
 #[derive(Clone, Copy, Debug, PartialEq)]
 pub struct Point {
     pub x: f64,
     pub y: f64,
 }
+
+/// From left to right.
+pub const LEVEL: Point = Point { x: 1.0, y: 0.0 };
 
 pub fn at(x: f64, y: f64) -> Point {
     Point { x, y }
@@ -41,6 +45,11 @@ pub fn escaped(text: &str) -> String {
         }
     }
     out
+}
+
+/// From there, in the direction of a unit vector.
+fn turn(a: Point, way: Point) -> String {
+    format!("matrix({:.3} {:.3} {:.3} {:.3} {} {})", way.x, way.y, -way.y, way.x, n(a.x), n(a.y))
 }
 
 impl Svg {
@@ -85,9 +94,20 @@ impl Svg {
 
     /// Text in the direction of a unit vector.
     pub fn text_along(&mut self, class: &str, a: Point, way: Point, words: &str) {
-        let (x, y, words) = (n(a.x), n(a.y), escaped(words));
-        let turn = format!("{:.3} {:.3} {:.3} {:.3} {x} {y}", way.x, way.y, -way.y, way.x);
-        self.put(format_args!("<text class=\"{class}\" transform=\"matrix({turn})\">{words}</text>"));
+        let (turn, words) = (turn(a, way), escaped(words));
+        self.put(format_args!("<text class=\"{class}\" transform=\"{turn}\">{words}</text>"));
+    }
+
+    /// The ground under a label, which hides what runs through its room.
+    pub fn ground(&mut self, class: &str, tile: &Tile) {
+        let (corner, width, height) = tile.unturned();
+        if tile.way.y == 0.0 {
+            return self.rect(class, corner, width, height);
+        }
+        let (turn, width, height) = (turn(corner, tile.way), n(width), n(height));
+        self.put(format_args!(
+            "<rect class=\"{class}\" transform=\"{turn}\" width=\"{width}\" height=\"{height}\"/>"
+        ));
     }
 
     /// Elements that show these words when pointed at.
@@ -96,6 +116,14 @@ impl Svg {
             svg.put(format_args!("<title>{}</title>", escaped(title)));
             inside(svg);
         });
+    }
+
+    /// The same of a message, by its place in the list of flights: its arrow,
+    /// and apart from it what is said of it.
+    pub fn of_flight(&mut self, place: usize, title: &str, about: About, inside: impl FnOnce(&mut Svg)) {
+        self.put(format_args!("<g data-flight=\"{place}\"{about}>\n<title>{}</title>", escaped(title)));
+        inside(self);
+        self.put(format_args!("</g>"));
     }
 
     pub fn group(&mut self, about: About, inside: impl FnOnce(&mut Svg)) {

@@ -3,13 +3,19 @@
 
 use std::collections::BTreeMap;
 
+mod corners;
+mod shapes;
+mod style;
+
+pub use corners::Corner;
+pub use shapes::Shape;
+use style::Style;
+
 /// Of the size, in the widest of the common fixed-width fonts, and how far
 /// letters reach above and below their line.
 const ADVANCE: f64 = 0.602;
 const ABOVE: f64 = 0.76;
 const BELOW: f64 = 0.24;
-
-pub type Corner = (f64, f64);
 
 /// A text, with its four corners in its part's coordinates.
 #[derive(Clone, Debug)]
@@ -17,6 +23,8 @@ pub struct Text {
     pub class: String,
     pub words: String,
     pub corners: [Corner; 4],
+    /// Its line of the picture: what has a higher one is drawn over it.
+    pub place: usize,
 }
 
 /// A part of the picture, which cuts off what is outside.
@@ -25,7 +33,9 @@ pub struct Part {
     pub name: String,
     pub size: Corner,
     pub texts: Vec<Text>,
-    /// The groups: their elements, line by line.
+    /// All that is drawn but texts.
+    pub shapes: Vec<Shape>,
+    /// The groups: what opens each, then its elements, line by line.
     pub groups: Vec<Vec<String>>,
 }
 
@@ -44,7 +54,7 @@ pub fn parts(svg: &str) -> Vec<Part> {
     let style = Style::of(svg);
     let mut parts = vec![Part::default()];
     let mut open = 0;
-    for line in svg.lines() {
+    for (place, line) in svg.lines().enumerate() {
         if line.starts_with("<svg ") {
             let size = (number(line, "width"), number(line, "height"));
             let name = attribute(line, "class").unwrap_or("all").to_string();
@@ -57,86 +67,64 @@ pub fn parts(svg: &str) -> Vec<Part> {
         } else if line == "</svg>" {
             open = 0;
         } else if line.starts_with("<g") {
-            parts[open].groups.push(Vec::new());
+            parts[open].groups.push(vec![line.to_string()]);
         } else if line.starts_with('<') {
             if let Some(group) = parts[open].groups.last_mut() {
                 group.push(line.to_string());
             }
             if line.starts_with("<text ") {
-                parts[open].texts.push(text(&style, line));
+                parts[open].texts.push(text(&style, line, place));
             }
+            parts[open].shapes.extend(Shape::of(&style, line, place));
         }
     }
     parts
 }
 
-fn text(style: &Style, line: &str) -> Text {
+fn text(style: &Style, line: &str, place: usize) -> Text {
     let class = attribute(line, "class").expect("a class").to_string();
     let words = line.split_once('>').unwrap().1.split("</text>").next().unwrap();
     let words = words.replace("&quot;", "\"").replace("&lt;", "<").replace("&gt;", ">").replace("&amp;", "&");
     let size: f64 = style.value(&class, "font-size").parse().unwrap();
     let width = words.chars().count() as f64 * size * ADVANCE;
-    let (way, from) = match attribute(line, "transform") {
-        Some(matrix) => {
-            let inside = matrix.trim_start_matches("matrix(").trim_end_matches(')');
-            let m: Vec<f64> = inside.split(' ').map(|n| n.parse().unwrap()).collect();
-            ((m[0], m[1]), (m[4], m[5]))
-        }
-        None => ((1.0, 0.0), (number(line, "x"), number(line, "y"))),
-    };
+    let turn = turn(line);
     let begin = match style.value(&class, "text-anchor") {
         "middle" => -width / 2.0,
         "end" => -width,
         _ => 0.0,
     };
-    let corner = |along: f64, down: f64| {
-        (from.0 + along * way.0 - down * way.1, from.1 + along * way.1 + down * way.0)
+    let corners = turn.rectangle((begin, -ABOVE * size), (begin + width, BELOW * size));
+    Text { class, words, corners, place }
+}
+
+/// Where an element begins and which way it goes.
+struct Turn {
+    from: Corner,
+    way: Corner,
+}
+
+fn turn(line: &str) -> Turn {
+    let Some(matrix) = attribute(line, "transform") else {
+        return Turn { from: (number(line, "x"), number(line, "y")), way: (1.0, 0.0) };
     };
-    let (up, down) = (-ABOVE * size, BELOW * size);
-    let end = begin + width;
-    let corners = [corner(begin, up), corner(end, up), corner(end, down), corner(begin, down)];
-    Text { class, words, corners }
+    let inside = matrix.trim_start_matches("matrix(").trim_end_matches(')');
+    let m: Vec<f64> = inside.split(' ').map(|n| n.parse().unwrap()).collect();
+    Turn { from: (m[4], m[5]), way: (m[0], m[1]) }
 }
 
-/// Font sizes and anchors by selector.
-struct Style(Vec<(Vec<String>, BTreeMap<String, String>)>);
-
-impl Style {
-    fn of(svg: &str) -> Style {
-        let css = svg.split_once("<style>").unwrap().1.split_once("</style>").unwrap().0;
-        let mut rules = Vec::new();
-        for rule in css.split('}') {
-            let Some((selectors, properties)) = rule.split_once('{') else { continue };
-            let properties: BTreeMap<String, String> =
-                properties.split(';').filter_map(|p| p.split_once(':')).map(property).collect();
-            for selector in selectors.split(',').map(str::trim).filter(|s| s.starts_with('.')) {
-                let classes = selector[1..].split('.').map(str::to_string).collect();
-                rules.push((classes, properties.clone()));
-            }
-        }
-        rules.sort_by_key(|(classes, _): &(Vec<String>, _)| classes.len());
-        Style(rules)
+impl Turn {
+    fn rectangle(&self, (left, up): Corner, (right, down): Corner) -> [Corner; 4] {
+        let Turn { from, way } = self;
+        let corner = |along: f64, down: f64| {
+            (from.0 + along * way.0 - down * way.1, from.1 + along * way.1 + down * way.0)
+        };
+        [corner(left, up), corner(right, up), corner(right, down), corner(left, down)]
     }
-
-    fn value(&self, class: &str, name: &str) -> &str {
-        let classes: Vec<&str> = class.split(' ').collect();
-        let fits = |selector: &[String]| selector.iter().all(|one| classes.contains(&one.as_str()));
-        let rules = self.0.iter().rev().filter(|(selector, _)| fits(selector));
-        let found = rules.filter_map(|(_, properties)| properties.get(name)).next();
-        found.map_or(if name == "font-size" { "9" } else { "start" }, String::as_str)
-    }
-}
-
-fn property((name, value): (&str, &str)) -> (String, String) {
-    (name.trim().to_string(), value.trim().trim_end_matches("px").to_string())
 }
 
 impl Text {
     pub fn bounds(&self) -> (Corner, Corner) {
-        let (x, y) = (self.corners.map(|corner| corner.0), self.corners.map(|corner| corner.1));
-        let least = |all: [f64; 4]| all.into_iter().fold(f64::INFINITY, f64::min);
-        let most = |all: [f64; 4]| all.into_iter().fold(f64::NEG_INFINITY, f64::max);
-        ((least(x), least(y)), (most(x), most(y)))
+        corners::bounds(&self.corners)
     }
 
     pub fn within(&self, from: Corner, to: Corner) -> bool {
@@ -145,27 +133,47 @@ impl Text {
         low.0 >= from.0 - slack && low.1 >= from.1 - slack && high.0 <= to.0 + slack && high.1 <= to.1 + slack
     }
 
-    /// Whether no side of either has the two on different sides of it.
     pub fn meets(&self, other: &Text) -> bool {
-        let parted = |sides: &[Corner; 4]| {
-            (0..2).any(|side| {
-                let (a, b) = (sides[side], sides[side + 1]);
-                let normal = (a.1 - b.1, b.0 - a.0);
-                let reach = |corners: &[Corner; 4]| {
-                    let along = corners.map(|corner| corner.0 * normal.0 + corner.1 * normal.1);
-                    along.into_iter().fold((f64::INFINITY, f64::NEG_INFINITY), |(low, high), at| {
-                        (low.min(at), high.max(at))
-                    })
-                };
-                let (one, two) = (reach(&self.corners), reach(&other.corners));
-                one.1 <= two.0 || two.1 <= one.0
-            })
-        };
-        !parted(&self.corners) && !parted(&other.corners)
+        corners::meet(&self.corners, &other.corners)
     }
 }
 
+fn columns_of(low: Corner, high: Corner) -> std::ops::RangeInclusive<i64> {
+    let column = |x: f64| (x / 100.0).floor() as i64;
+    column(low.0)..=column(high.0)
+}
+
+fn bounds_meet(one: (Corner, Corner), other: (Corner, Corner)) -> bool {
+    let apart = |low: f64, high: f64| low > high;
+    !(apart(one.0 .0, other.1 .0)
+        || apart(other.0 .0, one.1 .0)
+        || apart(one.0 .1, other.1 .1)
+        || apart(other.0 .1, one.1 .1))
+}
+
 impl Part {
+    /// Each text with the shapes whose bounds meet its own.
+    pub fn near(&self) -> Vec<(&Text, Vec<&Shape>)> {
+        let mut columns: BTreeMap<i64, Vec<&Shape>> = BTreeMap::new();
+        for shape in &self.shapes {
+            let (low, high) = shape.bounds();
+            columns_of(low, high).for_each(|column| columns.entry(column).or_default().push(shape));
+        }
+        let near = |text: &Text| {
+            let (low, high) = text.bounds();
+            let mut near: Vec<&Shape> = columns_of(low, high)
+                .filter_map(|column| columns.get(&column))
+                .flatten()
+                .copied()
+                .filter(|shape| bounds_meet((low, high), shape.bounds()))
+                .collect();
+            near.sort_by_key(|shape| shape.place);
+            near.dedup_by_key(|shape| shape.place);
+            near
+        };
+        self.texts.iter().map(|text| (text, near(text))).collect()
+    }
+
     /// Two texts that share some room, if any do.
     pub fn overlap(&self) -> Option<(&Text, &Text)> {
         let mut sorted: Vec<(f64, f64, &Text)> =
