@@ -99,7 +99,7 @@ check('from afar the words go and numbers stay apart', () => {
   const words = [...lanes.querySelectorAll('text')].filter(seen).length;
   same(words === 0, far, 'words hidden');
   const ticks = [...header.querySelectorAll('.tick')].map(bounds);
-  same(ticks.length > 2, far, 'ticks');
+  same(ticks.length > 1, far, 'ticks');
   same(ticks.every((tick, place) => place === 0 || tick.left > ticks[place - 1].right), true, 'apart');
   get('full').click();
   same(header.querySelectorAll('.tick').length, 0, 'ticks at 100 %');
@@ -107,7 +107,7 @@ check('from afar the words go and numbers stay apart', () => {
 
 check('a click in the picture chooses its column at any zoom', () => {
   for (const at of [1, 0.6, 2]) {
-    setZoom(at);
+    setZoom(at * full());
     frame.scrollLeft = 0;
     const { left, top } = bounds(lanes);
     lanes.dispatchEvent(new MouseEvent('click', { clientX: left + 5.5 * column * zoom, clientY: top + 5 }));
@@ -160,19 +160,23 @@ check('the filter by object leaves it and its volume', () => {
   same(lines.every(seen), true, 'all again');
 });
 
-check('the buttons go to every refused, shown and completed step', () => {
-  for (const [answer, words] of [['refused', 'refused'], ['shown', 'shown'], ['completed', 'completed']]) {
+check('the buttons go to every refused, shown, ask first and completed step', () => {
+  for (const [answer, words] of [['refused', 'refused'], ['shown', 'shown'], ['ask', 'ask first'], ['completed', 'completed']]) {
     choose(1, true);
     const expected = numbers(answered(words)).filter(step => step > 1).slice(0, 100);
     same(visited(() => button(answer).click()), expected, answer);
-    same(expected.length === 100 || get('said').textContent === `no ${answer} step after this one`, true, 'end');
+    same(expected.length === 100 || get('said').textContent === `no ${words} step after this one`, true, 'end');
   }
 });
 
 check('the keys go both ways', () => {
-  choose(lines.length, true);
-  const expected = numbers(answered('shown')).reverse().filter(step => step < lines.length).slice(0, 100);
-  same(visited(() => press('S', true)), expected, 'shown, backwards');
+  for (const [key, words] of [['R', 'refused'], ['S', 'shown'], ['A', 'ask first'], ['C', 'completed']]) {
+    choose(lines.length, true);
+    const back = numbers(answered(words)).reverse().filter(step => step < lines.length).slice(0, 100);
+    same(visited(() => press(key, true)), back, `${words}, backwards`);
+    const on = numbers(answered(words)).filter(step => step > chosen).slice(0, 100);
+    same(visited(() => press(key.toLowerCase())), on, words);
+  }
   choose(5, true);
   press('ArrowRight');
   press('ArrowRight');
@@ -194,6 +198,109 @@ check('every text is as wide as was reckoned, or narrower', () => {
     const found = text.getComputedTextLength();
     if (found > reckoned) throw `${text.textContent}: ${found} of ${reckoned}`;
   }
+});
+
+check('the page is as wide as the screen, and says so to a phone', () => {
+  same(document.querySelector('meta[name=viewport]').content, 'width=device-width, initial-scale=1', 'viewport');
+  same(document.documentElement.scrollWidth <= innerWidth, true, 'nothing to scroll sideways');
+});
+
+// How large the letters of each text in sight are.
+function sizes() {
+  const texts = [...document.querySelectorAll('svg text')].filter(seen).map(text => {
+    const svg = text.closest('svg');
+    const scale = svg.viewBox.baseVal?.height ? bounds(svg).height / svg.viewBox.baseVal.height : 1;
+    return [parseFloat(getComputedStyle(text).fontSize) * scale, text.textContent];
+  });
+  const written = element => [...element.childNodes].some(node => node.nodeType === 3 && node.textContent.trim());
+  const others = [...document.querySelectorAll('body *:not(svg *, script, style)')].filter(seen).filter(written);
+  return [...texts, ...others.map(one => [parseFloat(getComputedStyle(one).fontSize), one.textContent])];
+}
+
+check('nothing is smaller than 11 pixels on a narrow screen, or than drawn on others', () => {
+  get('signs').open = true;
+  const smallest = innerWidth <= 700 ? 11 : 8.5;
+  for (const look of ['full', 'overview', 'in', 'out']) {
+    get(look).click();
+    const small = sizes().filter(([size]) => size < smallest - 0.01);
+    same(small.slice(0, 3), [], look);
+  }
+  get('full').click();
+  get('signs').open = false;
+});
+
+// A point at which it is on top, if there is one in sight.
+function pointOn(group) {
+  for (const shape of [...group.children].filter(child => child.tagName !== 'title')) {
+    const { left, top, width, height } = bounds(shape);
+    for (const part of [0.5, 0.3, 0.7]) {
+      const [x, y] = [Math.floor(left + part * width), Math.floor(top + part * height)];
+      if (document.elementFromPoint(x, y)?.closest('g') === group) return [x, y];
+    }
+  }
+  return null;
+}
+
+check('a tap tells what pointing does', () => {
+  let told = 0;
+  frame.scrollTo(0, 0);
+  for (const svg of [lanes, header]) {
+    for (const group of some([...svg.querySelectorAll('g')].filter(group => group.querySelector('title')))) {
+      group.scrollIntoView({ block: 'center', inline: 'center' });
+      const point = pointOn(group);
+      if (!point) continue;
+      const [clientX, clientY] = point;
+      document.elementFromPoint(clientX, clientY).dispatchEvent(new MouseEvent('click', { clientX, clientY, bubbles: true }));
+      same([get('told').textContent, seen(get('told'))], [group.querySelector('title').textContent, true], 'told');
+      get('told').click();
+      same(seen(get('told')), false, 'told until it is tapped');
+      told++;
+    }
+  }
+  same(told > 10, true, `${told} told`);
+});
+
+check('a tap beside an arrow tells of it', () => {
+  const head = lanes.querySelector('.head');
+  head.scrollIntoView({ block: 'center', inline: 'center' });
+  const { right, top, height } = bounds(head);
+  const words = titleAt(right + 5, top + height / 2);
+  same(words !== null, true, 'something told');
+});
+
+check('the lanes are seen, not the header alone', () => {
+  window.scrollTo(0, 0);
+  frame.scrollTo(0, 0);
+  const lowest = Math.min(bounds(frame).bottom, innerHeight);
+  const room = lowest - bounds(header).bottom;
+  same(room >= 200 && room >= (lowest - bounds(frame).top) / 2, true, `${room} of ${lowest}`);
+  const client = bounds(laneName('client 0'));
+  same([bounds(laneName('server')).bottom < lowest, client.bottom < lowest], [true, true], 'server and a client');
+  get('words').click();
+  const other = bounds(header).height;
+  get('words').click();
+  same(Math.abs(bounds(header).height - other) > 40, true, 'words on top come and go');
+});
+
+check('on paper each step is in one strip, whole, and all fit a page', () => {
+  const before = [zoom, get('signs').open, bounds(lanes).width];
+  window.dispatchEvent(new Event('beforeprint'));
+  get('paper').style.display = 'block';
+  const made = [...document.querySelectorAll('.strip')];
+  const steps = made.flatMap(strip => [...strip.querySelectorAll('.header .number')].map(text => +text.textContent));
+  same(steps, lines.map(line => +line.dataset.step), 'steps');
+  const sheet = sheets.find(({ size }) => get('sheet').textContent.includes(size));
+  for (const strip of made) {
+    const { width, height } = bounds(strip);
+    same([width <= sheet.width + 1, height <= sheet.height + 9], [true, true], `${width} x ${height}`);
+    for (const text of strip.querySelectorAll('text')) {
+      const [words, part] = [bounds(text), bounds(text.closest('svg'))];
+      if (words.left < part.left - 1 || words.right > part.right + 1) throw `cut: ${text.textContent}`;
+    }
+  }
+  get('paper').style.display = '';
+  window.dispatchEvent(new Event('afterprint'));
+  same([document.querySelectorAll('.strip').length, zoom, get('signs').open, bounds(lanes).width], [0, ...before], 'screen');
 });
 
 check('the page asks for nothing outside itself', () =>

@@ -25,8 +25,8 @@ ends after them is cut at the edge. A picture alone has at most 300 steps, since
 no wider one is drawn everywhere; standard error says where it was cut. For a
 long run take the page: it scrolls with the names in sight, zooms out to all of
 the run, shows one client or object alone, and finds a step by its number (also
-as run.html#120) or the next one that was refused, shown or completed a write.
-It works offline.
+as run.html#120) or the next one that was refused, shown, told to ask first or
+completed a write. It works offline, on a phone and on paper.
 "#;
 
 fn main() -> ExitCode {

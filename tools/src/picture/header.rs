@@ -77,8 +77,11 @@ pub fn column(svg: &mut Svg, view: &StepView, left: f64, height: f64) {
 fn clock(svg: &mut Svg, layout: &Layout, number: usize, view: &StepView, y: f64) {
     let (clock, moved) = (view.clock.to_string(), view.clock != view.clock_before);
     let class = if moved { "clock" } else { "clock again" };
-    let long = if width(&clock, VALUE) > COLUMN { " long" } else { "" };
+    let (spot, room) = (at(layout.x(number), y), COLUMN - 2.0);
     if moved || (number - layout.window.from).is_multiple_of(AGAIN) {
-        svg.text(&format!("{class}{long}"), at(layout.x(number), y), &clock);
+        match width(&clock, VALUE) {
+            wide if wide > room => svg.narrowed(class, spot, room / wide, &clock),
+            _ => svg.text(class, spot, &clock),
+        }
     }
 }

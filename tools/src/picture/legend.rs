@@ -3,8 +3,8 @@
 use super::letters::{width, WORDS};
 use super::svg::{at, Svg};
 
-const ROW: f64 = 20.0;
-const SIGN: f64 = 34.0;
+pub const ROW: f64 = 20.0;
+pub const SIGN: f64 = 34.0;
 
 /// Draws its sign into the room from x, around the middle line y.
 type Sign = fn(&mut Svg, f64, f64);
@@ -55,6 +55,15 @@ const SIGNS: [(&str, Sign); 19] = [
         svg.circle("under-way renew", at(x + 25.0, y), 3.0);
     }),
 ];
+
+/// The words of each sign, and the sign alone.
+pub fn signs() -> impl Iterator<Item = (&'static str, String)> {
+    SIGNS.iter().map(|(words, sign)| {
+        let mut svg = Svg::default();
+        sign(&mut svg, 2.0, ROW / 2.0);
+        (*words, svg.0)
+    })
+}
 
 /// The height that it took.
 pub fn draw(svg: &mut Svg, room: f64) -> f64 {

@@ -14,16 +14,21 @@ use crate::timeline::Timeline;
 
 const PAGE: &str = include_str!("page.html");
 const PAGE_STYLE: &str = include_str!("page.css");
-const SCRIPTS: [&str; 3] = [include_str!("parts.js"), include_str!("fold.js"), include_str!("page.js")];
-const SIGNS: f64 = 1_180.0;
+const SCRIPTS: [&str; 7] = [
+    include_str!("parts.js"),
+    include_str!("fold.js"),
+    include_str!("zoom.js"),
+    include_str!("steps.js"),
+    include_str!("told.js"),
+    include_str!("print.js"),
+    include_str!("page.js"),
+];
 
 pub fn page(run: &Run, window: Window) -> String {
     let timeline = Timeline::new(run);
     let parts = Parts::new(&timeline, window);
     let (width, height) = (parts.width(), parts.layout.height);
     let (title, subtitle) = titles(&run.note, &timeline, window);
-    let mut signs = Svg::default();
-    let signs_height = legend::draw(&mut signs, SIGNS);
     let mut corner = Svg::default();
     corner.text("row-name", at(NAMES - 8.0, parts.header_height - 22.0), "step");
     corner.text("row-name", at(NAMES - 8.0, parts.header_height - 6.0), "clock");
@@ -35,7 +40,7 @@ pub fn page(run: &Run, window: Window) -> String {
         ("{column}", n(COLUMN)),
         ("{clients}", run.setup.clients.to_string()),
         ("{volumes}", format!("{:?}", &run.setup.volume_of[..usize::from(run.setup.objects)])),
-        ("{signs}", part("signs", SIGNS, signs_height, &signs.0)),
+        ("{signs}", signs()),
         ("{corner}", part("corner", NAMES, parts.header_height, &corner.0)),
         ("{header}", part("header", width, parts.header_height, &parts.header)),
         ("{names}", part("names", NAMES, height, &parts.names)),
@@ -71,6 +76,17 @@ fn part(class: &str, width: f64, height: f64, inside: &str) -> String {
         "<svg class=\"{class}\" data-width=\"{width}\" data-height=\"{height}\" width=\"{width}\" \
          height=\"{height}\" viewBox=\"0 0 {width} {height}\" preserveAspectRatio=\"none\">\n{inside}</svg>"
     )
+}
+
+/// Each sign with its words, so that they go on in the next line where the
+/// screen ends.
+fn signs() -> String {
+    let sign = |(words, drawn): (&str, String)| {
+        let (width, height) = (n(legend::SIGN), n(legend::ROW));
+        let size = format!("width=\"{width}\" height=\"{height}\" viewBox=\"0 0 {width} {height}\"");
+        format!("<span class=\"sign\"><svg {size}>\n{drawn}</svg>{words}</span>\n")
+    };
+    legend::signs().map(sign).collect()
 }
 
 /// Each line with what it is about, its kind of answer and the y of its lane.

@@ -98,6 +98,14 @@ impl Svg {
         self.put(format_args!("<text class=\"{class}\" transform=\"{turn}\">{words}</text>"));
     }
 
+    /// Text that is narrower than its font, and as high.
+    pub fn narrowed(&mut self, class: &str, a: Point, part: f64, words: &str) {
+        let (x, y, words) = (n(a.x), n(a.y), escaped(words));
+        self.put(format_args!(
+            "<text class=\"{class}\" transform=\"matrix({part:.3} 0 0 1 {x} {y})\">{words}</text>"
+        ));
+    }
+
     /// The ground under a label, which hides what runs through its room.
     pub fn ground(&mut self, class: &str, tile: &Tile) {
         let (corner, width, height) = tile.unturned();
