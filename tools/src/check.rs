@@ -1,52 +1,41 @@
 //! A text's expectations, held to what the proved library answers.
 
-use crate::explain;
-use crate::listed::Listed;
-use crate::proved;
-use crate::text::script::WrittenOut;
-use crate::text::steps;
+use crate::explain::{answered, written};
+use crate::scenario::Scenario;
+use crate::trace::Moment;
 
 pub struct Verdict {
+    /// How many hold.
     pub words: String,
-    pub holds: bool,
-    /// The library's answers.
-    pub answers: Vec<Listed>,
+    /// Each one that fails, in words.
+    pub failures: Vec<String>,
 }
 
-pub fn verdict(written: &WrittenOut) -> Verdict {
-    let answers = proved::answers(&written.run);
-    let expectations: Vec<(usize, Listed)> = (written.steps.iter().enumerate())
-        .filter_map(|(place, step)| Some((place, step.expected?)))
-        .collect();
-    let fails = |&(place, expected): &(usize, Listed)| answers[place] != expected;
-    let count = expectations.len();
-    let words = match (count, expectations.iter().find(|one| fails(one))) {
-        (0, _) => "no expectations".into(),
-        (1, None) => "the 1 expectation holds".into(),
-        (_, None) => format!("all {count} expectations hold"),
-        (_, Some(&(place, expected))) => {
-            let failed = expectations.iter().filter(|one| fails(one)).count();
-            let first = difference(written, place, expected, answers[place]);
-            format!("{failed} of {count} expectations failed, first {first}")
-        }
-    };
-    Verdict { words, holds: !expectations.iter().any(|one| fails(one)), answers }
-}
-
-/// The step in words; why it was answered so is the model's, if it gave the
-/// same answer.
-fn difference(written: &WrittenOut, place: usize, expected: Listed, found: Listed) -> String {
-    let step = &written.steps[place];
-    let words = format!(
-        "line {}, step {}, {}: expected {}, found {}",
-        step.line,
-        place + 1,
-        steps::line(&step.step),
-        expected.words(),
-        found.words()
-    );
-    match explain::reasons_at(&written.run, place + 1) {
-        reasons if step.answer == found && !reasons.is_empty() => format!("{words}: {}", reasons.join("; ")),
-        _ => words,
+impl Verdict {
+    pub fn holds(&self) -> bool {
+        self.failures.is_empty()
     }
+}
+
+pub fn verdict(scenario: &Scenario) -> Verdict {
+    let mut failures = Vec::new();
+    scenario.walk(|moment| failures.extend(failure(scenario, moment)));
+    let words = match (scenario.expectations().count(), failures.len()) {
+        (0, _) => "no expectations".into(),
+        (1, 0) => "the 1 expectation holds".into(),
+        (count, 0) => format!("all {count} expectations hold"),
+        (count, failed) => format!("{failed} of {count} expectations failed"),
+    };
+    Verdict { words, failures }
+}
+
+/// The step's line in the text and the clock, what was written there, and why
+/// the answer was another.
+fn failure(scenario: &Scenario, moment: &Moment) -> Option<String> {
+    let step = moment.number;
+    let (line, expectation) = (scenario.line(step)?, scenario.expectation(step)?);
+    let clock = moment.voice.ticks(moment.clock());
+    let (written, answered) = (written(line, moment), answered(moment, Some(expectation)));
+    let told = format!("line {}, step {step}, clock {clock}, {written}: {answered}", line.number);
+    (!expectation.holds()).then_some(told)
 }

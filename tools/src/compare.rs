@@ -8,6 +8,7 @@ use model::listing::{listing, listing_trusting, listing_with};
 use model::mistakes::Mistakes;
 use model::shrink::shrink;
 
+use crate::scenario::Scenario;
 use crate::{difference, text};
 
 /// How a comparison ended.
@@ -68,10 +69,10 @@ fn difference(
 
 /// The first difference, below the run as text; what is no run as its bytes.
 fn told(small: &[u8], theirs: &[u8]) -> String {
-    let run = text::from_file(small);
+    let run = text::from_file(small).map(Scenario::from);
     let first = difference::first(&run, &listing(small), theirs).unwrap_or_default();
     match run {
-        Ok(run) => format!("the smallest such run:\n\n{}\n{first}", text::print(&run)),
+        Ok(scenario) => format!("the smallest such run:\n\n{}\n{first}", text::print(&scenario.run)),
         Err(_) => {
             let hex: String = small.iter().map(|byte| format!("{byte:02x}")).collect();
             format!("the smallest such file, in hex:\n\n{hex}\n\n{first}")

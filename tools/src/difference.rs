@@ -1,16 +1,16 @@
 //! The first difference between another maker's listing of a run file and
 //! ours, in words.
 
-use model::gen::runs::Run;
 use model::runfile::Fault;
 
 use crate::listed::line;
+use crate::scenario::Scenario;
 use crate::text::words::quoted;
 use crate::{explain, refused_file};
 
 /// Nothing where the two are the same bytes. The run is there to explain our
 /// answer, or the fault for which the file is refused.
-pub fn first(run: &Result<Run, Fault>, ours: &[u8], theirs: &[u8]) -> Option<String> {
+pub fn first(run: &Result<Scenario, Fault>, ours: &[u8], theirs: &[u8]) -> Option<String> {
     let (mut our_lines, mut their_lines) = (lines(ours), lines(theirs));
     let mut number = 0;
     loop {
@@ -28,7 +28,7 @@ fn lines(listing: &[u8]) -> impl Iterator<Item = &[u8]> {
 }
 
 /// The line of step 0 is the header.
-fn told(run: &Result<Run, Fault>, step: usize, ours: Option<&[u8]>, theirs: Option<&[u8]>) -> String {
+fn told(run: &Result<Scenario, Fault>, step: usize, ours: Option<&[u8]>, theirs: Option<&[u8]>) -> String {
     let theirs = match theirs {
         None => "the listing ends".into(),
         Some(theirs) => answer(step, &String::from_utf8_lossy(theirs)),

@@ -1,13 +1,17 @@
 //! What a command reads: standard input or a file, and the run in it.
 
+use std::fmt::Display;
 use std::fs::File;
 use std::io::{self, Read};
 
 use model::gen::runs::Run;
 use model::runfile::Fault;
 
+use crate::check::verdict;
 use crate::command::Failure;
+use crate::output::Output;
 use crate::refused_file;
+use crate::scenario::Scenario;
 use crate::text;
 use crate::text::script::{Script, WrittenOut};
 use crate::text::words::Trouble;
@@ -45,13 +49,32 @@ impl Input {
         self.name.as_deref().unwrap_or("standard input")
     }
 
+    /// What is told of it, behind the file's name.
+    pub fn named(&self, line: impl Display) -> String {
+        match &self.name {
+            None => line.to_string(),
+            Some(name) => format!("{name}: {line}"),
+        }
+    }
+
     /// A failure told line by line, with the file's name.
     pub fn failure(&self, lines: &[String]) -> Failure {
-        let named = |line: &String| match &self.name {
-            None => line.clone(),
-            Some(name) => format!("{name}: {line}"),
-        };
-        Failure::Input(lines.iter().map(named).collect::<Vec<_>>().join("\n"))
+        Failure::Input(lines.iter().map(|line| self.named(line)).collect::<Vec<_>>().join("\n"))
+    }
+
+    /// An output that shows a run, with what is wrong with its text: that it
+    /// stopped, which is an input that is not right, and that expectations
+    /// failed.
+    pub fn told_of(&self, scenario: &Scenario, mut output: Output) -> Output {
+        let verdict = verdict(scenario);
+        if !verdict.holds() {
+            output.told.push(self.named(verdict.words));
+        }
+        if let Some(trouble) = scenario.stopped() {
+            output.told.push(self.named(trouble));
+            output.holds = false;
+        }
+        output
     }
 
     /// The run of a run file.
@@ -70,23 +93,23 @@ impl Input {
     }
 
     /// What a text says as exact steps.
-    pub fn written_out(&self) -> Result<WrittenOut, Failure> {
-        let written = self.script()?.written_out();
-        written.map_err(|trouble| self.failure(&[trouble.to_string()]))
+    pub fn written_out(&self, script: &Script) -> Result<WrittenOut, Failure> {
+        script.written_out().map_err(|trouble| self.failure(&[trouble.to_string()]))
     }
 
-    /// A run file or a text. Every accepted run file has a zero byte, in its
-    /// setup, and no text has one.
-    pub fn run_of_either(&self) -> Result<Run, Failure> {
-        self.run_or_fault()?.map_err(|fault| self.failure(&[refused_file::told(&fault)]))
+    /// What a run file or a text has to show. Of a text that stops halfway,
+    /// this is the run up to there. Every accepted run file has a zero byte,
+    /// in its setup, and no text has one.
+    pub fn scenario(&self) -> Result<Scenario, Failure> {
+        self.scenario_or_fault()?.map_err(|fault| self.failure(&[refused_file::told(&fault)]))
     }
 
     /// The same where a refused run file is a case like any other.
-    pub fn run_or_fault(&self) -> Result<Result<Run, Fault>, Failure> {
+    pub fn scenario_or_fault(&self) -> Result<Result<Scenario, Fault>, Failure> {
         if self.bytes.contains(&0) {
-            Ok(text::from_file(&self.bytes))
+            Ok(text::from_file(&self.bytes).map(Scenario::from))
         } else {
-            Ok(Ok(self.written_out()?.run))
+            Ok(Ok(self.script()?.into()))
         }
     }
 }

@@ -3,6 +3,8 @@
 use model::bits::members;
 use model::message::{Kind, Message};
 
+use crate::voice::Voice;
+
 /// The kinds in the order of their numbers in a frame.
 pub const KINDS: [&str; 6] = ["RENEW", "GRANT", "INVALIDATE", "ACK", "OFFER", "DROPPED"];
 
@@ -43,8 +45,13 @@ pub fn routed(message: &Message) -> String {
     format!("{} {} client {}", label(message), way(kind(&message.kind)), message.client)
 }
 
-/// Every field that the label leaves out.
-pub fn fields(message: &Message) -> String {
+/// The same behind its place among those under way.
+pub fn placed(place: usize, message: &Message) -> String {
+    format!("{place} {}", routed(message))
+}
+
+/// Every field that the label leaves out, with its times in this voice.
+pub fn fields(message: &Message, voice: &Voice) -> String {
     match message.kind {
         Kind::Renew { object, epoch, version, .. } => {
             format!("object {object}, epoch {epoch}, version {version}")
@@ -55,16 +62,17 @@ pub fn fields(message: &Message) -> String {
         }
         Kind::Grant(grant) => {
             let value = grant.value.map_or("no value".into(), |value| format!("value {value}"));
+            let (volume, object) = (voice.ticks(grant.volume_expiry), voice.ticks(grant.object_expiry));
             format!(
-                "object {}, volume lease to {}, object lease to {}, epoch {}, version {}, {value}",
-                grant.object, grant.volume_expiry, grant.object_expiry, grant.epoch, grant.version
+                "object {}, volume lease to {volume}, object lease to {object}, epoch {}, version {}, {value}",
+                grant.object, grant.epoch, grant.version
             )
         }
     }
 }
 
-pub fn whole(message: &Message) -> String {
-    format!("{} ({})", routed(message), fields(message))
+pub fn whole(message: &Message, voice: &Voice) -> String {
+    format!("{} ({})", routed(message), fields(message, voice))
 }
 
 /// "client 1", "clients 0, 2", or "nobody".

@@ -7,8 +7,9 @@ use model::limits::{BAD_TIME, NO_NUMBER_LEFT, NO_SUCH_ITEM, UNKNOWN_KIND, WRITE_
 
 use crate::listed::Listed;
 
-/// One line: the steps, and the refused ones by their numbers.
-pub fn counted(answers: impl IntoIterator<Item = Listed>) -> String {
+/// One line: the steps, and the refused ones by their numbers. Nothing where
+/// no step was taken.
+pub fn counted(answers: impl IntoIterator<Item = Listed>) -> Option<String> {
     let (mut steps, mut refused) = (0, BTreeMap::new());
     for answer in answers {
         steps += 1;
@@ -16,13 +17,17 @@ pub fn counted(answers: impl IntoIterator<Item = Listed>) -> String {
             *refused.entry(number).or_insert(0) += 1;
         }
     }
-    let steps = if steps == 1 { "1 step".into() } else { format!("{steps} steps") };
+    let steps = match steps {
+        0 => return None,
+        1 => "1 step".into(),
+        _ => format!("{steps} steps"),
+    };
     if refused.is_empty() {
-        return format!("{steps}, none refused");
+        return Some(format!("{steps}, none refused"));
     }
     let total: usize = refused.values().sum();
     let each = refused.iter().map(|(number, count)| format!("{count} with {number} ({})", what(*number)));
-    format!("{steps}, {total} refused: {}", each.collect::<Vec<_>>().join(", "))
+    Some(format!("{steps}, {total} refused: {}", each.collect::<Vec<_>>().join(", ")))
 }
 
 fn what(number: u64) -> &'static str {
@@ -43,10 +48,10 @@ mod tests {
     #[test]
     fn refused_steps_are_counted_by_their_numbers() {
         let refused = Listed::refused;
-        assert_eq!(counted([]), "0 steps, none refused");
-        assert_eq!(counted([Listed::DONE]), "1 step, none refused");
+        assert_eq!(counted([]), None);
+        assert_eq!(counted([Listed::DONE]).unwrap(), "1 step, none refused");
         assert_eq!(
-            counted([refused(5), Listed::ASK_FIRST, refused(2), refused(5), Listed::shown(4)]),
+            counted([refused(5), Listed::ASK_FIRST, refused(2), refused(5), Listed::shown(4)]).unwrap(),
             "5 steps, 3 refused: 1 with 2 (unknown kind), 2 with 5 (a write stands)"
         );
     }

@@ -11,12 +11,16 @@ use model::step::step;
 use model::step_record::Step;
 use model::tables::{Server, Write};
 
+use crate::voice::Voice;
+
 /// One step with the model's state on both sides of it.
 pub struct Moment<'a> {
     /// From 1, as in the listing.
     pub number: usize,
     pub step: Step,
     pub setup: &'a Setup,
+    /// How it is told.
+    pub voice: Voice,
     pub before: &'a State,
     pub after: &'a State,
     pub answer: Answer,
@@ -25,13 +29,14 @@ pub struct Moment<'a> {
 /// A run under way: the state that its steps so far have led to.
 pub struct Walk<'a> {
     setup: &'a Setup,
+    voice: Voice,
     pub state: State,
     pub taken: usize,
 }
 
 impl<'a> Walk<'a> {
-    pub fn fresh(setup: &'a Setup) -> Walk<'a> {
-        Walk { setup, state: State::fresh(), taken: 0 }
+    pub fn fresh(setup: &'a Setup, voice: Voice) -> Walk<'a> {
+        Walk { setup, voice, state: State::fresh(), taken: 0 }
     }
 
     /// Takes a step, question 1 asked before.
@@ -40,14 +45,19 @@ impl<'a> Walk<'a> {
         let (tables, copies, requests) = self.state.parts(self.setup);
         let answer = step(self.setup, tables, copies, requests, &record);
         self.taken += 1;
-        let (number, setup, after) = (self.taken, self.setup, &self.state);
-        seen(&Moment { number, step: record, setup, before: &before, after, answer })
+        let (number, setup, voice, after) = (self.taken, self.setup, self.voice, &self.state);
+        seen(&Moment { number, step: record, setup, voice, before: &before, after, answer })
     }
 }
 
-/// Takes every step of the run.
-pub fn walk(run: &Run, mut each: impl FnMut(&Moment)) {
-    let mut walk = Walk::fresh(&run.setup);
+/// Takes every step of the run, told as a run file is.
+pub fn walk(run: &Run, each: impl FnMut(&Moment)) {
+    walk_in(run, Voice::default(), each);
+}
+
+/// Takes every step of the run, told in this voice.
+pub fn walk_in(run: &Run, voice: Voice, mut each: impl FnMut(&Moment)) {
+    let mut walk = Walk::fresh(&run.setup, voice);
     for &step in &run.steps {
         walk.take(step, &mut each);
     }
@@ -92,6 +102,12 @@ impl<'a> Moment<'a> {
     pub fn sent(&self) -> &'a [Message] {
         let kept = self.before.tables.queue.len - usize::from(self.taken().is_some());
         &self.after.tables.queue.messages()[kept..]
+    }
+
+    /// The same with their places in the queue.
+    pub fn placed(&self) -> impl Iterator<Item = (usize, &'a Message)> {
+        let first = self.after.tables.queue.len - self.sent().len();
+        self.sent().iter().enumerate().map(move |(place, message)| (first + place, message))
     }
 
     /// The message that the step took out of the queue: after a delivery or

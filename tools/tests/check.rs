@@ -5,6 +5,7 @@ mod common;
 use common::{example, example_path, run_program};
 use model::examples::all;
 use model::gen::runs::run;
+use tools::scenario::Scenario;
 use tools::text::script;
 use tools::{check, proved, text};
 
@@ -24,19 +25,23 @@ read client 0 object 0 => ask first
 clock 11 => completed 1
 ";
 
-fn verdict(text: &str) -> (bool, String) {
-    let written = script(text.as_bytes()).unwrap().written_out();
-    let verdict = check::verdict(&written.unwrap_or_else(|trouble| panic!("{trouble}")));
-    (verdict.holds, verdict.words)
+/// How many hold, and each one that fails.
+fn verdict(text: &str) -> (String, Vec<String>) {
+    let verdict = check::verdict(&script(text.as_bytes()).unwrap().into());
+    (verdict.words, verdict.failures)
+}
+
+fn holds(text: &str, words: &str) {
+    assert_eq!(verdict(text), (words.into(), vec![]));
 }
 
 #[test]
 fn verdicts() {
-    assert_eq!(verdict(TEXT), (true, "all 5 expectations hold".into()));
+    holds(TEXT, "all 5 expectations hold");
     let one = TEXT.replace(" => done", "").replace(" => ask first", "").replace(" => completed 1", "");
-    assert_eq!(verdict(&one.replace(" => refused 3", "")), (true, "the 1 expectation holds".into()));
+    holds(&one.replace(" => refused 3", ""), "the 1 expectation holds");
     let none = one.replace(" => refused 3", "").replace(" => shown 0", "");
-    assert_eq!(verdict(&none), (true, "no expectations".into()));
+    holds(&none, "no expectations");
 }
 
 /// Each expectation, turned into each other answer, fails by itself.
@@ -47,22 +52,27 @@ fn every_wrong_expectation_is_found() {
     for (number, line) in TEXT.lines().enumerate().filter(|(_, line)| line.contains("=>")) {
         let (step, right) = line.split_once(" => ").unwrap();
         for wrong in answers.iter().filter(|wrong| **wrong != right) {
-            let (holds, words) = verdict(&TEXT.replace(line, &format!("{step} => {wrong}")));
-            assert!(!holds);
-            let first = format!("1 of 5 expectations failed, first line {}, step ", number + 1);
-            assert!(words.starts_with(&first), "{words}");
-            assert!(words.contains(": expected ") && words.contains(&format!(", found {right}")), "{words}");
+            let (words, failures) = verdict(&TEXT.replace(line, &format!("{step} => {wrong}")));
+            assert_eq!((words.as_str(), failures.len()), ("1 of 5 expectations failed", 1));
+            assert!(failures[0].starts_with(&format!("line {}, step ", number + 1)), "{failures:?}");
+            let told = failures[0].contains(&format!(", {step}: FAILED: expected "))
+                && failures[0].contains(&format!(", found {right}"));
+            assert!(told, "{failures:?}");
         }
     }
 }
 
 #[test]
-fn the_first_difference_is_told_in_words() {
+fn every_failure_is_told_in_words() {
     let text = TEXT.replace("ask first", "shown 7").replace("completed 1", "done");
-    let words =
-        "2 of 5 expectations failed, first line 10, step 12, read client 0 object 0: expected shown 7, \
-        found ask first: volume lease ended at 10";
-    assert_eq!(verdict(&text), (false, words.into()));
+    let failures = [
+        "line 10, step 12, clock 10, read client 0 object 0: FAILED: expected shown 7, found ask first: volume \
+         lease ended at 10",
+        "line 11, step 13, clock 11, clock 11: FAILED: expected done, found completed 1 write: object 0 becomes 7, \
+         version 2, latest end 10 passed, client 0 marked unreachable",
+    ];
+    let told = failures.map(String::from).to_vec();
+    assert_eq!(verdict(&text), ("2 of 5 expectations failed".into(), told));
 }
 
 /// The library's answers are the listing's, for runs of all sorts.
@@ -99,10 +109,12 @@ fn the_program_gives_a_verdict_for_each_text() {
     assert_eq!(wrong.status, 1);
     let output = String::from_utf8(wrong.output).unwrap();
     assert!(
-        output.starts_with("standard input: 1 of 5 expectations failed, first line 6, step 8, "),
+        output.starts_with(
+            "standard input: 1 of 5 expectations failed\nstandard input: line 6, step 8, clock 0, "
+        ),
         "{output}"
     );
-    assert!(output.lines().nth(1).unwrap().starts_with(&names[0]));
+    assert!(output.lines().nth(2).unwrap().starts_with(&names[0]));
     assert!(wrong.errors.starts_with("cannot read nowhere: "), "{}", wrong.errors);
     assert!(wrong.errors.ends_with("28 steps, 2 refused: 1 with 3 (no such client, object or place), 1 with 4 (a time out of range)\n"), "{}", wrong.errors);
 }
@@ -112,13 +124,16 @@ fn the_program_gives_a_verdict_for_each_text() {
 fn examples_expect_what_they_are_for() {
     for example in all() {
         let text = self::example(&format!("{}.runtext", example.name));
-        let written = script(&text).unwrap().written_out().unwrap_or_else(|trouble| panic!("{trouble}"));
-        let verdict = check::verdict(&written);
-        assert!(verdict.holds, "{}: {}", example.name, verdict.words);
-        for (step, answer) in written.steps.iter().zip(&verdict.answers) {
-            let told = [model::step_record::READ, model::step_record::WRITE].contains(&step.step.kind);
+        let scenario = Scenario::from(script(&text).unwrap());
+        let verdict = check::verdict(&scenario);
+        assert!(verdict.holds(), "{}: {:?}", example.name, verdict.failures);
+        assert!(scenario.stopped().is_none());
+        for (place, answer) in proved::answers(&scenario.run).iter().enumerate() {
+            let kind = scenario.run.steps[place].kind;
+            let told = [model::step_record::READ, model::step_record::WRITE].contains(&kind);
             let wanted = told || answer.answer > 2;
-            assert!(!wanted || step.expected.is_some(), "{}, line {}", example.name, step.line);
+            let expected = scenario.expectation(place + 1).is_some();
+            assert!(!wanted || expected, "{}, step {}", example.name, place + 1);
         }
     }
 }

@@ -4,11 +4,12 @@ mod common;
 
 use common::{example, example_path, run_program};
 use tools::difference::first;
+use tools::scenario::Scenario;
 use tools::text::from_file;
 
 /// The first difference, if the listing of the document's run is changed so.
 fn changed(change: impl Fn(&str) -> String) -> Option<String> {
-    let run = from_file(&example("0-document.run"));
+    let run = from_file(&example("0-document.run")).map(Scenario::from);
     let ours = String::from_utf8(example("0-document.listing")).unwrap();
     first(&run, ours.as_bytes(), change(&ours).as_bytes())
 }
@@ -25,7 +26,7 @@ fn the_same_bytes_have_none() {
 #[test]
 fn an_answer_is_told_with_the_step() {
     let step = "first difference at line 14 of the listing\ntheirs: 13 shown 0\n\
-        ours:   13 read client 0 object 0: ask first: volume lease ended at 10";
+        ours:   13 (clock 10) read client 0 object 0: ask first: volume lease ended at 10";
     assert_eq!(differs("\n13 2 0\n", "\n13 1 0\n"), step);
     // Only the first one counts.
     let both = changed(|ours| ours.replace("\n13 2 0\n", "\n13 1 0\n").replace("\n14 3 1\n", "\n14 0 0\n"));
@@ -43,7 +44,9 @@ fn lines_that_are_none_are_told_as_they_are() {
     ] {
         let words = differs(from, to);
         assert!(
-            words.contains(&format!("line 4 of the listing\ntheirs: {theirs}\nours:   3 deliver 0: done: ")),
+            words.contains(&format!(
+                "line 4 of the listing\ntheirs: {theirs}\nours:   3 (clock 0) deliver 0: done: "
+            )),
             "{words}"
         );
     }
@@ -58,14 +61,17 @@ fn header_length_and_refused_files() {
     );
     let cut = changed(|ours| ours.replace("15 4 4\n", "")).unwrap();
     assert!(
-        cut.contains("line 16 of the listing\ntheirs: the listing ends\nours:   15 clock 4: refused 4: "),
+        cut.contains(
+            "line 16 of the listing\ntheirs: the listing ends\nours:   15 (clock 11) clock 4: refused 4: "
+        ),
         "{cut}"
     );
     let longer = changed(|ours| format!("{ours}16 0 0\n")).unwrap();
     assert!(longer.ends_with("theirs: 16 done\nours:   the listing ends"), "{longer}");
     assert!(changed(|ours| ours.trim_end().into()).unwrap().contains("theirs: `15 4 4`, which is no line"));
     let refused = changed(|_| "step answer value\n0 4 9\n".into()).unwrap();
-    assert!(refused.contains("theirs: the file is refused (9)\nours:   1 read client 0 object 0: ask first"));
+    assert!(refused
+        .contains("theirs: the file is refused (9)\nours:   1 (clock 0) read client 0 object 0: ask first"));
     assert!(changed(|_| String::new())
         .unwrap()
         .contains("theirs: the listing ends\nours:   `step answer value\\n`"));

@@ -65,7 +65,8 @@ fn the_explained_lines_are_of_an_example() {
     let explained = listing(&from_file(&example("0-document.run")).unwrap());
     let help = String::from_utf8(run_program(EXPLAIN, &["--help"], b"").output).unwrap();
     let readme = document("README.md");
-    let block = readme.split("```\n").skip(1).step_by(2).find(|block| block.starts_with("10 write"));
+    let block =
+        readme.split("```\n").skip(1).step_by(2).find(|block| block.starts_with("10 (clock 0) write"));
     let of_help = help.lines().filter_map(|line| line.strip_prefix("  1"));
     let shown: Vec<String> =
         block.unwrap().lines().map(String::from).chain(of_help.map(|line| format!("1{line}"))).collect();

@@ -55,34 +55,36 @@ fn each_example_tells_why() {
     for (name, line) in [
         (
             "0-document",
-            "10 write object 0 value 7: done: stands, latest end 10 by the volume lease of client 0; waits for client 0",
+            "10 (clock 0) write object 0 value 7: done: stands, latest end 10 by the volume lease of client 0; waits for \
+             client 0; sends INVALIDATE object 0 version 2 to client 0 at place 0",
         ),
-        ("0-document", "12 clock 10: done: write of object 0 stands, latest end 10, waits for client 0"),
-        ("0-document", "13 read client 0 object 0: ask first: volume lease ended at 10"),
-        ("0-document", "15 clock 4: refused 4: the time must be from 11 to 2147483647"),
-        ("1-one-lease-alone", "14 read client 0 object 0: ask first: volume lease ended at 60"),
-        ("1-one-lease-alone", "22 read client 0 object 0: ask first: no object lease"),
+        ("0-document", "12 (clock 10) clock 10: done: write of object 0 stands, latest end 10, waits for client 0"),
+        ("0-document", "13 (clock 10) read client 0 object 0: ask first: volume lease ended at 10"),
+        ("0-document", "15 (clock 11) clock 4: refused 4: the time must be from 11 to 2147483647"),
+        ("1-one-lease-alone", "14 (clock 130) read client 0 object 0: ask first: volume lease ended at 60"),
+        ("1-one-lease-alone", "22 (clock 130) read client 0 object 0: ask first: no object lease"),
         (
             "2-renew-while-waiting",
-            "17 deliver 0: done: RENEW 4 from client 0 (object 1, epoch 1, version 1); the write of object 0 still \
-             waits for client 0; sends INVALIDATE object 0 version 2 to client 0 (epoch 1)",
+            "17 (clock 8) deliver 0: done: RENEW 4 from client 0 (object 1, epoch 1, version 1); the write of object 0 still \
+             waits for client 0; sends INVALIDATE object 0 version 2 to client 0 (epoch 1) at place 0",
         ),
         (
             "3-restart-inside-write",
-            "21 deliver 0: done: ACK object 0 version 2 from client 0 (epoch 1); nothing: epoch 1, the server's is 2",
+            "21 (clock 10) deliver 0: done: ACK object 0 version 2 from client 0 (epoch 1); nothing: epoch 1, the server's is 2",
         ),
         (
             "4-client-switched-off",
-            "20 clock 11: completed 1 write: object 0 becomes 7, version 2, latest end 10 passed, client 1 marked \
+            "20 (clock 11) clock 11: completed 1 write: object 0 becomes 7, version 2, latest end 10 passed, client 1 marked \
              unreachable",
         ),
         (
             "5-old-messages",
-            "51 deliver 1: done: DROPPED 1 from client 1 (volume 0, epoch 1); nothing: no offer stands",
+            "51 (clock 5) deliver 1: done: DROPPED 1 from client 1 (volume 0, epoch 1); nothing: no offer stands",
         ),
         (
             "6-never-held",
-            "17 write object 0 value 7: done: stands, latest end 12 by the timeout; waits for client 0",
+            "17 (clock 9) write object 0 value 7: done: stands, latest end 12 by the timeout; waits for client 0; sends \
+             INVALIDATE object 0 version 2 to client 0 at place 0",
         ),
     ] {
         let explained = holds(&from_file(&example(&format!("{name}.run"))).unwrap());
@@ -98,9 +100,9 @@ fn refusals_name_what_is_there() {
     let lines: Vec<&str> = explained.lines().skip(2).collect();
     assert_eq!(
         lines[0],
-        "3 read client 2 object 0: refused 3: no such item: client 2 of 2, object 0 of 1, counted from 0"
+        "3 (clock 0) read client 2 object 0: refused 3: no such item: client 2 of 2, object 0 of 1, counted from 0"
     );
-    assert_eq!(lines[1], "4 deliver 1: refused 3: no such item: place 1 of 1, counted from 0");
+    assert_eq!(lines[1], "4 (clock 0) deliver 1: refused 3: no such item: place 1 of 1, counted from 0");
     assert!(lines[2].ends_with(": refused 2: kind 77 is not one of 1 to 9"));
 }
 
@@ -112,7 +114,12 @@ fn the_program_takes_a_run_file_or_its_text() {
     let (by_file, by_text) = (run_program(EXPLAIN, &[], &file), run_program(EXPLAIN, &[], text.as_bytes()));
     assert_eq!((by_file.status, by_text.status), (0, 0));
     assert_eq!(by_file.errors, "15 steps, 1 refused: 1 with 4 (a time out of range)\n");
-    assert_eq!(by_file.output, by_text.output);
+    // The text's own first step is on line 5.
+    let lined =
+        |(place, line): (usize, &str)| line.replacen(" (", &format!(" (line {}, ", place + 5), 1) + "\n";
+    let expected: String =
+        String::from_utf8(by_file.output.clone()).unwrap().lines().enumerate().map(lined).collect();
+    assert_eq!(String::from_utf8(by_text.output).unwrap(), expected);
     assert_eq!(by_file.output, listing(&from_file(&file).unwrap()).as_bytes());
     let refused = run_program(EXPLAIN, &[], &file[1..]);
     assert_eq!((refused.status, refused.output.len()), (1, 0));

@@ -195,5 +195,5 @@ fn a_full_output_is_told_and_a_full_error_is_no_panic() {
     assert!(String::from_utf8(ended.stderr).unwrap().starts_with("cannot write standard output: "));
     let ended = Command::new(EXPLAIN).arg(&file).stderr(full()).output().unwrap();
     assert_eq!(ended.status.code(), Some(0));
-    assert!(ended.stdout.starts_with(b"1 read client 0 object 0: ask first"));
+    assert!(ended.stdout.starts_with(b"1 (clock 0) read client 0 object 0: ask first"));
 }

@@ -81,9 +81,10 @@ fn assert_told(ticks: &str, steps: &str, told: &str) {
     let setup = format!("clients 3 volumes 1 objects 2\n{ticks}\nvolume 0 objects 0 1\n");
     let text = format!("{setup}join client 0 object 0\n{steps}write object 0 value 7\n");
     let run = parse(text.as_bytes()).unwrap_or_else(|troubles| panic!("{}", troubles[0]));
-    let end = format!(" write object 0 value 7: done: stands, latest end {told}\n");
+    let end = format!(" write object 0 value 7: done: stands, latest end {told}");
     let explained = listing(&run);
-    assert!(explained.ends_with(&end), "{explained}{end}");
+    let last = explained.lines().last().and_then(|line| line.split("; sends INVALIDATE ").next());
+    assert!(last.unwrap().ends_with(&end), "{explained}{end}");
 }
 
 #[test]

@@ -99,7 +99,7 @@ fn lines_of_any_words() {
         assert_eq!(script(canonical.as_bytes()).unwrap().print(), canonical, "{text}");
         if let Ok(steps) = first.written_out() {
             written += 1;
-            assert_eq!(parse(steps.print().as_bytes()).unwrap().steps, steps.run.steps, "{text}");
+            assert_eq!(parse(first.expanded(&steps).as_bytes()).unwrap().steps, steps.run.steps, "{text}");
             there_and_back(&steps.run.file());
         }
     }

@@ -5,6 +5,7 @@ mod common;
 use common::{example_path, run_program};
 use model::gen::runs::run;
 use tools::explain::{at, tables};
+use tools::scenario::Scenario;
 
 const EXPLAIN: &str = env!("CARGO_BIN_EXE_explain");
 
@@ -19,8 +20,8 @@ fn every_table_with_what_it_holds() {
     let ended = explained(&["--tables", "16"]);
     assert_eq!((ended.status, ended.errors.as_str()), (0, "21 steps, none refused\n"));
     let expected = "\
-after step 16 deliver 0: done: INVALIDATE object 0 version 2 to client 0 (epoch 1); copy of version 1 erased; \
-sends ACK object 0 version 2 from client 0 (epoch 1)
+after step 16 (clock 0) deliver 0: done: INVALIDATE object 0 version 2 to client 0 (epoch 1); copy of version 1 erased; \
+sends ACK object 0 version 2 from client 0 (epoch 1) at place 1
 
 clock 0
 
@@ -116,10 +117,11 @@ fn a_step_that_does_not_exist_is_told() {
 #[test]
 fn generated_states_have_their_rows() {
     for number in 10..40 {
-        let run = run(5, number);
-        let Some((text, copies, queue)) = at(&run, run.steps.len() / 2, |moment| {
+        let scenario = Scenario::from(run(5, number));
+        let run = &scenario.run;
+        let Some((text, copies, queue)) = at(&scenario, run.steps.len() / 2, |moment| {
             let held = moment.after.copies(moment.setup).iter().filter(|copy| copy.version != 0).count();
-            (tables::print(moment.setup, moment.after), held, moment.after.tables.queue.len)
+            (tables::print(moment.setup, moment.after, &moment.voice), held, moment.after.tables.queue.len)
         }) else {
             continue;
         };

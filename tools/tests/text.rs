@@ -107,6 +107,20 @@ fn notes_of_all_sorts() {
     assert_eq!((bytes.len(), bytes[2].as_str()), (3, "note hex 07"));
 }
 
+/// A title has neither the word note nor quotes.
+#[test]
+fn a_note_makes_a_title() {
+    for (bytes, title) in [
+        (&b""[..], None),
+        (b" \n\t\n", None),
+        (b"line 4 of the sheet", Some("line 4 of the sheet")),
+        (b"\n \"one\"\tand\r\ntwo", Some("\"one\" and")),
+        (b"\0ok", Some("00 6f 6b")),
+    ] {
+        assert_eq!(note::title(bytes).as_deref(), title);
+    }
+}
+
 #[test]
 fn every_short_note_comes_back() {
     let pairs = (0..=255u8).flat_map(|a| [vec![a], vec![b'"', a], vec![0xc3, a], vec![a, b'\n', a]]);

@@ -45,14 +45,15 @@ fn a_join_that_cannot_work_says_why() {
     assert_eq!(
         trouble("join client 0 object 0\nwrite object 0 value 7\njoin client 1 object 0\n"),
         format!(
-            "{stopped}14 deliver 1: done: RENEW 2 from client 1 (object 0, epoch 1, version 0); nothing: a write of \
+            "{stopped}14 (clock 0) deliver 1: done: RENEW 2 from client 1 (object 0, epoch 1, version 0); nothing: a write of \
              object 0 stands{end}"
         )
     );
     assert!(trouble("join client 0 object 0\nwrite object 0 value 7\njoin client 0 object 1\n")
         .contains("the write of object 0 still waits for client 0; sends INVALIDATE object 0 version 2"));
-    assert!(trouble("\n\njoin client 2 object 0\n")
-        .starts_with(&format!("{stopped}1 ask client 2 object 0: refused 3: no such item: client 2 of 2")));
+    assert!(trouble("\n\njoin client 2 object 0\n").starts_with(&format!(
+        "{stopped}1 (clock 0) ask client 2 object 0: refused 3: no such item: client 2 of 2"
+    )));
     let full = "ask client 1 object 1\n".repeat(64) + "join client 0 object 0\n";
     assert!(trouble(&full).contains("RENEW 1 from client 0 is lost, the queue has 64"));
 }
@@ -108,7 +109,7 @@ fn joins_in_generated_states() {
                 format!("join client {client} object {object}\nread client {client} object {object}\n");
             match parse((print(&run) + &lines).as_bytes()) {
                 Ok(whole) => {
-                    let last = tools::explain::line_at(&whole, whole.steps.len()).unwrap();
+                    let last = tools::explain::line_at(&whole.clone().into(), whole.steps.len()).unwrap();
                     assert!(last.contains(": shown "), "{last}");
                     joined += 1;
                 }

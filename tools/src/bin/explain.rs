@@ -2,14 +2,14 @@
 
 use std::process::ExitCode;
 
-use model::gen::runs::Run;
 use model::run::State;
 use tools::arguments::Arguments;
 use tools::command::{self, Failure};
-use tools::explain::{at, line, listing, tables};
+use tools::explain::{at, line_of, tables, told};
 use tools::input::Input;
 use tools::listed::Listed;
 use tools::output::Output;
+use tools::scenario::Scenario;
 use tools::{difference, proved, refusals, refused_file, trace};
 
 const HELP: &str = r#"explain: the listing of a run in words
@@ -24,8 +24,8 @@ writes a file instead of standard output.
 A line has the step's number, the step as in the text form, roadrun's answer in
 words, and what in the model's tables shows why:
 
-  12 clock 10: done: write of object 0 stands, latest end 10, waits for client 0
-  13 read client 0 object 0: ask first: volume lease ended at 10
+  12 (clock 10) clock 10: done: write of object 0 stands, latest end 10, waits for client 0
+  13 (clock 10) read client 0 object 0: ask first: volume lease ended at 10
 
 A write that is accepted and stands tells what fixes its latest end, as in
 "latest end 10 by the volume lease of client 0": the clients whose lease ends
@@ -50,8 +50,8 @@ fn main() -> ExitCode {
         let input = Input::read(arguments.file()?.as_deref())?;
         match (step, theirs) {
             (None, None) => {
-                let run = input.run_of_either()?;
-                Ok(counted(&run, listing(&run).into()))
+                let scenario = input.scenario()?;
+                Ok(counted(&input, &scenario, told(&scenario).into()))
             }
             (Some(step), None) => tables_after(&input, step),
             (None, Some(theirs)) => differences(&input, &Input::read(Some(&theirs))?.bytes),
@@ -60,32 +60,38 @@ fn main() -> ExitCode {
     })
 }
 
-/// With the line that counts the run's refused steps.
-fn counted(run: &Run, output: Output) -> Output {
+/// With what is wrong with the text, and the line that counts the run's
+/// refused steps.
+fn counted(input: &Input, scenario: &Scenario, output: Output) -> Output {
     let mut answers = Vec::new();
-    trace::walk(run, |moment| answers.push(Listed::of(&moment.answer)));
-    Output { told: vec![refusals::counted(answers)], ..output }
+    scenario.walk(|moment| answers.push(Listed::of(&moment.answer)));
+    let mut output = input.told_of(scenario, output);
+    output.told.extend(refusals::counted(answers).map(|line| scenario.voice.said(&line)));
+    output
 }
 
 fn tables_after(input: &Input, step: u64) -> Result<Output, Failure> {
-    let run = input.run_of_either()?;
+    let scenario = input.scenario()?;
+    let (setup, voice) = (&scenario.run.setup, &scenario.voice);
     let see = |moment: &trace::Moment| {
-        format!("after step {}\n\n{}", line(moment), tables::print(moment.setup, moment.after))
+        let line = line_of(&scenario, moment);
+        format!("after step {line}\n\n{}", tables::print(setup, moment.after, voice))
     };
     let text = match step {
-        0 => Some(tables::print(&run.setup, &State::fresh())),
-        _ => at(&run, step as usize, see),
+        0 => Some(tables::print(setup, &State::fresh(), voice)),
+        _ => at(&scenario, step as usize, see),
     };
-    let wrong = || format!("--tables: found {step}, expected a step from 0 to {}", run.steps.len());
+    let steps = scenario.run.steps.len();
+    let wrong = || format!("--tables: found {step}, expected a step from 0 to {steps}");
     let text = text.ok_or_else(|| input.failure(&[wrong()]))?;
-    Ok(counted(&run, text.into()))
+    Ok(counted(input, &scenario, text.into()))
 }
 
 /// Of a refused file, ours is what roadrun prints.
 fn differences(input: &Input, theirs: &[u8]) -> Result<Output, Failure> {
-    let run = input.run_or_fault()?;
+    let run = input.scenario_or_fault()?;
     let ours = match &run {
-        Ok(run) => proved::listing(run),
+        Ok(scenario) => proved::listing(&scenario.run),
         Err(_) => model::listing::listing(&input.bytes),
     };
     let output = match difference::first(&run, &ours, theirs) {
@@ -93,7 +99,7 @@ fn differences(input: &Input, theirs: &[u8]) -> Result<Output, Failure> {
         Some(words) => Output { holds: false, ..Output::from(words + "\n") },
     };
     Ok(match run {
-        Ok(run) => counted(&run, output),
+        Ok(scenario) => counted(input, &scenario, output),
         Err(fault) => Output { told: vec![refused_file::told(&fault)], ..output },
     })
 }

@@ -40,14 +40,16 @@ fn main() -> ExitCode {
         let mut arguments = Arguments::new(rest);
         let from = step(&mut arguments, "--from")?;
         let to = step(&mut arguments, "--to")?;
-        let run = Input::read(arguments.file()?.as_deref())?.run_of_either()?;
+        let input = Input::read(arguments.file()?.as_deref())?;
+        let scenario = input.scenario()?;
+        let run = &scenario.run;
         let wanted = window(from, to, run.steps.len())?;
         if form == "html" {
-            return Ok(Output::from(page(&run, wanted)));
+            return Ok(input.told_of(&scenario, page(run, wanted).into()));
         }
         let shown = wanted.narrowed();
         let told = narrowing(shown, wanted).into_iter().collect();
-        Ok(Output { told, ..svg(&run, shown).into() })
+        Ok(input.told_of(&scenario, Output { told, ..svg(run, shown).into() }))
     })
 }
 

@@ -1,6 +1,7 @@
 //! Turns the text form of a run into a run file and back, checks what a text
 //! expects, and makes run files of workloads.
 
+use std::iter;
 use std::process::ExitCode;
 
 use tools::arguments::Arguments;
@@ -11,6 +12,7 @@ use tools::output::Output;
 use tools::proved;
 use tools::refusals::counted;
 use tools::refused_file::no_workload;
+use tools::scenario::Scenario;
 use tools::text::script::Script;
 use tools::text::{print, to_file, workload_file};
 
@@ -92,51 +94,68 @@ fn main() -> ExitCode {
 }
 
 fn encode(arguments: Arguments) -> Result<Output, Failure> {
-    let written = Input::read(arguments.file()?.as_deref())?.written_out()?;
-    let told = vec![counted(written.steps.iter().map(|step| step.answer))];
+    let input = Input::read(arguments.file()?.as_deref())?;
+    let script = input.script()?;
+    let written = input.written_out(&script)?;
+    let told = counted(written.steps.iter().map(|step| step.answer));
+    let told = told.map(|line| script.voice.said(&line)).into_iter().collect();
     Ok(Output { told, ..Output::from(to_file(&written.run)) })
 }
 
 fn format(mut arguments: Arguments) -> Result<Output, Failure> {
     let expand = arguments.flag("--expand");
     let input = Input::read(arguments.file()?.as_deref())?;
-    let text = if expand { input.written_out()?.print() } else { input.script()?.print() };
+    let script = input.script()?;
+    let text = if expand { script.expanded(&input.written_out(&script)?) } else { script.print() };
     Ok(text.into())
 }
 
 fn load(mut arguments: Arguments) -> Result<Output, Failure> {
     let (seed, steps) = (arguments.needed("--seed")?, arguments.needed("--steps")?);
     let input = Input::read(arguments.file()?.as_deref())?;
-    let Script { note, setup, .. } = input.without_steps()?;
+    let Script { note, setup, voice, .. } = input.without_steps()?;
     let file = workload_file(seed, &note, &setup, steps)
         .map_err(|refused| input.failure(&[no_workload(refused, note.len(), steps)]))?;
-    let told = vec![counted(proved::answers_of(&file))];
-    Ok(Output { told, ..file.into() })
+    let told = counted(proved::answers_of(&file)).map(|line| voice.said(&line));
+    Ok(Output { told: told.into_iter().collect(), ..file.into() })
 }
 
-/// A line for each text, also where one before it could not be read.
+/// A verdict for each text, also where one before it could not be read.
 fn check(arguments: Arguments) -> Result<Output, Failure> {
     let mut files: Vec<Option<String>> = arguments.files()?.into_iter().map(Some).collect();
     if files.is_empty() {
         files.push(None);
     }
-    let (mut lines, mut answers, mut troubles) = (String::new(), Vec::new(), Vec::new());
-    let mut holds = true;
+    let mut output = Output::from(String::new());
+    let (mut answers, mut voice) = (Vec::new(), None);
     for file in files {
-        let written = Input::read(file.as_deref()).and_then(|input| Ok((input.written_out()?, input)));
-        match written {
-            Ok((written, input)) => {
-                let verdict = verdict(&written);
-                lines += &format!("{}: {}\n", input.name(), verdict.words);
-                answers.extend(verdict.answers);
-                holds &= verdict.holds;
+        let read =
+            Input::read(file.as_deref()).and_then(|input| Ok((Scenario::from(input.script()?), input)));
+        match read {
+            Ok((scenario, input)) => {
+                checked(&input, &scenario, &mut output);
+                answers.extend(proved::answers(&scenario.run));
+                voice.get_or_insert(scenario.voice);
             }
             Err(Failure::Input(message) | Failure::Usage(message)) => {
-                troubles.push(message);
-                holds = false;
+                output.told.push(message);
+                output.holds = false;
             }
         }
     }
-    troubles.push(counted(answers));
-    Ok(Output { bytes: lines.into_bytes(), told: troubles, holds })
+    output.told.extend(counted(answers).map(|line| voice.unwrap_or_default().said(&line)));
+    Ok(output)
+}
+
+/// Adds how many expectations of a text hold, and each that fails.
+fn checked(input: &Input, scenario: &Scenario, output: &mut Output) {
+    let verdict = verdict(scenario);
+    for line in iter::once(&verdict.words).chain(&verdict.failures) {
+        output.bytes.extend(format!("{}: {line}\n", input.name()).bytes());
+    }
+    output.holds &= verdict.holds();
+    if let Some(trouble) = scenario.stopped() {
+        output.told.push(input.named(trouble));
+        output.holds = false;
+    }
 }

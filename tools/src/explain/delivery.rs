@@ -4,13 +4,13 @@
 
 use model::message::{Kind, Message};
 
-use super::steps::{completed, waits};
+use super::steps::{completed, sends, waits};
 use crate::names::whole;
 use crate::trace::Moment;
 
 pub fn reasons(moment: &Moment, message: &Message) -> Vec<String> {
     let client = usize::from(message.client);
-    let mut reasons = vec![whole(message)];
+    let mut reasons = vec![whole(message, &moment.voice)];
     reasons.extend(match message.kind {
         Kind::Renew { object, number, epoch, .. } => renew(moment, client, object.into(), number, epoch),
         Kind::Grant(_) => grant_stored(moment, client),
@@ -19,7 +19,7 @@ pub fn reasons(moment: &Moment, message: &Message) -> Vec<String> {
         Kind::Offer { volume, epoch, .. } => offer(moment, client, volume, epoch),
         Kind::Dropped { volume, number, epoch } => dropped(moment, client, volume.into(), number, epoch),
     });
-    reasons.extend(moment.sent().iter().map(|sent| format!("sends {}", whole(sent))));
+    reasons.extend(sends(moment));
     reasons.extend(completed(moment));
     reasons
 }

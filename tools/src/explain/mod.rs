@@ -2,49 +2,28 @@
 //! part of the model's state that shows why.
 
 mod delivery;
+mod lines;
 mod refusal;
 mod steps;
 mod table;
 pub mod tables;
 
-use std::fmt::Write;
-
 use model::answer::Answer;
-use model::gen::runs::Run;
 
 use crate::listed::Listed;
-use crate::text;
-use crate::trace::{walk, Moment};
-
-/// The explained listing of a run.
-pub fn listing(run: &Run) -> String {
-    let mut lines = String::new();
-    walk(run, |moment| writeln!(lines, "{}", line(moment)).expect("a string takes every line"));
-    lines
-}
-
-pub fn line(moment: &Moment) -> String {
-    let (step, answer) = (text::steps::line(&moment.step), answer(&moment.answer));
-    let head = format!("{} {step}: {answer}", moment.number);
-    match reasons(moment) {
-        reasons if reasons.is_empty() => head,
-        reasons => format!("{head}: {}", reasons.join("; ")),
-    }
-}
+use crate::scenario::Scenario;
+use crate::trace::Moment;
+pub use lines::{answered, line, line_of, listing, told, written};
 
 /// The line of one step.
-pub fn line_at(run: &Run, number: usize) -> Option<String> {
-    at(run, number, line)
-}
-
-pub fn reasons_at(run: &Run, number: usize) -> Vec<String> {
-    at(run, number, reasons).unwrap_or_default()
+pub fn line_at(scenario: &Scenario, number: usize) -> Option<String> {
+    at(scenario, number, |moment| line_of(scenario, moment))
 }
 
 /// What is seen of one step of a run, if it has so many.
-pub fn at<T>(run: &Run, number: usize, see: impl Fn(&Moment) -> T) -> Option<T> {
+pub fn at<T>(scenario: &Scenario, number: usize, see: impl Fn(&Moment) -> T) -> Option<T> {
     let mut seen = None;
-    walk(run, |moment| {
+    scenario.walk(|moment| {
         if moment.number == number {
             seen = Some(see(moment));
         }
@@ -57,7 +36,12 @@ pub fn answer(answer: &Answer) -> String {
     Listed::of(answer).words()
 }
 
+/// In the user's words.
 pub fn reasons(moment: &Moment) -> Vec<String> {
+    plain_reasons(moment).iter().map(|reason| moment.voice.said(reason)).collect()
+}
+
+fn plain_reasons(moment: &Moment) -> Vec<String> {
     use model::step_record::*;
     match (moment.answer, moment.step.kind) {
         (Answer::Refused(number), _) => refusal::reasons(moment, number),

@@ -11,7 +11,11 @@ pub fn reasons(moment: &Moment, number: u8) -> Vec<String> {
     match number {
         UNKNOWN_KIND => vec![format!("kind {} is not one of 1 to 9", moment.step.kind)],
         NO_SUCH_ITEM => items(moment),
-        BAD_TIME => vec![format!("the time must be from {} to {CLOCK_MAX}", moment.before.tables.clock)],
+        BAD_TIME => {
+            let (least, most) = (moment.before.tables.clock, CLOCK_MAX);
+            let (least, most) = (moment.voice.ticks(least), moment.voice.ticks(most));
+            vec![format!("the time must be from {least} to {most}")]
+        }
         WRITE_STANDS => vec![standing(moment)],
         NO_NUMBER_LEFT => vec!["a number that must grow is at its end".into()],
         _ => vec!["setup or tables are not sound".into()],
@@ -34,6 +38,6 @@ fn items(moment: &Moment) -> Vec<String> {
 
 fn standing(moment: &Moment) -> String {
     let write = &moment.server_before().write[usize::from(moment.step.object)];
-    let waiting = clients(write.waiting);
-    format!("a write of value {} stands, latest end {}, waiting for {waiting}", write.value, write.latest_end)
+    let (waiting, end) = (clients(write.waiting), moment.voice.ticks(write.latest_end));
+    format!("a write of value {} stands, latest end {end}, waiting for {waiting}", write.value)
 }

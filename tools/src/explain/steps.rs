@@ -1,19 +1,27 @@
 //! Reasons for every accepted step but a delivery.
 
 use model::limits::QUEUE;
+use model::message::Message;
 use model::tables::{alive, Write};
 
 use crate::latest_end;
-use crate::names::{clients, routed, whole};
+use crate::names::{clients, label, routed, whole};
 use crate::trace::Moment;
 
 /// "volume lease to 10", "volume lease ended at 10" or "no volume lease".
-fn lease(what: &str, expiry: u32, clock: u32) -> String {
+fn lease(moment: &Moment, what: &str, expiry: u32) -> String {
+    let ticks = moment.voice.ticks(expiry);
     match expiry {
         0 => format!("no {what} lease"),
-        _ if alive(expiry, clock) => format!("{what} lease to {expiry}"),
-        _ => format!("{what} lease ended at {expiry}"),
+        _ if alive(expiry, moment.before.tables.clock) => format!("{what} lease to {ticks}"),
+        _ => format!("{what} lease ended at {ticks}"),
     }
+}
+
+/// What the step sends, each with its place among those under way.
+pub fn sends(moment: &Moment) -> Vec<String> {
+    let sends = |(place, sent)| format!("sends {} at place {place}", whole(sent, &moment.voice));
+    moment.placed().map(sends).collect()
 }
 
 /// Shown: what it rests on. Not shown: only what it lacks.
@@ -32,7 +40,7 @@ pub fn read(moment: &Moment) -> Vec<String> {
     for (what, expiry, told) in [("volume", volume_expiry, true), ("object", copy.expiry, copy.version != 0)]
     {
         if told && shown == alive(expiry, tables.clock) {
-            reasons.push(lease(what, expiry, tables.clock));
+            reasons.push(lease(moment, what, expiry));
         }
     }
     reasons
@@ -41,10 +49,10 @@ pub fn read(moment: &Moment) -> Vec<String> {
 pub fn ask(moment: &Moment) -> Vec<String> {
     let client = moment.step.client;
     let number = moment.request_before(client.into()).next;
-    let mut reasons = match moment.sent() {
-        [message] => vec![format!("sends {}", whole(message))],
-        _ => vec![format!("RENEW {number} from client {client} is lost, the queue has {QUEUE}")],
-    };
+    let mut reasons = sends(moment);
+    if reasons.is_empty() {
+        reasons.push(format!("RENEW {number} from client {client} is lost, the queue has {QUEUE}"));
+    }
     if let Some(standing) = moment.request_before(client.into()).standing {
         reasons.push(format!("replaces request {} for object {}", standing.number, standing.object));
     }
@@ -59,8 +67,10 @@ pub fn write(moment: &Moment) -> Vec<String> {
         return vec![format!("nobody to wait for, stored as version {}", server.version[object])];
     };
     let write = &server.write[object];
-    let stands = format!("stands, latest end {} by {}", write.latest_end, cause.words());
-    let mut reasons = vec![stands, waits(moment, object, write)];
+    let end = moment.voice.ticks(write.latest_end);
+    let mut reasons =
+        vec![format!("stands, latest end {end} by {}", cause.words()), waits(moment, object, write)];
+    reasons.extend(sends_to(moment));
     let lost = write.waiting.count_ones() as usize - moment.sent().len();
     if lost > 0 {
         reasons.push(format!("{lost} of its INVALIDATE lost, the queue has {QUEUE}"));
@@ -68,10 +78,19 @@ pub fn write(moment: &Moment) -> Vec<String> {
     reasons
 }
 
+/// What a write sends: the same to each client.
+fn sends_to(moment: &Moment) -> Option<String> {
+    let to = |(place, sent): (usize, &Message)| format!("to client {} at place {place}", sent.client);
+    let (_, first) = moment.placed().next()?;
+    Some(format!("sends {} {}", label(first), moment.placed().map(to).collect::<Vec<_>>().join(", ")))
+}
+
 /// Whom or what a standing write waits for.
 pub fn waits(moment: &Moment, object: usize, write: &Write) -> String {
     let guard = moment.server().guard[moment.setup.volume(object)];
-    match (write.waiting, moment.clock() < guard) {
+    let held_back = moment.clock() < guard;
+    let guard = moment.voice.ticks(guard);
+    match (write.waiting, held_back) {
         (0, true) => format!("waits for the guard, {guard}"),
         (set, true) => format!("waits for {} and the guard, {guard}", clients(set)),
         (set, false) => format!("waits for {}", clients(set)),
@@ -93,7 +112,7 @@ pub fn clock(moment: &Moment) -> Vec<String> {
         if write.waiting != 0 {
             words += &format!(
                 ", latest end {} passed, {} marked unreachable",
-                write.latest_end,
+                moment.voice.ticks(write.latest_end),
                 clients(write.waiting)
             );
         }
@@ -102,14 +121,14 @@ pub fn clock(moment: &Moment) -> Vec<String> {
     let server = moment.server();
     for object in moment.objects().filter(|&object| server.stands(object)) {
         let write = &server.write[object];
-        let waits = waits(moment, object, write);
-        reasons.push(format!("write of object {object} stands, latest end {}, {waits}", write.latest_end));
+        let (end, waits) = (moment.voice.ticks(write.latest_end), waits(moment, object, write));
+        reasons.push(format!("write of object {object} stands, latest end {end}, {waits}"));
     }
     reasons
 }
 
 pub fn lose(moment: &Moment) -> Vec<String> {
-    moment.taken().map(|message| format!("{} is lost", whole(message))).into_iter().collect()
+    moment.taken().map(|message| format!("{} is lost", whole(message, &moment.voice))).into_iter().collect()
 }
 
 pub fn double(moment: &Moment) -> Vec<String> {
@@ -123,7 +142,8 @@ pub fn double(moment: &Moment) -> Vec<String> {
 pub fn restart_server(moment: &Moment) -> Vec<String> {
     let server = moment.server();
     let volumes = moment.volumes().map(|volume| {
-        format!("volume {volume} has epoch {}, guard {}", server.epoch[volume], server.guard[volume])
+        let (epoch, guard) = (server.epoch[volume], moment.voice.ticks(server.guard[volume]));
+        format!("volume {volume} has epoch {epoch}, guard {guard}")
     });
     let cut_off = |(object, write): (usize, &Write)| {
         format!("write of object {object}, value {}, cut off", write.value)

@@ -1,12 +1,11 @@
 //! A table as aligned text.
 
 /// A title, then a row of heads and the rows below it; no rows are "none".
-pub fn print(title: &str, heads: &[&str], rows: &[Vec<String>]) -> String {
+pub fn print(title: &str, heads: Vec<String>, rows: &[Vec<String>]) -> String {
     if rows.is_empty() {
         return format!("{title}: none\n");
     }
     let mut text = format!("{title}\n");
-    let heads: Vec<String> = heads.iter().map(|head| head.to_string()).collect();
     let widths: Vec<usize> = (0..heads.len())
         .map(|column| rows.iter().chain([&heads]).map(|row| row[column].chars().count()).max().unwrap_or(0))
         .collect();

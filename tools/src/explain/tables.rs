@@ -7,12 +7,13 @@ use model::tables::alive;
 
 use super::table;
 use crate::names::{clients, whole};
+use crate::voice::Voice;
 
 /// All tables of a state, one below the other.
-pub fn print(setup: &Setup, state: &State) -> String {
-    let view = View { setup, state };
+pub fn print(setup: &Setup, state: &State, voice: &Voice) -> String {
+    let view = View { setup, state, voice };
     let parts = [
-        format!("clock {}\n", state.tables.clock),
+        format!("clock {}\n", voice.ticks(state.tables.clock)),
         view.volumes(),
         view.objects(),
         view.server_clients(),
@@ -29,6 +30,7 @@ pub fn print(setup: &Setup, state: &State) -> String {
 struct View<'a> {
     setup: &'a Setup,
     state: &'a State,
+    voice: &'a Voice,
 }
 
 /// Numbers and words of a row.
@@ -37,12 +39,21 @@ macro_rules! row {
 }
 
 impl View<'_> {
+    /// A table in the user's words.
+    fn table(&self, title: &str, heads: &[&str], rows: &[Vec<String>]) -> String {
+        let said = |cells: Vec<String>| cells.iter().map(|cell| self.voice.said(cell)).collect();
+        let heads = heads.iter().map(|head| head.to_string()).collect();
+        let rows: Vec<Vec<String>> = rows.iter().cloned().map(said).collect();
+        table::print(&self.voice.said(title), said(heads), &rows)
+    }
+
     /// "10 alive" or "10 ended".
     fn expiry(&self, expiry: u32) -> String {
+        let ticks = self.voice.ticks(expiry);
         match expiry {
             0 => "none".into(),
-            _ if alive(expiry, self.state.tables.clock) => format!("{expiry} alive"),
-            _ => format!("{expiry} ended"),
+            _ if alive(expiry, self.state.tables.clock) => format!("{ticks} alive"),
+            _ => format!("{ticks} ended"),
         }
     }
 
@@ -67,10 +78,10 @@ impl View<'_> {
         let server = &self.state.tables.server;
         let row = |volume: usize| {
             let (latest, guard) = (server.volume_latest[volume], server.guard[volume]);
-            row![volume, server.epoch[volume], latest, guard]
+            row![volume, server.epoch[volume], self.voice.ticks(latest), self.voice.ticks(guard)]
         };
         let rows: Vec<_> = self.each_volume().map(row).collect();
-        table::print("server, volumes", &["volume", "epoch", "largest expiry", "guard"], &rows)
+        self.table("server, volumes", &["volume", "epoch", "largest expiry", "guard"], &rows)
     }
 
     fn objects(&self) -> String {
@@ -82,22 +93,23 @@ impl View<'_> {
                 true => format!(
                     "value {}, latest end {}, waits for {}",
                     write.value,
-                    write.latest_end,
+                    self.voice.ticks(write.latest_end),
                     clients(write.waiting)
                 ),
             };
             let (value, version) = (server.value[object], server.version[object]);
-            row![object, self.setup.volume(object), value, version, server.object_latest[object], standing]
+            let latest = self.voice.ticks(server.object_latest[object]);
+            row![object, self.setup.volume(object), value, version, latest, standing]
         };
         let rows: Vec<_> = self.each_object().map(row).collect();
         let heads = ["object", "volume", "value", "version", "largest expiry", "standing write"];
-        table::print("server, objects", &heads, &rows)
+        self.table("server, objects", &heads, &rows)
     }
 
     fn server_clients(&self) -> String {
         let seen = &self.state.tables.server.seen;
         let rows: Vec<_> = self.each_client().map(|client| row![client, seen[client]]).collect();
-        table::print("server, clients", &["client", "highest number seen"], &rows)
+        self.table("server, clients", &["client", "highest number seen"], &rows)
     }
 
     fn server_volume_leases(&self) -> String {
@@ -111,7 +123,7 @@ impl View<'_> {
             holds.then(|| row![client, volume, self.expiry(expiry), mark, offered])
         };
         let rows: Vec<_> = self.pairs(self.each_volume()).filter_map(row).collect();
-        table::print("server, volume leases", &["client", "volume", "lease to", "mark", "offer"], &rows)
+        self.table("server, volume leases", &["client", "volume", "lease to", "mark", "offer"], &rows)
     }
 
     fn server_object_leases(&self) -> String {
@@ -121,7 +133,7 @@ impl View<'_> {
             (expiry != 0).then(|| row![client, object, self.expiry(expiry)])
         };
         let rows: Vec<_> = self.pairs(self.each_object()).filter_map(row).collect();
-        table::print("server, object leases", &["client", "object", "lease to"], &rows)
+        self.table("server, object leases", &["client", "object", "lease to"], &rows)
     }
 
     fn requests(&self) -> String {
@@ -132,7 +144,7 @@ impl View<'_> {
             row![client, request.next, standing]
         };
         let rows: Vec<_> = self.state.requests(self.setup).iter().enumerate().map(row).collect();
-        table::print("clients, requests", &["client", "next number", "standing request"], &rows)
+        self.table("clients, requests", &["client", "next number", "standing request"], &rows)
     }
 
     fn client_volumes(&self) -> String {
@@ -142,7 +154,7 @@ impl View<'_> {
             (epoch != 0 || expiry != 0).then(|| row![client, volume, epoch, self.expiry(expiry)])
         };
         let rows: Vec<_> = self.pairs(self.each_volume()).filter_map(row).collect();
-        table::print("clients, volumes", &["client", "volume", "epoch", "lease to"], &rows)
+        self.table("clients, volumes", &["client", "volume", "epoch", "lease to"], &rows)
     }
 
     fn copies(&self) -> String {
@@ -153,12 +165,12 @@ impl View<'_> {
                 .then(|| row![client, object, copy.version, copy.value, self.expiry(copy.expiry)])
         };
         let rows: Vec<_> = self.pairs(self.each_object()).filter_map(row).collect();
-        table::print("clients, copies", &["client", "object", "version", "value", "lease to"], &rows)
+        self.table("clients, copies", &["client", "object", "version", "value", "lease to"], &rows)
     }
 
     fn messages(&self) -> String {
         let messages = self.state.tables.queue.messages().iter().enumerate();
-        let rows: Vec<_> = messages.map(|(place, message)| row![place, whole(message)]).collect();
-        table::print("messages under way", &["place", "message"], &rows)
+        let rows: Vec<_> = messages.map(|(place, message)| row![place, whole(message, self.voice)]).collect();
+        self.table("messages under way", &["place", "message"], &rows)
     }
 }

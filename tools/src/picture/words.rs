@@ -48,7 +48,7 @@ pub fn queued(place: usize, message: &Message) -> String {
 }
 
 pub fn flight_title(timeline: &Timeline, flight: &Flight) -> String {
-    let what = names::whole(&flight.message);
+    let what = names::whole(&flight.message, &timeline.voice);
     let line = |step: usize| &timeline.step(step).line;
     let begin = match flight.copy_of {
         Some(_) => format!("copied by step {}", line(flight.sent)),

@@ -2,10 +2,9 @@
 
 use model::limits::{NO_NUMBER_LEFT, OBJECTS, UNSOUND};
 
-use super::words::{quoted, Words, Wrong};
+use super::words::{quoted, Words, Wrong, ARROW};
 use crate::listed::Listed;
 
-const ARROW: &str = "=>";
 const AN_ANSWER: &str = "`done`, `shown V`, `ask first`, `completed N` or `refused N`";
 
 /// What stands behind a step.

@@ -16,6 +16,8 @@ use std::fmt::Write;
 use model::gen::runs::Run;
 use model::setup::Setup;
 
+use crate::tick::Tick;
+
 pub use file::{from_file, to_file, workload_file};
 pub use reader::{script, without_steps};
 use words::Trouble;
@@ -28,13 +30,20 @@ pub fn parse(text: &[u8]) -> Result<Run, Vec<Trouble>> {
 
 /// The run in canonical form: the one text for each run.
 pub fn print(run: &Run) -> String {
-    canonical(&run.note, &run.setup, run.steps.iter().map(steps::line))
+    canonical(&run.note, &run.setup, None, run.steps.iter().map(steps::line))
 }
 
-fn canonical(note: &[u8], setup: &Setup, steps: impl ExactSizeIterator<Item = String>) -> String {
+/// The length of a tick comes behind the setup.
+fn canonical(
+    note: &[u8],
+    setup: &Setup,
+    tick: Option<Tick>,
+    steps: impl ExactSizeIterator<Item = String>,
+) -> String {
     let mut text = String::new();
     let gap = (steps.len() > 0).then(String::new);
-    for line in note::lines(note).into_iter().chain(setup::lines(setup)).chain(gap).chain(steps) {
+    let setup = setup::lines(setup).into_iter().chain(tick.map(|tick| tick.line()));
+    for line in note::lines(note).into_iter().chain(setup).chain(gap).chain(steps) {
         writeln!(text, "{line}").expect("a string takes every line");
     }
     text

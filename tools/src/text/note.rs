@@ -19,6 +19,17 @@ pub fn lines(note: &[u8]) -> Vec<String> {
     }
 }
 
+/// Returns the note's first line for a title: the text alone, or its bytes in
+/// hex where they are no text. Nothing if there is nothing to read.
+pub fn title(note: &[u8]) -> Option<String> {
+    match std::str::from_utf8(note) {
+        Ok(text) if text.chars().all(printable) => {
+            text.lines().map(|line| line.trim().replace('\t', " ")).find(|line| !line.is_empty())
+        }
+        _ => note.chunks(BYTES).map(hex).next(),
+    }
+}
+
 /// Whether a quoted note may hold the character. What `escape_debug` leaves
 /// alone can be seen; marks that join the one before them cannot, alone.
 fn printable(c: char) -> bool {
@@ -54,8 +65,12 @@ fn escaped(c: char) -> String {
 }
 
 fn hex_line(bytes: &[u8]) -> String {
+    format!("note hex {}", hex(bytes))
+}
+
+fn hex(bytes: &[u8]) -> String {
     let hex: Vec<String> = bytes.iter().map(|byte| format!("{byte:02x}")).collect();
-    format!("note hex {}", hex.join(" "))
+    hex.join(" ")
 }
 
 /// What follows the word `note`, added to the note's bytes.

@@ -6,14 +6,21 @@ use model::runfile::distance;
 use super::actions::{self, Action};
 use super::script::{Line, Script};
 use super::setup::Partial;
-use super::words::{plain, quoted, Trouble, Words, Wrong};
+use super::words::{quoted, Trouble, Words, Wrong, ARROW};
 use super::{expected, note, setup, steps};
+use crate::tick::{Tick, TICK};
+use crate::vocabulary::{plain, Vocabulary};
+use crate::voice::Voice;
 
 const NO_STEP: &str = "no step: the seed gives the steps";
 
+/// Some editors put it before a text.
+const BYTE_ORDER_MARK: &[u8] = b"\xef\xbb\xbf";
+
 /// The parts of a text in their order.
-#[derive(Clone, Copy, PartialEq, PartialOrd)]
+#[derive(Clone, Copy, Default, PartialEq, PartialOrd)]
 enum Part {
+    #[default]
     Note,
     Counts,
     Ticks,
@@ -21,13 +28,20 @@ enum Part {
     Steps,
 }
 
+#[derive(Default)]
 struct Reader {
     part: Part,
     /// The last part that the text may have.
     last: Part,
     note: Vec<u8>,
     setup: Partial,
+    /// Those of the first such word that is not in the note.
+    words: Option<Vocabulary>,
+    tick: Option<Tick>,
     lines: Vec<Line>,
+    /// Comments that wait for the line that they stand before.
+    comments: Vec<String>,
+    opening: Vec<String>,
     /// Where a missing setup line is told: the first step's line.
     first_step: Option<usize>,
     troubles: Vec<Trouble>,
@@ -44,15 +58,8 @@ pub fn without_steps(text: &[u8]) -> Result<Script, Vec<Trouble>> {
 }
 
 fn read(text: &[u8], last: Part) -> Result<Script, Vec<Trouble>> {
-    let mut reader = Reader {
-        part: Part::Note,
-        last,
-        note: Vec::new(),
-        setup: Partial::default(),
-        lines: Vec::new(),
-        first_step: None,
-        troubles: Vec::new(),
-    };
+    let mut reader = Reader { last, ..Reader::default() };
+    let text = text.strip_prefix(BYTE_ORDER_MARK).unwrap_or(text);
     let text = text.strip_suffix(b"\n").unwrap_or(text);
     let mut number = 0;
     for line in text.split(|&byte| byte == b'\n') {
@@ -64,7 +71,9 @@ fn read(text: &[u8], last: Part) -> Result<Script, Vec<Trouble>> {
             reader.first_step = Some(number);
         }
     }
-    reader.whole(number)
+    let words = reader.words.unwrap_or_default();
+    let told = |troubles: Vec<Trouble>| troubles.iter().map(|trouble| trouble.said(words)).collect();
+    reader.whole(number).map_err(told)
 }
 
 impl Reader {
@@ -81,15 +90,25 @@ impl Reader {
     fn read_line(&mut self, line: &str, number: usize) -> Result<(), Wrong> {
         let mut words = Words::new(line);
         let Some(first) = words.peek() else {
+            self.comments.extend(comment(line));
             return Ok(());
         };
+        if first == "one" && self.part < Part::Steps {
+            return self.read_tick(&mut words);
+        }
+        if part_of(first, line) != Some(Part::Note) {
+            self.words = self.words.or_else(|| words.find(Vocabulary::of));
+        }
         self.part = self.next_part(first, line)?;
+        if self.part == Part::Steps {
+            return self.read_step(&mut words, line, number);
+        }
+        self.opening.append(&mut self.comments);
         match self.part {
-            Part::Note => note::parse(&line.trim_start()["note".len()..], &mut self.note),
             Part::Counts => self.setup.read_counts(&mut words),
             Part::Ticks => self.setup.read_ticks(&mut words),
             Part::Volumes => self.setup.read_volume(&mut words),
-            Part::Steps => self.read_step(&mut words, number),
+            _ => note::parse(&line.trim_start()["note".len()..], &mut self.note),
         }
     }
 
@@ -113,12 +132,25 @@ impl Reader {
         }
     }
 
-    fn read_step(&mut self, words: &mut Words, number: usize) -> Result<(), Wrong> {
+    /// Before the first step it may stand anywhere.
+    fn read_tick(&mut self, words: &mut Words) -> Result<(), Wrong> {
+        self.opening.append(&mut self.comments);
+        let tick = Tick::parse(words)?;
+        match self.tick.replace(tick) {
+            None => Ok(()),
+            Some(_) => Err(Wrong::new("a second length of a tick", format!("{TICK} once"))),
+        }
+    }
+
+    fn read_step(&mut self, words: &mut Words, line: &str, number: usize) -> Result<(), Wrong> {
+        let before = std::mem::take(&mut self.comments);
         let action = actions::parse(words)?;
         if let Action::Join { .. } = action {
             words.end()?;
         }
-        self.lines.push(Line { number, action, expected: expected::parse(words)? });
+        let expected = expected::parse(words)?;
+        let (written, behind) = (written(line), comment(line));
+        self.lines.push(Line { number, action, expected, written, before, behind });
         Ok(())
     }
 
@@ -130,13 +162,26 @@ impl Reader {
         let wrong = match self.setup.whole() {
             Err(wrong) => wrong,
             Ok(setup) if self.note.len() <= room => {
-                return Ok(Script { note: self.note, setup, lines: self.lines });
+                let voice = Voice { words: self.words.unwrap_or_default(), tick: self.tick };
+                let (lines, opening, ending) = (self.lines, self.opening, self.comments);
+                return Ok(Script { note: self.note, setup, voice, lines, opening, ending });
             }
             Ok(_) => Wrong::new(format!("a note of {} bytes", self.note.len()), format!("at most {room}")),
         };
         self.troubles.push(Trouble { line: self.first_step.unwrap_or(last), wrong });
         Err(self.troubles)
     }
+}
+
+/// What is written before expectation and comment, with single spaces.
+fn written(line: &str) -> String {
+    let step = line.split('#').next().and_then(|words| words.split(ARROW).next());
+    step.into_iter().flat_map(str::split_whitespace).collect::<Vec<_>>().join(" ")
+}
+
+/// The comment of a line, without its `#`.
+fn comment(line: &str) -> Option<String> {
+    line.split_once('#').map(|(_, comment)| comment.trim().into())
 }
 
 /// `volume lease` and `volume 0` begin alike.

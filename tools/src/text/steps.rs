@@ -2,7 +2,8 @@
 
 use model::step_record::*;
 
-use super::words::{plain, quoted, Words, Wrong};
+use super::words::{quoted, Words, Wrong};
+use crate::vocabulary::plain;
 
 pub const A_STEP: &str = "a step: clock, read, ask, write, deliver, lose, double, restart, kind or join";
 

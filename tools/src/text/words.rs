@@ -1,6 +1,9 @@
 //! The words of a line, read one after another.
 
+use std::collections::VecDeque;
 use std::fmt;
+
+use crate::vocabulary::{plain, Vocabulary};
 
 /// A bad place in a line.
 #[derive(Clone, Debug, PartialEq, Eq)]
@@ -13,6 +16,13 @@ impl Wrong {
     pub fn new(found: impl Into<String>, expected: impl Into<String>) -> Wrong {
         Wrong { found: found.into(), expected: expected.into() }
     }
+
+    /// The same in the user's words, but for what is quoted of the text.
+    fn said(&self, words: Vocabulary) -> Wrong {
+        let parts = self.found.split('`').enumerate();
+        let found = parts.map(|(place, part)| if place % 2 == 1 { part.into() } else { words.said(part) });
+        Wrong::new(found.collect::<Vec<_>>().join("`"), words.said(&self.expected))
+    }
 }
 
 /// The same with the line's number, from 1.
@@ -22,6 +32,19 @@ pub struct Trouble {
     pub wrong: Wrong,
 }
 
+impl Trouble {
+    /// In words, with what is written on the line.
+    pub fn at(&self, written: &str) -> String {
+        let Wrong { found, expected } = &self.wrong;
+        format!("line {}, {written}: found {found}, expected {expected}", self.line)
+    }
+
+    /// The same in the user's words.
+    pub fn said(&self, words: Vocabulary) -> Trouble {
+        Trouble { line: self.line, wrong: self.wrong.said(words) }
+    }
+}
+
 impl fmt::Display for Trouble {
     fn fmt(&self, f: &mut fmt::Formatter) -> fmt::Result {
         let Wrong { found, expected } = &self.wrong;
@@ -29,44 +52,42 @@ impl fmt::Display for Trouble {
     }
 }
 
-/// The customer's own words, and the field's that they stand for.
-const OTHER_WORDS: [(&str, &str); 6] = [
-    ("dash", "client"),
-    ("dashes", "clients"),
-    ("region", "volume"),
-    ("regions", "volumes"),
-    ("notice", "object"),
-    ("notices", "objects"),
-];
-
-/// The field's word for this one.
-pub fn plain(word: &str) -> &str {
-    OTHER_WORDS.iter().find(|(other, _)| *other == word).map_or(word, |(_, plain)| plain)
-}
+/// What stands between a step and what is expected of it.
+pub const ARROW: &str = "=>";
 
 #[derive(Clone)]
 pub struct Words<'a> {
-    rest: std::iter::Peekable<std::str::SplitWhitespace<'a>>,
+    rest: VecDeque<&'a str>,
 }
 
 impl<'a> Words<'a> {
-    /// The words before a comment.
+    /// The words before a comment. An arrow is a word wherever it stands.
     pub fn new(line: &'a str) -> Words<'a> {
         let before = line.split('#').next().unwrap_or("");
-        Words { rest: before.split_whitespace().peekable() }
+        let mut rest = VecDeque::new();
+        for (place, part) in before.split(ARROW).enumerate() {
+            rest.extend((place > 0).then_some(ARROW));
+            rest.extend(part.split_whitespace());
+        }
+        Words { rest }
     }
 
-    pub fn peek(&mut self) -> Option<&'a str> {
-        self.rest.peek().copied()
+    pub fn peek(&self) -> Option<&'a str> {
+        self.rest.front().copied()
     }
 
     /// The word after the next one.
     pub fn second(&self) -> Option<&'a str> {
-        self.rest.clone().nth(1)
+        self.rest.get(1).copied()
+    }
+
+    /// What the first word that has any gives.
+    pub fn find<T>(&self, of: impl Fn(&str) -> Option<T>) -> Option<T> {
+        self.rest.iter().find_map(|word| of(word))
     }
 
     pub fn next(&mut self, expected: &str) -> Result<&'a str, Wrong> {
-        self.rest.next().ok_or_else(|| Wrong::new("the end of the line", expected))
+        self.rest.pop_front().ok_or_else(|| Wrong::new("the end of the line", expected))
     }
 
     pub fn word(&mut self, word: &str) -> Result<(), Wrong> {
@@ -101,7 +122,7 @@ impl<'a> Words<'a> {
     }
 
     pub fn end(&mut self) -> Result<(), Wrong> {
-        match self.rest.next() {
+        match self.rest.pop_front() {
             None => Ok(()),
             Some(found) => Err(Wrong::new(quoted(found), "the end of the line")),
         }

@@ -12,8 +12,9 @@ use super::script::{Line, Written};
 use super::words::Wrong;
 use crate::explain;
 use crate::listed::Listed;
-use crate::names::{kind, routed};
+use crate::names::{kind, placed};
 use crate::trace::{Moment, Walk};
+use crate::voice::Voice;
 
 pub struct Writer<'a> {
     walk: Walk<'a>,
@@ -22,25 +23,33 @@ pub struct Writer<'a> {
 }
 
 impl<'a> Writer<'a> {
-    pub fn new(setup: &'a Setup, note_len: usize) -> Writer<'a> {
-        Writer { walk: Walk::fresh(setup), note_len, steps: Vec::new() }
+    pub fn new(setup: &'a Setup, voice: Voice, note_len: usize) -> Writer<'a> {
+        Writer { walk: Walk::fresh(setup, voice), note_len, steps: Vec::new() }
     }
 
-    pub fn write(&mut self, line: &Line) -> Result<(), Wrong> {
+    /// Takes the steps of the line that is at this place of the script.
+    pub fn write(&mut self, at: usize, line: &Line) -> Result<(), Wrong> {
+        let expected = line.expected;
         match line.action {
-            Action::Step(step) => self.take(line, step, |_| ()),
+            Action::Step(step) => self.take(at, expected, step, |_| ()),
             Action::Named(named) => {
                 let place = self.place(&named)?;
-                self.take(line, Step { kind: named.step, place, ..Step::default() }, |_| ())
+                self.take(at, expected, Step { kind: named.step, place, ..Step::default() }, |_| ())
             }
-            Action::Join { client, object } => self.join(line, Step::ask(client, object)),
+            Action::Join { client, object } => self.join(at, Step::ask(client, object)),
         }
     }
 
-    fn take<T>(&mut self, line: &Line, step: Step, seen: impl FnOnce(&Moment) -> T) -> Result<T, Wrong> {
+    fn take<T>(
+        &mut self,
+        line: usize,
+        expected: Option<Listed>,
+        step: Step,
+        seen: impl FnOnce(&Moment) -> T,
+    ) -> Result<T, Wrong> {
         self.has_room()?;
         let (answer, seen) = self.walk.take(step, |moment| (Listed::of(&moment.answer), seen(moment)));
-        self.steps.push(Written { step, line: line.number, expected: line.expected, answer });
+        self.steps.push(Written { step, line, expected, answer });
         Ok(seen)
     }
 
@@ -68,11 +77,8 @@ impl<'a> Writer<'a> {
         if let Some(place) = found {
             return Ok(place as u8);
         }
-        let messages: Vec<String> = under_way
-            .iter()
-            .zip(0..)
-            .map(|(message, place)| format!("{place} {}", routed(message)))
-            .collect();
+        let messages: Vec<String> =
+            under_way.iter().enumerate().map(|(place, message)| placed(place, message)).collect();
         let expected = match messages.len() {
             0 => "one, but no message is under way".into(),
             _ => format!("one that is: {}", messages.join(", ")),
@@ -81,10 +87,10 @@ impl<'a> Writer<'a> {
     }
 
     /// Asks, and delivers each answer from the place where it was put.
-    fn join(&mut self, line: &Line, ask: Step) -> Result<(), Wrong> {
+    fn join(&mut self, line: usize, ask: Step) -> Result<(), Wrong> {
         let mut next = Some(ask);
         while let Some(step) = next {
-            next = self.take(line, step, |moment| following(moment, ask))??;
+            next = self.take(line, None, step, |moment| following(moment, ask))??;
         }
         Ok(())
     }

@@ -14,7 +14,9 @@ use model::step_record::{Step, DELIVER, DOUBLE, LOSE};
 
 use crate::explain;
 use crate::latest_end::{self, Cause};
-use crate::trace::{walk, Moment};
+use crate::scenario::Scenario;
+use crate::trace::Moment;
+use crate::voice::Voice;
 use flights::{Flight, Flights};
 use spans::{Span, Spans};
 
@@ -34,6 +36,7 @@ pub struct StepView {
 
 pub struct Timeline {
     pub setup: Setup,
+    pub voice: Voice,
     /// Step k of the listing is at place k - 1.
     pub steps: Vec<StepView>,
     pub flights: Vec<Flight>,
@@ -41,11 +44,16 @@ pub struct Timeline {
 }
 
 impl Timeline {
+    /// Of a run without a text.
     pub fn new(run: &Run) -> Timeline {
-        let mut steps = Vec::with_capacity(run.steps.len());
+        Timeline::of(&run.clone().into())
+    }
+
+    pub fn of(scenario: &Scenario) -> Timeline {
+        let mut steps = Vec::with_capacity(scenario.run.steps.len());
         let mut flights = Flights::default();
         let mut spans = Spans::default();
-        walk(run, |moment| {
+        scenario.walk(|moment| {
             flights.follow(moment);
             spans.follow(moment.number, tracks::of(moment.setup, moment.after));
             steps.push(StepView {
@@ -55,10 +63,16 @@ impl Timeline {
                 clock: moment.clock(),
                 message: message(moment),
                 cause: latest_end::cause(moment),
-                line: explain::line(moment),
+                line: explain::line_of(scenario, moment),
             });
         });
-        Timeline { setup: run.setup, steps, flights: flights.all, spans: spans.whole() }
+        Timeline {
+            setup: scenario.run.setup,
+            voice: scenario.voice,
+            steps,
+            flights: flights.all,
+            spans: spans.whole(),
+        }
     }
 
     /// The step with this number of the listing.

@@ -1,0 +1,134 @@
+//! A run to show, with what its text says of each step. Of a run file there
+//! is the run alone.
+
+use model::gen::runs::Run;
+
+use crate::listed::Listed;
+use crate::proved;
+use crate::text::actions::Action;
+use crate::text::script::{Line, Script, WrittenOut};
+use crate::text::words::Trouble;
+use crate::trace::{walk_in, Moment};
+use crate::voice::Voice;
+
+pub struct Scenario {
+    pub run: Run,
+    pub voice: Voice,
+    /// Nothing for a run file.
+    pub source: Option<Source>,
+}
+
+/// The text that a run was made from.
+pub struct Source {
+    /// Comments among note and setup.
+    pub opening: Vec<String>,
+    /// The lines that stand for steps.
+    pub lines: Vec<Line>,
+    /// Comments after the last step.
+    pub ending: Vec<String>,
+    /// Where each step of the run comes from: step k at place k - 1.
+    pub steps: Vec<Origin>,
+    /// Why the run ends before its text does, in the user's words.
+    pub stopped: Option<Trouble>,
+}
+
+/// Where a step comes from.
+#[derive(Clone, Copy, Debug)]
+pub struct Origin {
+    /// The place of its line in `lines`. All steps of a join have the same.
+    pub line: usize,
+    pub expectation: Option<Expectation>,
+}
+
+/// What the text expects of a step, and what the proved library answers.
+#[derive(Clone, Copy, Debug, PartialEq, Eq)]
+pub struct Expectation {
+    pub expected: Listed,
+    pub found: Listed,
+}
+
+impl Expectation {
+    pub fn holds(&self) -> bool {
+        self.expected == self.found
+    }
+
+    /// The answer beside what was expected.
+    pub fn words(&self) -> String {
+        let (expected, found) = (self.expected.words(), self.found.words());
+        match self.holds() {
+            true => format!("{found}, as expected"),
+            false => format!("FAILED: expected {expected}, found {found}"),
+        }
+    }
+}
+
+impl Source {
+    /// Why the run ends before its text does, and the line where it does.
+    pub fn stopped_at(&self) -> Option<(&Trouble, &Line)> {
+        let trouble = self.stopped.as_ref()?;
+        let line = self.lines.iter().find(|line| line.number == trouble.line)?;
+        Some((trouble, line))
+    }
+}
+
+impl From<Run> for Scenario {
+    fn from(run: Run) -> Scenario {
+        Scenario { run, voice: Voice::default(), source: None }
+    }
+}
+
+impl From<Script> for Scenario {
+    fn from(script: Script) -> Scenario {
+        let WrittenOut { run, steps, stopped } = script.as_far_as_it_goes();
+        let origins = steps.iter().zip(proved::answers(&run)).map(|(step, found)| Origin {
+            line: step.line,
+            expectation: step.expected.map(|expected| Expectation { expected, found }),
+        });
+        let steps = origins.collect();
+        let Script { voice, lines, opening, ending, .. } = script;
+        Scenario { run, voice, source: Some(Source { opening, lines, ending, steps, stopped }) }
+    }
+}
+
+impl Scenario {
+    /// Takes every step of the run, told in the user's voice.
+    pub fn walk(&self, each: impl FnMut(&Moment)) {
+        walk_in(&self.run, self.voice, each);
+    }
+
+    /// The line of the text that this step comes from.
+    pub fn line(&self, step: usize) -> Option<&Line> {
+        let source = self.source.as_ref()?;
+        Some(&source.lines[source.steps[step - 1].line])
+    }
+
+    pub fn expectation(&self, step: usize) -> Option<Expectation> {
+        self.source.as_ref()?.steps[step - 1].expectation
+    }
+
+    /// The steps that come from the same line: several where it is a join.
+    pub fn together(&self, step: usize) -> std::ops::RangeInclusive<usize> {
+        let Some(source) = &self.source else {
+            return step..=step;
+        };
+        let line = |origin: &Origin| origin.line;
+        let own = source.steps[step - 1].line;
+        source.steps.partition_point(|origin| line(origin) < own) + 1
+            ..=source.steps.partition_point(|origin| line(origin) <= own)
+    }
+
+    /// Whether the step is one of a join.
+    pub fn joins(&self, step: usize) -> bool {
+        matches!(self.line(step).map(|line| line.action), Some(Action::Join { .. }))
+    }
+
+    /// Each step of which something is expected.
+    pub fn expectations(&self) -> impl Iterator<Item = (usize, Expectation)> + '_ {
+        (1..=self.run.steps.len()).filter_map(|step| Some((step, self.expectation(step)?)))
+    }
+
+    /// Why the run ends before its text does.
+    pub fn stopped(&self) -> Option<&Trouble> {
+        self.source.as_ref()?.stopped.as_ref()
+    }
+}

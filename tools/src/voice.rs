@@ -1,0 +1,28 @@
+//! How a run is told: in whose words, and with the time beside the ticks
+//! where the text says how long a tick is.
+
+use crate::tick::Tick;
+use crate::vocabulary::Vocabulary;
+
+/// The default is for a run file: the field's words, and ticks alone.
+#[derive(Clone, Copy, Debug, Default, PartialEq, Eq)]
+pub struct Voice {
+    pub words: Vocabulary,
+    pub tick: Option<Tick>,
+}
+
+impl Voice {
+    /// Returns what we say in the user's words. Never give it what the user
+    /// wrote.
+    pub fn said(&self, ours: &str) -> String {
+        self.words.said(ours)
+    }
+
+    /// Returns a number of ticks, with the time if it is known: "10 = 2.5 s".
+    pub fn ticks(&self, ticks: u32) -> String {
+        match self.tick {
+            None => ticks.to_string(),
+            Some(tick) => format!("{ticks} = {}", tick.time(ticks)),
+        }
+    }
+}
