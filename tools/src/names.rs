@@ -21,6 +21,23 @@ pub fn way(kind: &str) -> &'static str {
     }
 }
 
+/// What a kind is about by its name: an object, or a volume.
+pub fn about(kind: &str) -> &'static str {
+    match kind {
+        "OFFER" | "DROPPED" => "volume",
+        _ => "object",
+    }
+}
+
+/// The number of the object or volume that a message is about.
+pub fn item(message: &Message) -> u8 {
+    match message.kind {
+        Kind::Renew { object, .. } | Kind::Invalidate { object, .. } | Kind::Ack { object, .. } => object,
+        Kind::Grant(grant) => grant.object,
+        Kind::Offer { volume, .. } | Kind::Dropped { volume, .. } => volume,
+    }
+}
+
 /// Whether the server sends this kind.
 pub fn from_server(message: &Kind) -> bool {
     way(kind(message)) == "to"
@@ -45,9 +62,14 @@ pub fn routed(message: &Message) -> String {
     format!("{} {} client {}", label(message), way(kind(&message.kind)), message.client)
 }
 
-/// The same behind its place among those under way.
+/// The same behind its place among those under way, with what it is about,
+/// so that a text can tell it from the others.
 pub fn placed(place: usize, message: &Message) -> String {
-    format!("{place} {}", routed(message))
+    let routed = routed(message);
+    match message.kind {
+        Kind::Invalidate { .. } | Kind::Ack { .. } => format!("{place} {routed}"),
+        _ => format!("{place} {routed} {} {}", about(kind(&message.kind)), item(message)),
+    }
 }
 
 /// Every field that the label leaves out, with its times in this voice.

@@ -67,8 +67,8 @@ fn lines_of_any_words() {
     const SETUP: &str =
         "dashes 2 regions 1 notices 2\nregion lease 10 notice lease 100 timeout 3\nregion 0 notices 0 1\n";
     const WORDS: &str = "clock read ask write deliver lose double restart kind join client dash object notice value place \
-        server GRANT RENEW INVALIDATE ACK OFFER DROPPED to from => done shown ask first completed refused 0 1 2 64 256 #";
-    const LINES: [&str; 9] = [
+        server GRANT RENEW INVALIDATE ACK OFFER DROPPED to from => done shown ask first completed refused 0 1 2 64 256 # second last 11th volume region =>done";
+    const LINES: [&str; 11] = [
         "join dash 0 notice 1",
         "join client 1 object 1 # again",
         "read client 0 object 1 => shown 0",
@@ -77,6 +77,8 @@ fn lines_of_any_words() {
         "double 0 => refused 3",
         "write notice 1 value 2 => completed 1",
         "lose INVALIDATE to client 0",
+        "deliver last RENEW from client 1 object 0",
+        "double first RENEW from dash 1=>done",
         "restart client 0",
     ];
     let (mut rng, words) = (Rng::new(5), WORDS.split_whitespace().collect::<Vec<_>>());

@@ -63,10 +63,18 @@ fn every_expectation_and_short_form_both_ways() {
         "deliver ACK from client 1 => completed 1",
         "deliver OFFER to client 1",
         "lose DROPPED from client 1",
+        "deliver INVALIDATE to client 0 object 1",
+        "lose second GRANT to client 0 => done",
+        "double last OFFER to client 1 volume 2",
+        "deliver 11th ACK from client 1 object 3",
         "join client 1 object 3",
     ];
     let text = format!("{SETUP}\n{}\n", lines.join("\n"));
     assert_eq!(script(text.as_bytes()).unwrap().print(), text);
+    // What is meant without a word has none.
+    let first = format!("{SETUP}deliver first GRANT to client 0\nlose 2nd GRANT to client 0\n");
+    let printed = script(first.as_bytes()).unwrap().print();
+    assert!(printed.ends_with("\ndeliver GRANT to client 0\nlose second GRANT to client 0\n"), "{printed}");
 }
 
 /// The paper's dash, region and notice.
@@ -152,6 +160,20 @@ fn a_bad_step_is_told() {
         ("kind 9 client 0", "found `kind 9`, expected an unknown kind: 0, or 10 to 255"),
         ("deliver GRANT from client 0", "found `from`, expected `to`"),
         ("lose ACK client 0", "found `client`, expected `from`"),
+        (
+            "deliver second",
+            "found the end of the line, expected a message: RENEW, GRANT, INVALIDATE, ACK, OFFER, DROPPED",
+        ),
+        ("lose last 3", "found `3`, expected a message: RENEW, "),
+        (
+            "deliver 65th GRANT to client 0",
+            "found `65th`, expected a message as `GRANT to client 0`, or a place",
+        ),
+        ("deliver GRANT to client 0 volume 0", "found `volume`, expected `object`"),
+        (
+            "deliver GRANT to client 0 object 256",
+            "found `256`, expected a number of the object from 0 to 255",
+        ),
         ("deliver grant to client 0", "found `grant`, expected a message as `GRANT to client 0`, or a place"),
         ("join client 0 object 0 => done", "found `=>`, expected the end of the line"),
         ("clock 1 =>", "found the end of the line, expected `done`, `shown V`, `ask first`, "),

@@ -1,11 +1,14 @@
 //! Messages by name and joins, written out as exact steps.
 
 use model::gen::runs::{run, Run};
+use model::message::Message;
 use model::run::State;
 use model::step::step;
 use model::step_record::{Step, DELIVER, DOUBLE, LOSE};
-use tools::names::{kind, way};
-use tools::text::{parse, print};
+use tools::names::{item, kind, way};
+use tools::scenario::Scenario;
+use tools::text::which::Which;
+use tools::text::{parse, print, script};
 
 const SETUP: &str = "\
 clients 2 volumes 1 objects 2
@@ -66,6 +69,69 @@ fn the_first_message_of_a_name_is_taken() {
     }
 }
 
+/// Places 0 to 4 hold RENEW from client 0 for object 0, 1, 0, 1 and, of
+/// client 1, for object 0.
+#[test]
+fn one_of_several_messages_is_taken() {
+    let asks = "ask client 0 object 0\nask client 0 object 1\nask client 0 object 0\nask client 0 object 1\n\
+        ask client 1 object 0\n";
+    for (message, place) in [
+        ("RENEW from client 0", 0),
+        ("first RENEW from client 0", 0),
+        ("second RENEW from client 0", 1),
+        ("4th RENEW from client 0", 3),
+        ("last RENEW from client 0", 3),
+        ("RENEW from client 0 object 1", 1),
+        ("second RENEW from client 0 object 0", 2),
+        ("last RENEW from client 0 object 0", 2),
+        ("last RENEW from client 1", 4),
+    ] {
+        for word in ["deliver", "lose", "double"] {
+            assert_eq!(
+                steps(&format!("{asks}{word} {message}\n"))[5],
+                format!("{word} {place}"),
+                "{message}"
+            );
+        }
+    }
+    for (message, told) in [
+        ("fifth RENEW from client 0", "no fifth RENEW from client 0 under way, expected one that is: "),
+        ("RENEW from client 1 object 1", "no RENEW from client 1 object 1 under way, "),
+        ("last GRANT to client 0", "no last GRANT to client 0 under way, "),
+    ] {
+        let trouble = trouble(&format!("{asks}lose {message}\n"));
+        assert!(trouble.starts_with(&format!("line 9: found {told}")), "{trouble}");
+    }
+}
+
+/// A client's newer GRANT is delivered before its older one.
+#[test]
+fn newer_before_older_needs_no_place() {
+    let lines = "join client 0 object 0\nask client 0 object 0\ndeliver RENEW from client 0\nclock 5\n\
+        ask client 0 object 0\ndeliver RENEW from client 0\ndeliver last GRANT to client 0\nclock 12\n\
+        read client 0 object 0 => shown 0\ndeliver GRANT to client 0\nread client 0 object 0 => shown 0\n";
+    let scenario = Scenario::from(script(format!("{SETUP}{lines}").as_bytes()).unwrap());
+    assert!(scenario.stopped().is_none() && scenario.expectations().count() == 2);
+    assert!(scenario.expectations().all(|(_, expectation)| expectation.holds()));
+}
+
+/// An OFFER and a DROPPED are about a volume.
+#[test]
+fn offers_are_told_apart_by_their_volumes() {
+    let setup = "clients 1 volumes 2 objects 2\nvolume lease 10 object lease 100 timeout 3\n\
+        volume 0 objects 0\nvolume 1 objects 1\n";
+    let asked = "ask client 0 object 0\nask client 0 object 1\ndeliver 0\ndeliver 0\n";
+    let last = |line: &str| {
+        parse(format!("{setup}{asked}{line}\n").as_bytes()).map(|run| *run.steps.last().unwrap())
+    };
+    assert_eq!(last("lose OFFER to client 0 volume 0").unwrap(), Step::lose(0));
+    assert_eq!(last("lose OFFER to client 0 volume 1").unwrap(), Step::lose(1));
+    assert_eq!(
+        last("lose OFFER to client 0 object 1").unwrap_err()[0].to_string(),
+        "line 9: found `object`, expected `volume`"
+    );
+}
+
 #[test]
 fn without_such_a_message_those_under_way_are_told() {
     assert_eq!(
@@ -74,8 +140,8 @@ fn without_such_a_message_those_under_way_are_told() {
     );
     assert_eq!(
         trouble("ask client 0 object 0\nask client 1 object 0\ndeliver RENEW from client 0\nlose RENEW from client 0\n"),
-        "line 7: found no RENEW from client 0 under way, expected one that is: 0 RENEW 1 from client 1, \
-         1 OFFER 1 to client 0"
+        "line 7: found no RENEW from client 0 under way, expected one that is: 0 RENEW 1 from client 1 object 0, \
+         1 OFFER 1 to client 0 volume 0"
     );
 }
 
@@ -123,28 +189,44 @@ fn joins_in_generated_states() {
     assert!(joined > 100 && stopped > 10, "{joined} joined, {stopped} stopped");
 }
 
-/// In any state: each message under way, by its name, is found.
+/// Every name of the message at this place: which of its kind and client, and
+/// which of those about the same object or volume.
+fn names_of(messages: &[Message], place: usize) -> Vec<String> {
+    let message = &messages[place];
+    let name = kind(&message.kind);
+    let like = |other: &Message| kind(&other.kind) == name && other.client == message.client;
+    let about = |other: &Message| like(other) && item(other) == item(message);
+    let mut names = Vec::new();
+    for (same, end) in [
+        (&like as &dyn Fn(&Message) -> bool, String::new()),
+        (&about, format!(" {} {}", tools::names::about(name), item(message))),
+    ] {
+        let named =
+            |which: Which| format!("{}{name} {} client {}{end}", which.prefix(), way(name), message.client);
+        names.push(named(Which::Nth(messages[..=place].iter().filter(|other| same(other)).count())));
+        if !messages[place + 1..].iter().any(|other| same(other)) {
+            names.push(named(Which::Last));
+        }
+    }
+    names
+}
+
+/// In any state: each message under way, by each of its names, is found.
 #[test]
 fn names_in_generated_states() {
     let mut found = 0;
     for run in generated() {
         let state = end(&run);
         let messages = state.tables.queue.messages();
-        for (place, message) in messages.iter().enumerate() {
-            let name = kind(&message.kind);
-            let same =
-                |other: &model::message::Message| kind(&other.kind) == name && other.client == message.client;
-            if messages[..place].iter().any(same) {
-                continue;
-            }
-            for (word, kind) in [("deliver", DELIVER), ("lose", LOSE), ("double", DOUBLE)] {
-                let line = format!("{word} {name} {} client {}\n", way(name), message.client);
-                let whole = parse((print(&run) + &line).as_bytes()).unwrap();
+        for (number, place) in (0..messages.len()).enumerate() {
+            let (word, kind) = [("deliver", DELIVER), ("lose", LOSE), ("double", DOUBLE)][number % 3];
+            for name in names_of(messages, place) {
+                let whole = parse(format!("{}{word} {name}\n", print(&run)).as_bytes()).unwrap();
                 let step = Step { kind, place: place as u8, ..Step::default() };
-                assert_eq!(whole.steps.last(), Some(&step));
+                assert_eq!(whole.steps.last(), Some(&step), "{name}");
                 found += 1;
             }
         }
     }
-    assert!(found > 100, "{found}");
+    assert!(found > 300, "{found}");
 }

@@ -8,6 +8,7 @@ pub mod reader;
 pub mod script;
 pub mod setup;
 pub mod steps;
+pub mod which;
 pub mod words;
 mod writer;
 

@@ -12,7 +12,7 @@ use super::script::{Line, Written};
 use super::words::Wrong;
 use crate::explain;
 use crate::listed::Listed;
-use crate::names::{kind, placed};
+use crate::names::placed;
 use crate::trace::{Moment, Walk};
 use crate::voice::Voice;
 
@@ -71,10 +71,7 @@ impl<'a> Writer<'a> {
 
     fn place(&self, named: &Named) -> Result<u8, Wrong> {
         let under_way = self.walk.state.tables.queue.messages();
-        let found = under_way
-            .iter()
-            .position(|message| kind(&message.kind) == named.message && message.client == named.client);
-        if let Some(place) = found {
+        if let Some(place) = named.place(under_way) {
             return Ok(place as u8);
         }
         let messages: Vec<String> =
