@@ -20,13 +20,26 @@ impl Verdict {
 pub fn verdict(scenario: &Scenario) -> Verdict {
     let mut failures = Vec::new();
     scenario.walk(|moment| failures.extend(failure(scenario, moment)));
-    let words = match (scenario.expectations().count(), failures.len()) {
+    Verdict { words: counted(scenario, failures.len()), failures }
+}
+
+/// How many hold or fail. A text that stops halfway has some that were not
+/// reached.
+fn counted(scenario: &Scenario, failed: usize) -> String {
+    let all = scenario.source.iter().flat_map(|source| &source.lines);
+    let count = all.filter(|line| line.expected.is_some()).count();
+    let reached = scenario.expectations().count();
+    let words = match (count, failed) {
         (0, _) => "no expectations".into(),
-        (1, 0) => "the 1 expectation holds".into(),
-        (count, 0) => format!("all {count} expectations hold"),
-        (count, failed) => format!("{failed} of {count} expectations failed"),
+        (1, 0) if reached == 1 => "the 1 expectation holds".into(),
+        (_, 0) if reached == count => format!("all {count} expectations hold"),
+        (_, 0) => format!("{reached} of {count} expectations held"),
+        _ => format!("{failed} of {count} expectations failed"),
     };
-    Verdict { words, failures }
+    match count - reached {
+        0 => words,
+        missed => format!("{words}, {missed} not reached"),
+    }
 }
 
 /// The step's line in the text and the clock, what was written there, and why

@@ -11,6 +11,26 @@ use crate::{explain, refused_file};
 /// Nothing where the two are the same bytes. The run is there to explain our
 /// answer, or the fault for which the file is refused.
 pub fn first(run: &Result<Scenario, Fault>, ours: &[u8], theirs: &[u8]) -> Option<String> {
+    let Some(number) = lines(theirs).position(|line| line.ends_with(CR_LF)) else {
+        return first_but_for_line_ends(run, ours, theirs);
+    };
+    let plain: Vec<u8> = lines(theirs).flat_map(with_lf).copied().collect();
+    let rest = first_but_for_line_ends(run, ours, &plain).unwrap_or("no difference".into());
+    let number = number + 1;
+    Some(format!(
+        "line {number} of their listing ends in CR LF, where ours has LF\nbut for such line ends: {rest}"
+    ))
+}
+
+const CR_LF: &[u8] = b"\r\n";
+
+/// The line with LF where it ends in CR LF.
+fn with_lf(line: &[u8]) -> impl Iterator<Item = &u8> {
+    let (text, end) = line.strip_suffix(CR_LF).map_or((line, &b""[..]), |text| (text, b"\n"));
+    text.iter().chain(end)
+}
+
+fn first_but_for_line_ends(run: &Result<Scenario, Fault>, ours: &[u8], theirs: &[u8]) -> Option<String> {
     let (mut our_lines, mut their_lines) = (lines(ours), lines(theirs));
     let mut number = 0;
     loop {

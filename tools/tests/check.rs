@@ -119,6 +119,17 @@ fn the_program_gives_a_verdict_for_each_text() {
     assert!(wrong.errors.ends_with("28 steps, 2 refused: 1 with 3 (no such client, object or place), 1 with 4 (a time out of range)\n"), "{}", wrong.errors);
 }
 
+/// Of nothing that ran, nothing is counted.
+#[test]
+fn no_steps_are_not_counted() {
+    let none = run_program(RUNTEXT, &["check", "nowhere"], b"");
+    assert!(none.errors.starts_with("cannot read nowhere: ") && none.errors.lines().count() == 1);
+    let setup: String = TEXT.lines().take(3).map(|line| format!("{line}\n")).collect();
+    let empty = run_program(RUNTEXT, &["check"], setup.as_bytes());
+    assert_eq!((empty.status, empty.errors.as_str()), (0, ""));
+    assert_eq!(run_program(RUNTEXT, &["encode"], setup.as_bytes()).errors, "");
+}
+
 /// Reads, writes, and whatever completes or is refused: what a run is for.
 #[test]
 fn examples_expect_what_they_are_for() {

@@ -37,7 +37,7 @@ fn an_answer_is_told_with_the_step() {
 fn lines_that_are_none_are_told_as_they_are() {
     for (from, to, theirs) in [
         ("\n3 0 0\n", "\n3 0\n", "`3 0\\n`, which is no line of step 3"),
-        ("\n3 0 0\n", "\n3 0 0\r\n", "`3 0 0\\r\\n`, which is no line of step 3"),
+        ("\n3 0 0\n", "\n3 0 0\r\r\n", "`3 0 0\\r\\n`, which is no line of step 3"),
         ("\n3 0 0\n", "\n03 0 0\n", "`03 0 0\\n`, which is no line of step 3"),
         ("\n3 0 0\n", "\n", "`4 0 0\\n`, which is no line of step 3"),
         ("\n3 0 0\n", "\n3 5 0\n", "`3 5 0\\n`, which is no line of step 3"),
@@ -50,6 +50,21 @@ fn lines_that_are_none_are_told_as_they_are() {
             "{words}"
         );
     }
+}
+
+/// Whatever else differs is told behind it.
+#[test]
+fn line_ends_of_another_system_are_told_as_such() {
+    let line_ends = |number: usize, rest: &str| {
+        format!(
+            "line {number} of their listing ends in CR LF, where ours has LF\nbut for such line ends: {rest}"
+        )
+    };
+    assert_eq!(changed(|ours| ours.replace('\n', "\r\n")).unwrap(), line_ends(1, "no difference"));
+    assert_eq!(differs("\n3 0 0\n", "\n3 0 0\r\n"), line_ends(4, "no difference"));
+    let both = changed(|ours| ours.replace("\n13 2 0\n", "\n13 1 0\n").replace('\n', "\r\n"));
+    let step = "first difference at line 14 of the listing\ntheirs: 13 shown 0\nours:   13 (clock 10) read client 0 ";
+    assert!(both.unwrap().starts_with(&line_ends(1, step)));
 }
 
 #[test]

@@ -97,6 +97,26 @@ fn spaces_comments_and_line_ends_are_free() {
     assert_eq!(print(&run), format!("{SETUP}\nclock 7\ndeliver 1\n"));
 }
 
+/// As some editors put it there, at the beginning alone.
+#[test]
+fn a_byte_order_mark_is_skipped() {
+    let text = format!("{SETUP}clock 1\n");
+    let marked = format!("\u{feff}{text}");
+    assert_eq!(print(&parse(marked.as_bytes()).unwrap()), print(&parse(text.as_bytes()).unwrap()));
+    assert_eq!(troubles(&format!("\u{feff}{marked}")).len(), 1);
+}
+
+#[test]
+fn an_arrow_needs_no_space() {
+    let spaced = format!("{SETUP}\nread client 0 object 3 => ask first\nclock 1 => done\n");
+    for arrow in ["=>", " =>", "=> "] {
+        let text = spaced.replace(" => ", arrow);
+        assert_eq!(script(text.as_bytes()).unwrap().print(), spaced);
+    }
+    assert_eq!(trouble("clock 1=>"), trouble("clock 1 =>"));
+    assert_eq!(trouble("clock=>done"), "line 5: found `=>`, expected a time from 0 to 4294967295");
+}
+
 #[test]
 fn notes_of_all_sorts() {
     for (bytes, lines) in [

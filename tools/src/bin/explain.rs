@@ -87,9 +87,13 @@ fn tables_after(input: &Input, step: u64) -> Result<Output, Failure> {
     Ok(counted(input, &scenario, text.into()))
 }
 
-/// Of a refused file, ours is what roadrun prints.
+/// Of a refused file, ours is what roadrun prints. A text that stops has no
+/// run file, so nobody has a listing of it.
 fn differences(input: &Input, theirs: &[u8]) -> Result<Output, Failure> {
     let run = input.scenario_or_fault()?;
+    if let Some(trouble) = run.as_ref().ok().and_then(Scenario::stopped) {
+        return Err(input.failure(&[trouble.to_string()]));
+    }
     let ours = match &run {
         Ok(scenario) => proved::listing(&scenario.run),
         Err(_) => model::listing::listing(&input.bytes),

@@ -95,10 +95,13 @@ pub fn told(scenario: &Scenario) -> String {
         under_way = messages.iter().enumerate().map(|(place, message)| placed(place, message)).collect();
     });
     if let Some(source) = source {
-        ending(&mut lines, source);
+        comments(&mut lines, ending(source));
     }
     if !under_way.is_empty() {
         put(&mut lines, &scenario.voice.said(&format!("still under way: {}", under_way.join(", "))));
+    }
+    if let Some((trouble, line)) = source.and_then(Source::stopped_at) {
+        put(&mut lines, &format!("stopped at {}", trouble.at(&line.written)));
     }
     lines
 }
@@ -107,13 +110,16 @@ fn comments(lines: &mut String, comments: &[String]) {
     comments.iter().for_each(|comment| put(lines, format!("# {comment}").trim_end()));
 }
 
-/// The comments after the last step, or the line at which the run stops.
-fn ending(lines: &mut String, source: &Source) {
-    let Some((trouble, line)) = source.stopped_at() else {
-        return comments(lines, &source.ending);
-    };
-    if !source.steps.last().is_some_and(|last| source.lines[last.line].number == line.number) {
-        comments(lines, &line.before);
+/// The comments after the last step: of a text that stops, those before the
+/// line where it does, unless a step of it was taken.
+fn ending(source: &Source) -> &[String] {
+    match source.stopped_at() {
+        None => &source.ending,
+        Some((_, line))
+            if source.steps.last().is_some_and(|last| source.lines[last.line].number == line.number) =>
+        {
+            &[]
+        }
+        Some((_, line)) => &line.before,
     }
-    put(lines, &format!("stopped at {}", trouble.at(&line.written)));
 }
