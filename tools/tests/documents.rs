@@ -45,10 +45,31 @@ fn the_unknown_kind_of_help_is_a_line() {
     assert!(script(format!("{}{line}\n", example_of_help()).as_bytes()).is_ok());
 }
 
+/// The text of the top README's five minutes.
+fn first_run() -> String {
+    let readme = document("../README.md");
+    readme.split("<<'END'\n").nth(1).unwrap().split("END\n").next().unwrap().into()
+}
+
+/// Every name of a message and every length of a tick that help or README
+/// mention can be written so.
+#[test]
+fn the_short_lines_of_documents_are_lines() {
+    let help = String::from_utf8(run_program(RUNTEXT, &["--help"], b"").output).unwrap();
+    let documents = help + &document("README.md");
+    let quoted = documents.split('`').skip(1).step_by(2);
+    let begins = |line: &&str| ["one tick", "deliver ", "lose "].iter().any(|begin| line.starts_with(begin));
+    let lines: Vec<&str> = quoted.filter(begins).collect();
+    assert!(lines.len() >= 4, "{lines:?}");
+    let setup: String = first_run().lines().take(4).map(|line| format!("{line}\n")).collect();
+    for line in lines.iter().filter(|line| !line.ends_with(" P")) {
+        assert!(script(format!("{setup}{line}\n").as_bytes()).is_ok(), "{line}");
+    }
+}
+
 #[test]
 fn the_readmes_first_run_is_as_it_says() {
-    let readme = document("../README.md");
-    let text = readme.split("<<'END'\n").nth(1).unwrap().split("END\n").next().unwrap();
+    let (readme, text) = (document("../README.md"), first_run());
     let checked = run_program(RUNTEXT, &["check"], text.as_bytes());
     let verdict = String::from_utf8(checked.output).unwrap();
     assert_eq!((checked.status, checked.errors.as_str()), (0, "22 steps, none refused\n"));
@@ -57,6 +78,20 @@ fn the_readmes_first_run_is_as_it_says() {
     assert_eq!(changed.status, 1);
     let verdict = String::from_utf8(changed.output).unwrap().replace("standard input", "second.runtext");
     assert!(document("README.md").contains(&verdict), "{verdict}");
+}
+
+/// With the comment that stands there.
+#[test]
+fn the_failed_line_is_of_the_first_run() {
+    let explained = run_program(EXPLAIN, &[], first_run().replace("shown 0", "shown 7").as_bytes());
+    let explained = String::from_utf8(explained.output).unwrap();
+    let readme = document("README.md");
+    let block = readme
+        .split("```\n")
+        .skip(1)
+        .step_by(2)
+        .find(|block| block.contains("FAILED: ") && block.contains('#'));
+    assert!(explained.contains(block.unwrap()), "{explained}");
 }
 
 /// The lines that begin with a step's number are of 01's own example.

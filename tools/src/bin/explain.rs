@@ -21,8 +21,8 @@ const HELP: &str = r#"explain: the listing of a run in words
 FILE is a run file or its text; without one, standard input is read. -o OUT
 writes a file instead of standard output.
 
-A line has the step's number, the step as in the text form, roadrun's answer in
-words, and what in the model's tables shows why:
+A line has the step's number, the clock after it, the step as in the text form,
+roadrun's answer in words, and what in the model's tables shows why:
 
   12 (clock 10) clock 10: done: write of object 0 stands, latest end 10, waits for client 0
   13 (clock 10) read client 0 object 0: ask first: volume lease ended at 10
@@ -34,9 +34,14 @@ then, with the lesser of the two, else the guard, else the timeout.
 The answers: done (0), shown V (1), ask first (2), completed N writes (3),
 refused N (4). Standard error ends with a line that counts the refused steps.
 
---listing compares the listing in THEIRS with the proved library's. Where they
-differ, the line is told with both answers and why ours is so, and the exit
-status is 1.
+Of a text, each line names the line that it comes from and keeps what is written
+there; comments stand beside their steps, and an expectation that fails is marked
+FAILED with what was expected. Where a join or a name cannot be met, the listing
+goes up to there and ends with the reason; the exit status is then 1.
+
+--listing holds a program of your own to the proof: it compares the listing in
+THEIRS with the proved library's. Where they differ, the line is told with both
+answers and why ours is so, and the exit status is 1.
 
 A file that the reader refuses, or a bad line of a text, is told on standard
 error, with exit status 1; 2 is a wrong call.

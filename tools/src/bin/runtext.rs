@@ -43,7 +43,7 @@ output, whole or not at all. A text has lines as these, in this order:
   lose 0
   write object 0 value 7 => done
   deliver INVALIDATE to client 0
-  deliver ACK from client 0 => completed 1
+  deliver last ACK from client 0 object 0 => completed 1
   clock 10
   restart server
   restart client 1
@@ -52,8 +52,14 @@ output, whole or not at all. A text has lines as these, in this order:
 first, completed N and refused N. A step of an unknown kind has all its fields:
 kind 12 client 0 object 0 place 0 clock 0 value 0. The messages are RENEW, ACK,
 DROPPED from a client and GRANT, INVALIDATE, OFFER to one; deliver, lose and
-double take them by name. --expand writes names and joins out as exact steps.
-The paper's dash, region and notice are understood as client, volume and object.
+double take them by name: the first under way, or with a word before it the
+second, third, .. or last. `object 0` behind it takes one about that object, as
+`volume 0` does of an OFFER or a DROPPED. --expand writes names and joins out as
+exact steps. A line `one tick is 250 ms` before the first step (or s, min, h) is
+for explain and picture, which then tell the time beside the ticks; no byte of
+the run file changes. The paper's dash, region and notice are understood as
+client, volume and object, and a text whose setup begins with them is answered
+in them; format and decode write client, volume and object.
 
 load reads note and setup alone. A seed, 0 to 4294967295, gives the same steps
 every time, at most 4000: load for the list of messages, restarts, offers and
@@ -65,10 +71,11 @@ same remainder by 2^e, so that with 4 and 4 no object is asked by two clients. A
 count that is a power of two is gone through in a fixed order: each of 4 objects
 is drawn every 4th step.
 
-encode, check and load end with a line on standard error that counts refused
-steps. A bad line is told with its number, what was found and what was expected;
-then nothing is written and the exit status is 1, as it is where an expectation
-fails (2 is a wrong call).
+check tells how many expectations hold and every one that fails. encode, check
+and load end with a line on standard error that counts refused steps. A bad line
+is told with its number, what was found and what was expected; then nothing is
+written and the exit status is 1, as it is where an expectation fails (2 is a
+wrong call).
 "#;
 
 const FORMS: &str = "encode, check, format, decode or load";
