@@ -62,7 +62,7 @@ fn texts_are_canonical() {
 fn pictures_are_of_the_run_files() {
     for example in all() {
         let run = from_file(&stored(example.name, "run")).unwrap();
-        let picture = svg(&run, Window { from: 1, to: run.steps.len() });
+        let picture = svg(&run.clone().into(), Window { from: 1, to: run.steps.len() });
         assert!(stored(example.name, "svg") == picture.as_bytes(), "{}.svg is an old picture", example.name);
     }
 }

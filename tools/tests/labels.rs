@@ -10,11 +10,15 @@ use model::answer::Answer;
 use model::gen::runs::{run, Run};
 use model::message::{Kind, Message};
 use tools::latest_end::{Cause, Leases};
+use tools::picture::drawn;
 use tools::picture::layout::{Window, COLUMN};
-use tools::picture::{drawn, svg};
-use tools::text::from_file;
+use tools::text::{from_file, steps};
 use tools::timeline::flights::{End, Flight};
 use tools::timeline::Timeline;
+
+fn svg(run: &Run, window: Window) -> String {
+    tools::picture::svg(&run.clone().into(), window)
+}
 
 fn whole(timeline: &Timeline) -> Window {
     Window { from: 1, to: timeline.steps.len() }
@@ -47,6 +51,7 @@ fn with_longest_numbers(mut timeline: Timeline) -> Timeline {
         view.message.as_mut().map(longest);
         view.cause = view.cause.map(|_| Cause::Leases(Leases { volume: u16::MAX, object: 0 }));
         (view.step.value, view.step.clock) = (u64::MAX, u32::MAX);
+        view.written = steps::line(&view.step);
         let moved = view.clock != view.clock_before;
         (view.clock_before, view.clock) = (u32::MAX - u32::from(moved), u32::MAX);
         if let Answer::Shown(value) = &mut view.answer {

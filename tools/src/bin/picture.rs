@@ -42,14 +42,13 @@ fn main() -> ExitCode {
         let to = step(&mut arguments, "--to")?;
         let input = Input::read(arguments.file()?.as_deref())?;
         let scenario = input.scenario()?;
-        let run = &scenario.run;
-        let wanted = window(from, to, run.steps.len())?;
+        let wanted = window(from, to, scenario.run.steps.len())?;
         if form == "html" {
-            return Ok(input.told_of(&scenario, page(run, wanted).into()));
+            return Ok(input.told_of(&scenario, page(&scenario, wanted).into()));
         }
         let shown = wanted.narrowed();
         let told = narrowing(shown, wanted).into_iter().collect();
-        Ok(input.told_of(&scenario, Output { told, ..svg(run, shown).into() }))
+        Ok(input.told_of(&scenario, Output { told, ..svg(&scenario, shown).into() }))
     })
 }
 

@@ -112,7 +112,7 @@ fn comments(lines: &mut String, comments: &[String]) {
 
 /// The comments after the last step: of a text that stops, those before the
 /// line where it does, unless a step of it was taken.
-fn ending(source: &Source) -> &[String] {
+pub fn ending(source: &Source) -> &[String] {
     match source.stopped_at() {
         None => &source.ending,
         Some((_, line))

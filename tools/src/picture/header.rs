@@ -8,10 +8,11 @@ use super::letters::{width, VALUE, WORDS};
 use super::svg::{at, Point, Svg};
 use super::words::answered;
 use crate::timeline::{StepView, Timeline};
-use crate::{explain, names, text};
+use crate::voice::Voice;
+use crate::{explain, names};
 
-/// Rows of step numbers and of the clock, below the words.
-const NUMBERS: f64 = 34.0;
+/// The height of a row of numbers below the words.
+const ROW: f64 = 16.0;
 const UP: Point = Point { x: 0.0, y: -1.0 };
 /// Columns after which the clock is told again.
 const AGAIN: usize = 20;
@@ -19,51 +20,101 @@ const AGAIN: usize = 20;
 /// answer.
 const LINES: [f64; 3] = [-9.0, 3.0, 15.0];
 
-/// The step as in the text form, with the way of its message; of an unknown
+/// Below the words: what each row of numbers is, with the line that its
+/// numbers stand on, from the words down.
+pub fn rows(timeline: &Timeline) -> Vec<(&'static str, f64)> {
+    let time = timeline.voice.tick.map(|_| "time");
+    let line = timeline.steps.first().and_then(|view| view.text_line).map(|_| "line");
+    let names = ["step", "clock"].into_iter().chain(time).chain(line);
+    names.enumerate().map(|(row, name)| (name, 12.0 + row as f64 * ROW)).collect()
+}
+
+/// What the rows of numbers take.
+pub fn numbers(timeline: &Timeline) -> f64 {
+    rows(timeline).len() as f64 * ROW + 2.0
+}
+
+/// The step as it was written, with the way of its message; of an unknown
 /// kind only the kind.
-fn step(view: &StepView) -> String {
-    let step = text::steps::line(&view.step);
+fn step(view: &StepView, voice: &Voice) -> String {
+    let step = &view.written;
     match &view.message {
-        Some(message) if names::from_server(&message.kind) => format!("{step} to client {}", message.client),
-        Some(message) => format!("{step} from client {}", message.client),
+        Some(message) if !step.contains(names::kind(&message.kind)) => {
+            let way = names::way(names::kind(&message.kind));
+            format!("{step} {}", voice.said(&format!("{way} client {}", message.client)))
+        }
         None if step.starts_with("kind") => format!("kind {}", view.step.kind),
-        None => step,
+        _ => step.clone(),
     }
 }
 
-fn words(view: &StepView) -> [String; 3] {
+/// An expectation stands beside the answer, and fails in red.
+fn words(view: &StepView, voice: &Voice) -> [String; 3] {
     let message = view.message.as_ref().map_or(String::new(), names::label);
-    [step(view), message, explain::answer(&view.answer)]
+    let answer = view.expectation.map_or_else(|| explain::answer(&view.answer), |expected| expected.words());
+    [step(view, voice), voice.said(&message), answer]
 }
 
 /// The longest words decide, so that none is cut.
 pub fn height(timeline: &Timeline, layout: &Layout) -> f64 {
     let views = &timeline.steps[layout.window.from - 1..layout.window.to];
-    let longest = views.iter().flat_map(words).map(|words| width(&words, WORDS)).fold(60.0, f64::max);
-    longest.ceil() + 10.0 + NUMBERS
+    let words = views.iter().flat_map(|view| words(view, &layout.voice));
+    words.map(|words| width(&words, WORDS)).fold(60.0, f64::max).ceil() + 10.0 + numbers(timeline)
 }
 
 pub fn draw(timeline: &Timeline, layout: &Layout, height: f64, svg: &mut Svg) {
-    let base = height - NUMBERS;
+    let base = height - numbers(timeline);
     svg.line("edge", at(0.0, base), at(layout.width, base));
+    let rows = rows(timeline);
     for number in layout.window.from..=layout.window.to {
         let (view, x) = (timeline.step(number), layout.x(number));
         column(svg, view, layout.left(number), height);
         svg.titled(&view.line, About::step(view), |svg| {
-            let answer = format!("answer {}-text", answered(view));
+            let answer = if view.failed() { "failed" } else { answered(view) };
+            let answer = format!("answer {answer}-text");
             let classes = ["step", "about", &answer];
-            for ((words, class), line) in words(view).iter().zip(classes).zip(LINES) {
+            for ((words, class), line) in words(view, &layout.voice).iter().zip(classes).zip(LINES) {
                 if !words.is_empty() {
                     svg.text_along(class, at(x + line, base - 5.0), UP, words);
                 }
             }
         });
-        svg.text("number", at(x, base + 12.0), &number.to_string());
-        clock(svg, layout, number, view, height - 6.0);
+        for (name, down) in &rows {
+            below(svg, layout, number, view, (name, base + down));
+        }
     }
 }
 
-/// Time passes in the columns of clock steps alone; refused steps are red.
+/// What a row of numbers has of a step: the clock and the time in every
+/// column that moves them, and now and then.
+fn below(svg: &mut Svg, layout: &Layout, number: usize, view: &StepView, (row, y): (&str, f64)) {
+    let moved = view.clock != view.clock_before;
+    let again = (number - layout.window.from).is_multiple_of(AGAIN);
+    let spot = at(layout.x(number), y);
+    let clock = if moved { "clock" } else { "clock again" };
+    match (row, view.text_line) {
+        ("step", _) => svg.text("number", spot, &number.to_string()),
+        ("clock", _) if moved || again => fitted(svg, clock, spot, &view.clock.to_string()),
+        ("time", _) if moved || again => {
+            let time = layout.voice.tick.map_or(String::new(), |tick| tick.time(view.clock));
+            fitted(svg, clock, spot, &time)
+        }
+        ("line", Some(line)) => svg.text("text-line", spot, &line.to_string()),
+        _ => (),
+    }
+}
+
+/// Within its column, narrower where it has to be.
+fn fitted(svg: &mut Svg, class: &str, spot: Point, words: &str) {
+    let room = COLUMN - 2.0;
+    match width(words, VALUE) {
+        wide if wide > room => svg.narrowed(class, spot, room / wide, words),
+        _ => svg.text(class, spot, words),
+    }
+}
+
+/// Time passes in the columns of clock steps alone; refused steps are red, and
+/// failed expectations redder.
 pub fn column(svg: &mut Svg, view: &StepView, left: f64, height: f64) {
     if view.clock != view.clock_before {
         svg.rect("time", at(left, 0.0), COLUMN, height);
@@ -71,17 +122,7 @@ pub fn column(svg: &mut Svg, view: &StepView, left: f64, height: f64) {
     if matches!(view.answer, Answer::Refused(_)) {
         svg.rect("refusal", at(left, 0.0), COLUMN, height);
     }
-}
-
-/// In every column that moves it, and now and then.
-fn clock(svg: &mut Svg, layout: &Layout, number: usize, view: &StepView, y: f64) {
-    let (clock, moved) = (view.clock.to_string(), view.clock != view.clock_before);
-    let class = if moved { "clock" } else { "clock again" };
-    let (spot, room) = (at(layout.x(number), y), COLUMN - 2.0);
-    if moved || (number - layout.window.from).is_multiple_of(AGAIN) {
-        match width(&clock, VALUE) {
-            wide if wide > room => svg.narrowed(class, spot, room / wide, &clock),
-            _ => svg.text(class, spot, &clock),
-        }
+    if view.failed() {
+        svg.rect("failure", at(left, 0.0), COLUMN, height);
     }
 }

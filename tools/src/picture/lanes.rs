@@ -16,7 +16,7 @@ pub fn names(layout: &Layout, width: f64, svg: &mut Svg) {
     }
     for (row, top) in &layout.rows {
         svg.name(About::row(*row), (*top, top + ROW), |svg| {
-            svg.text("row-name", at(width - 8.0, top + 13.0), &row.name())
+            svg.text("row-name", at(width - 8.0, top + 13.0), &layout.voice.said(&row.name()))
         });
     }
 }
@@ -24,7 +24,8 @@ pub fn names(layout: &Layout, width: f64, svg: &mut Svg) {
 fn lanes(layout: &Layout) -> Vec<(About, String, f64)> {
     let server = (About::default(), "server".to_string(), layout.server);
     let clients = layout.clients.iter().enumerate();
-    let clients = clients.map(|(client, y)| (About::client(client), format!("client {client}"), *y));
+    let clients = clients
+        .map(|(client, y)| (About::client(client), layout.voice.said(&format!("client {client}")), *y));
     std::iter::once(server).chain(clients).collect()
 }
 

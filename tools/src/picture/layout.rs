@@ -20,6 +20,7 @@ use crate::timeline::flights::Flight;
 use crate::timeline::spans::Span;
 use crate::timeline::tracks::Track;
 use crate::timeline::{StepView, Timeline};
+use crate::voice::Voice;
 
 pub const COLUMN: f64 = 48.0;
 pub const ROW: f64 = 21.0;
@@ -56,6 +57,7 @@ pub enum Row {
 }
 
 pub struct Layout {
+    pub voice: Voice,
     pub window: Window,
     pub width: f64,
     pub height: f64,
@@ -94,7 +96,8 @@ impl Layout {
         }
         let width = (window.to + 1 - window.from) as f64 * COLUMN;
         let (height, margin, foot, queue) = (y + 14.0, MARGIN, y, BTreeMap::new());
-        let mut layout = Layout { window, width, height, margin, server, clients, rows, foot, queue };
+        let voice = timeline.voice;
+        let mut layout = Layout { voice, window, width, height, margin, server, clients, rows, foot, queue };
         layout.line_up(&timeline.flights);
         layout
     }
@@ -107,7 +110,7 @@ impl Layout {
         let mut queue: Vec<(f64, usize, String)> = queue
             .enumerate()
             .map(|(queued, (place, flight))| {
-                (self.short(&flight.message), place, words::queued(queued, &flight.message))
+                (self.short(&flight.message), place, words::queued(&self.voice, queued, &flight.message))
             })
             .collect();
         queue.sort_by(|one, other| one.0.total_cmp(&other.0));

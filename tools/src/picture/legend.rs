@@ -2,6 +2,7 @@
 
 use super::letters::{width, WORDS};
 use super::svg::{at, Svg};
+use crate::voice::Voice;
 
 pub const ROW: f64 = 20.0;
 pub const SIGN: f64 = 34.0;
@@ -9,7 +10,7 @@ pub const SIGN: f64 = 34.0;
 /// Draws its sign into the room from x, around the middle line y.
 type Sign = fn(&mut Svg, f64, f64);
 
-const SIGNS: [(&str, Sign); 19] = [
+const SIGNS: [(&str, Sign); 20] = [
     ("ask", |svg, x, y| svg.circle("asked", at(x + 14.0, y), 3.0)),
     ("read shown, with its value", |svg, x, y| svg.circle("shown", at(x + 14.0, y), 6.0)),
     ("ask first", |svg, x, y| {
@@ -17,6 +18,7 @@ const SIGNS: [(&str, Sign); 19] = [
         svg.text("question", at(x + 14.0, y + 3.2), "?");
     }),
     ("refused, with its number", |svg, x, y| svg.cross("refused", at(x + 14.0, y), 5.5)),
+    ("column of a failed expectation", |svg, x, y| svg.rect("failure", at(x, y - 7.0), 28.0, 14.0)),
     ("column of a clock step: time passes", |svg, x, y| svg.rect("time", at(x, y - 7.0), 28.0, 14.0)),
     ("restart", |svg, x, y| svg.line("restart", at(x + 14.0, y - 7.0), at(x + 14.0, y + 7.0))),
     ("volume lease of the client", |svg, x, y| svg.rect("volume-lease", at(x, y - 5.5), 28.0, 11.0)),
@@ -57,24 +59,25 @@ const SIGNS: [(&str, Sign); 19] = [
 ];
 
 /// The words of each sign, and the sign alone.
-pub fn signs() -> impl Iterator<Item = (&'static str, String)> {
+pub fn signs(voice: &Voice) -> impl Iterator<Item = (String, String)> + '_ {
     SIGNS.iter().map(|(words, sign)| {
         let mut svg = Svg::default();
         sign(&mut svg, 2.0, ROW / 2.0);
-        (*words, svg.0)
+        (voice.said(words), svg.0)
     })
 }
 
 /// The height that it took.
-pub fn draw(svg: &mut Svg, room: f64) -> f64 {
+pub fn draw(svg: &mut Svg, voice: &Voice, room: f64) -> f64 {
     let (mut x, mut y) = (8.0, ROW / 2.0);
     for (words, sign) in SIGNS {
-        let needed = SIGN + width(words, WORDS) + 18.0;
+        let words = voice.said(words);
+        let needed = SIGN + width(&words, WORDS) + 18.0;
         if x + needed > room && x > 8.0 {
             (x, y) = (8.0, y + ROW);
         }
         sign(svg, x, y);
-        svg.text("legend", at(x + SIGN, y + 3.5), words);
+        svg.text("legend", at(x + SIGN, y + 3.5), &words);
         x += needed;
     }
     y + ROW / 2.0 + 4.0

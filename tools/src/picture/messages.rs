@@ -69,11 +69,11 @@ fn along(layout: &Layout, taken: &mut Taken, one: &Shown) -> (Vec<Label>, bool) 
         let spots = wordings.into_iter().flat_map(|words| spots(layout, &visible, words, back));
         taken.best(spots)
     };
-    let addressed = addressed(&one.flight.message);
+    let addressed = addressed(&layout.voice, &one.flight.message);
     let mut labels: Vec<Label> = put(addressed.clone(), false).into_iter().collect();
     let named = !labels.is_empty();
     if !named {
-        labels.extend(put(anonymous(&one.flight.message), false));
+        labels.extend(put(anonymous(&layout.voice, &one.flight.message), false));
     }
     if visible.to.x - visible.from.x > LONG {
         labels.extend(put(addressed, true));
@@ -104,7 +104,7 @@ fn at_end(layout: &Layout, one: &Shown) -> Option<Label> {
     if let Some((ring, words)) = layout.queue.get(&one.place) {
         return Some(Label { from: at(ring.x + 7.0, ring.y + 3.0), way: LEVEL, words: words.clone() });
     }
-    let (middle, words) = (name_at_end(layout, one.flight)?, receiver(&one.flight.message));
+    let (middle, words) = (name_at_end(layout, one.flight)?, receiver(&layout.voice, &one.flight.message));
     let from = at(middle.x - width(&words, LABEL) / 2.0, middle.y);
     Some(Label { from, way: LEVEL, words })
 }

@@ -8,6 +8,7 @@ mod lanes;
 pub mod layout;
 mod legend;
 mod letters;
+mod listing;
 mod marks;
 mod messages;
 mod page;
@@ -16,8 +17,7 @@ pub mod svg;
 mod tiles;
 mod words;
 
-use model::gen::runs::Run;
-
+use crate::scenario::Scenario;
 use crate::text;
 use crate::timeline::Timeline;
 use layout::{Layout, Window};
@@ -73,34 +73,57 @@ impl Parts {
     }
 }
 
-/// The note as far as it can be read, then what is shown and the setup.
+/// The note as far as it can be read, then what is shown, the setup and the
+/// length of a tick.
 fn titles(note: &[u8], timeline: &Timeline, window: Window) -> (String, Vec<String>) {
-    let note = text::note::lines(note).first().cloned().unwrap_or("a run without a note".into());
+    let note = text::note::title(note).unwrap_or("a run without a note".into());
     let count = timeline.steps.len();
     let shown = match (window.from, window.to) {
         (1, to) if to == count => format!("{count} steps"),
         (from, to) => format!("steps {from} to {to} of {count}"),
     };
-    (note, std::iter::once(shown).chain(text::setup::lines(&timeline.setup)).collect())
+    let setup = text::setup::lines(&timeline.setup).into_iter().map(|line| timeline.voice.said(&line));
+    let tick = timeline.voice.tick.map(|tick| tick.line());
+    (note, std::iter::once(shown).chain(setup).chain(tick).collect())
+}
+
+/// How many expectations of its text hold, and why it stopped; each with
+/// whether it is bad news.
+fn verdicts(timeline: &Timeline) -> impl Iterator<Item = (&String, bool)> {
+    let failed = timeline.steps.iter().any(|view| view.failed());
+    let verdict = timeline.verdict.iter().map(move |words| (words, failed));
+    verdict.chain(timeline.stopped.iter().map(|words| (words, true)))
 }
 
 /// The pieces in as many lines as they need.
-fn wrapped(pieces: &[String], room: f64) -> Vec<String> {
+fn wrapped<'a>(pieces: impl Iterator<Item = &'a str>, between: &str, room: f64) -> Vec<String> {
     let mut lines: Vec<String> = Vec::new();
     for piece in pieces {
         match lines.last_mut() {
-            Some(line) if width(&format!("{line}; {piece}"), WORDS) <= room => {
-                *line = format!("{line}; {piece}");
+            Some(line) if width(&format!("{line}{between}{piece}"), WORDS) <= room => {
+                *line = format!("{line}{between}{piece}");
             }
-            _ => lines.push(piece.clone()),
+            _ => lines.push(piece.into()),
         }
     }
     lines
 }
 
+/// Below the title, with the class of each line.
+fn below_title(subtitle: &[String], timeline: &Timeline, room: f64) -> Vec<(&'static str, String)> {
+    let mut lines: Vec<(&str, String)> = Vec::new();
+    let pieces = subtitle.iter().map(String::as_str);
+    lines.extend(wrapped(pieces, "; ", room).into_iter().map(|line| ("subtitle", line)));
+    for (words, bad) in verdicts(timeline) {
+        let class = if bad { "subtitle failed-text" } else { "subtitle" };
+        lines.extend(wrapped(words.split(' '), " ", room).into_iter().map(|line| (class, line)));
+    }
+    lines
+}
+
 /// A picture that stands alone. The window must lie within the run.
-pub fn svg(run: &Run, window: Window) -> String {
-    drawn(&run.note, &Timeline::new(run), window)
+pub fn svg(scenario: &Scenario, window: Window) -> String {
+    drawn(&scenario.run.note, &Timeline::of(scenario), window)
 }
 
 pub fn drawn(note: &[u8], timeline: &Timeline, window: Window) -> String {
@@ -111,21 +134,28 @@ pub fn drawn(note: &[u8], timeline: &Timeline, window: Window) -> String {
     let mut out = Svg::default();
     out.text("title", at(8.0, 17.0), &cut(&title, room - 16.0, TITLE));
     let mut y = 32.0;
-    for line in wrapped(&subtitle, room - 16.0) {
-        out.text("subtitle", at(8.0, y), &line);
+    for (class, line) in below_title(&subtitle, timeline, room - 16.0) {
+        out.text(class, at(8.0, y), &cut(&line, room - 16.0, WORDS));
         y += LINE;
     }
     let (head, body) = (y, y + header_height);
     out.part("header", at(NAMES, head), layout.width, *header_height, &parts.header);
     out.part("names", at(0.0, body), NAMES, layout.height, &parts.names);
-    out.text("row-name", at(NAMES - 8.0, body - 6.0), "clock");
-    out.text("row-name", at(NAMES - 8.0, body - 22.0), "step");
+    number_names(timeline, body, &mut out);
     out.part("lanes", at(NAMES, body), parts.width(), layout.height, &parts.lanes);
     let mut signs = Svg::default();
-    let signs_height = legend::draw(&mut signs, room);
+    let signs_height = legend::draw(&mut signs, &timeline.voice, room);
     let foot = body + layout.height + 8.0;
     out.part("signs", at(0.0, foot), room, signs_height, &signs.0);
     alone(room, foot + signs_height, &out.0)
+}
+
+/// The names of the rows of numbers, above the lanes.
+fn number_names(timeline: &Timeline, bottom: f64, svg: &mut Svg) {
+    let top = bottom - header::numbers(timeline);
+    for (name, down) in header::rows(timeline) {
+        svg.text("row-name", at(NAMES - 8.0, top + down), name);
+    }
 }
 
 fn alone(width: f64, height: f64, inside: &str) -> String {

@@ -6,6 +6,7 @@ function filter() {
   filters = Object.entries(wanted).filter(([, value]) => value);
   const hidden = ([name, value]) => `[data-${name}]:not([data-${name}="${value}"]) { display: none; }`;
   get('filter').textContent = filters.map(hidden).join('\n');
+  for (const join of joins) join.hidden = !lines.some(line => join.contains(line) && shows(line));
   foldAll();
   setZoom(zoom);
   if (chosen) {

@@ -1,16 +1,13 @@
 //! A page that holds the picture, with the explained listing below. It
 //! needs nothing but itself.
 
-use std::fmt::Write;
-
-use model::gen::runs::Run;
-
-use super::about::About;
-use super::layout::{Layout, Window, COLUMN};
-use super::svg::{at, escaped, n, Svg};
-use super::words::answered;
-use super::{legend, titles, Parts, NAMES, STYLE};
+use super::layout::{Window, COLUMN};
+use super::listing::listing;
+use super::svg::{escaped, n, Svg};
+use super::{header, legend, number_names, titles, verdicts, Parts, NAMES, STYLE};
+use crate::scenario::Scenario;
 use crate::timeline::Timeline;
+use crate::voice::Voice;
 
 const PAGE: &str = include_str!("page.html");
 const PAGE_STYLE: &str = include_str!("page.css");
@@ -24,14 +21,13 @@ const SCRIPTS: [&str; 7] = [
     include_str!("page.js"),
 ];
 
-pub fn page(run: &Run, window: Window) -> String {
-    let timeline = Timeline::new(run);
+pub fn page(scenario: &Scenario, window: Window) -> String {
+    let (timeline, run) = (Timeline::of(scenario), &scenario.run);
     let parts = Parts::new(&timeline, window);
     let (width, height) = (parts.width(), parts.layout.height);
     let (title, subtitle) = titles(&run.note, &timeline, window);
     let mut corner = Svg::default();
-    corner.text("row-name", at(NAMES - 8.0, parts.header_height - 22.0), "step");
-    corner.text("row-name", at(NAMES - 8.0, parts.header_height - 6.0), "clock");
+    number_names(&timeline, parts.header_height, &mut corner);
     let filled = [
         ("{style}", STYLE.to_string()),
         ("{page-style}", PAGE_STYLE.to_string()),
@@ -40,14 +36,18 @@ pub fn page(run: &Run, window: Window) -> String {
         ("{column}", n(COLUMN)),
         ("{clients}", run.setup.clients.to_string()),
         ("{volumes}", format!("{:?}", &run.setup.volume_of[..usize::from(run.setup.objects)])),
-        ("{signs}", signs()),
+        ("{client}", scenario.voice.said("client")),
+        ("{object}", scenario.voice.said("object")),
+        ("{numbers}", n(header::numbers(&timeline))),
+        ("{verdict}", verdict(&timeline)),
+        ("{signs}", signs(&scenario.voice)),
         ("{corner}", part("corner", NAMES, parts.header_height, &corner.0)),
         ("{header}", part("header", width, parts.header_height, &parts.header)),
         ("{names}", part("names", NAMES, height, &parts.names)),
         ("{lanes}", part("lanes", width, height, &parts.lanes)),
         ("{title}", escaped(&title)),
         ("{subtitle}", escaped(&subtitle.join("; "))),
-        ("{listing}", listing(&timeline, &parts.layout)),
+        ("{listing}", listing(scenario, &timeline, &parts.layout)),
     ];
     fill(&filled)
 }
@@ -80,27 +80,26 @@ fn part(class: &str, width: f64, height: f64, inside: &str) -> String {
 
 /// Each sign with its words, so that they go on in the next line where the
 /// screen ends.
-fn signs() -> String {
-    let sign = |(words, drawn): (&str, String)| {
+fn signs(voice: &Voice) -> String {
+    let sign = |(words, drawn): (String, String)| {
         let (width, height) = (n(legend::SIGN), n(legend::ROW));
         let size = format!("width=\"{width}\" height=\"{height}\" viewBox=\"0 0 {width} {height}\"");
         format!("<span class=\"sign\"><svg {size}>\n{drawn}</svg>{words}</span>\n")
     };
-    legend::signs().map(sign).collect()
+    legend::signs(voice).map(sign).collect()
 }
 
-/// Each line with what it is about, its kind of answer and the y of its lane.
-fn listing(timeline: &Timeline, layout: &Layout) -> String {
-    let mut lines = String::new();
-    for number in layout.window.from..=layout.window.to {
-        let view = timeline.step(number);
-        let (about, answer, lane) = (About::step(view), answered(view), n(layout.lane(view)));
-        let line = escaped(&view.line);
-        writeln!(
-            lines,
-            "<p data-step=\"{number}\"{about} data-answer=\"{answer}\" data-lane=\"{lane}\">{line}</p>"
-        )
-        .expect("a string takes every line");
-    }
-    lines
+/// How many expectations hold, with a jump to those that fail, and why the
+/// run stopped.
+fn verdict(timeline: &Timeline) -> String {
+    let failed = timeline.steps.iter().any(|view| view.failed());
+    let told = verdicts(timeline).enumerate().map(|(place, (words, bad))| {
+        let class = if bad { "failed" } else { "held" };
+        let jump = match place == 0 && failed {
+            true => "; next <button data-seek=\"failed\" data-key=\"f\">failed</button>",
+            false => "",
+        };
+        format!("<p class=\"verdict\"><span class=\"{class}\">{}</span>{jump}</p>\n", escaped(words))
+    });
+    told.collect()
 }

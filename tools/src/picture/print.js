@@ -88,17 +88,18 @@ function strips() {
 let screen = null;
 function toPaper() {
   if (screen) return;
-  screen = { zoom, wordsOnTop, open: get('signs').open };
+  const entries = [get('signs'), ...joins];
+  screen = { zoom, wordsOnTop, open: entries.map(entry => [entry, entry.open]) };
   wordsOnTop = true;
   setZoom(full());
-  get('signs').open = true;
+  for (const entry of entries) entry.open = true;
   get('paper').replaceChildren(...strips());
 }
 
 function toScreen() {
   if (!screen) return;
   get('paper').replaceChildren();
-  get('signs').open = screen.open;
+  for (const [entry, open] of screen.open) entry.open = open;
   wordsOnTop = screen.wordsOnTop;
   setZoom(screen.zoom);
   screen = null;

@@ -39,6 +39,7 @@ function choose(step, scroll) {
   if (chosen) lines[chosen - first].classList.remove('on');
   chosen = step;
   line.classList.add('on');
+  if (line.closest('details')) line.closest('details').open = true;
   mark(line);
   if (scroll) find(line);
   listed(line);
@@ -63,8 +64,9 @@ function seek(by, test, words) {
   else say(`no ${words} step ${by > 0 ? 'after' : 'before'} this one`);
 }
 
-// What a button seeks: steps with its answer.
+// What a button seeks: steps with its answer, or whose expectation failed.
 const seekers = [...document.querySelectorAll('[data-seek]')];
 function seekAnswer(button, by) {
-  seek(by, line => line.dataset.answer === button.dataset.seek, button.textContent);
+  const sought = ({ dataset }) => [dataset.answer, dataset.expected].includes(button.dataset.seek);
+  seek(by, sought, button.textContent);
 }

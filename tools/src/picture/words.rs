@@ -9,6 +9,7 @@ use crate::timeline::flights::{End, Flight};
 use crate::timeline::spans::Span;
 use crate::timeline::tracks::Track;
 use crate::timeline::{StepView, Timeline};
+use crate::voice::Voice;
 
 /// Room for a value where a write stands for one step.
 const VALUES: f64 = 42.0;
@@ -24,31 +25,31 @@ pub fn answered(view: &StepView) -> &'static str {
     }
 }
 
-pub fn receiver(message: &Message) -> String {
+pub fn receiver(voice: &Voice, message: &Message) -> String {
     match names::from_server(&message.kind) {
-        true => format!("client {}", message.client),
+        true => voice.said(&format!("client {}", message.client)),
         false => "server".into(),
     }
 }
 
 /// With the receiver: from the fullest wording to the shortest.
-pub fn addressed(message: &Message) -> Vec<String> {
-    let receiver = receiver(message);
-    anonymous(message).iter().map(|words| format!("{words} to {receiver}")).collect()
+pub fn addressed(voice: &Voice, message: &Message) -> Vec<String> {
+    let receiver = receiver(voice, message);
+    anonymous(voice, message).iter().map(|words| format!("{words} to {receiver}")).collect()
 }
 
 /// Where the receiver is named elsewhere.
-pub fn anonymous(message: &Message) -> Vec<String> {
-    vec![names::label(message), names::kind(&message.kind).into()]
+pub fn anonymous(voice: &Voice, message: &Message) -> Vec<String> {
+    vec![voice.said(&names::label(message)), names::kind(&message.kind).into()]
 }
 
 /// At this place of the queue.
-pub fn queued(place: usize, message: &Message) -> String {
-    format!("{place}: {} to {}", names::label(message), receiver(message))
+pub fn queued(voice: &Voice, place: usize, message: &Message) -> String {
+    format!("{place}: {} to {}", voice.said(&names::label(message)), receiver(voice, message))
 }
 
 pub fn flight_title(timeline: &Timeline, flight: &Flight) -> String {
-    let what = names::whole(&flight.message, &timeline.voice);
+    let what = timeline.voice.said(&names::whole(&flight.message, &timeline.voice));
     let line = |step: usize| &timeline.step(step).line;
     let begin = match flight.copy_of {
         Some(_) => format!("copied by step {}", line(flight.sent)),
@@ -72,25 +73,25 @@ fn by(timeline: &Timeline, write: &Span, words: fn(&Cause) -> String) -> String 
 /// Of a bar, from the fullest wording to the shortest.
 pub fn wordings(timeline: &Timeline, span: &Span) -> Vec<String> {
     let (until, version) = (span.detail.until, span.detail.version);
-    let value = span.detail.value.to_string();
-    match span.track {
-        Track::VolumeLease(_, volume) => {
-            vec![
-                format!("volume {volume} lease to {until}, epoch {version}"),
-                format!("lease to {until}"),
-                format!("to {until}"),
-            ]
-        }
+    let (value, time) = (span.detail.value.to_string(), timeline.voice.ticks(until));
+    let wordings = match span.track {
+        Track::VolumeLease(_, volume) => vec![
+            format!("volume {volume} lease to {time}, epoch {version}"),
+            format!("lease to {time}"),
+            format!("lease to {until}"),
+            format!("to {until}"),
+        ],
         Track::ObjectLease(_, object) => vec![
-            format!("object {object} lease to {until}, value {value}, version {version}"),
+            format!("object {object} lease to {time}, value {value}, version {version}"),
+            format!("value {value}, to {time}"),
             format!("value {value}, to {until}"),
             format!("to {until}"),
         ],
         Track::Write(object) => {
             let (whole, short) = (by(timeline, span, Cause::words), by(timeline, span, Cause::short));
             vec![
-                format!("object {object}: write {value}, latest end {until} {whole}"),
-                format!("write {value}, to {until} {whole}"),
+                format!("object {object}: write {value}, latest end {time} {whole}"),
+                format!("write {value}, to {time} {whole}"),
                 format!("write {value}, to {until} {short}"),
                 format!("to {until} {short}"),
                 format!("write {value}, to {until}"),
@@ -98,43 +99,44 @@ pub fn wordings(timeline: &Timeline, span: &Span) -> Vec<String> {
                 cut(&value, VALUES, LABEL),
             ]
         }
-        _ => vec![format!("guard to {until}, epoch {version}"), format!("to {until}")],
-    }
+        _ => vec![format!("guard to {time}, epoch {version}"), format!("to {until}")],
+    };
+    wordings.iter().map(|words| timeline.voice.said(words)).collect()
 }
 
 pub fn span_title(timeline: &Timeline, span: &Span) -> String {
-    let detail = &span.detail;
-    let what = match span.track {
-        Track::Guard(volume) => {
-            format!("guard of volume {volume} to {}, epoch {}", detail.until, detail.version)
+    let what = timeline.voice.said(&span_words(timeline, span));
+    let last = span.to.map_or("the end".into(), |to| format!("step {}", timeline.step(to).line));
+    format!("{what}\nfrom step {}\nto {last}", timeline.step(span.from).line)
+}
+
+fn span_words(timeline: &Timeline, span: &Span) -> String {
+    let (version, value) = (span.detail.version, span.detail.value);
+    let until = timeline.voice.ticks(span.detail.until);
+    match span.track {
+        Track::Guard(volume) => format!("guard of volume {volume} to {until}, epoch {version}"),
+        Track::Write(object) => {
+            let by = by(timeline, span, Cause::words);
+            format!("write of object {object}: value {value}, version {version}, latest end {until} {by}")
         }
-        Track::Write(object) => format!(
-            "write of object {object}: value {}, version {}, latest end {} {}",
-            detail.value,
-            detail.version,
-            detail.until,
-            by(timeline, span, Cause::words)
-        ),
         Track::ServerVolumeLease(client, volume) => {
-            format!("server's note: volume {volume} lease of client {client} to {}", detail.until)
+            format!("server's note: volume {volume} lease of client {client} to {until}")
         }
         Track::ServerObjectLease(client, object) => {
-            format!("server's note: object {object} lease of client {client} to {}", detail.until)
+            format!("server's note: object {object} lease of client {client} to {until}")
         }
         Track::Unreachable(client, volume) => {
             format!("client {client} marked unreachable in volume {volume}")
         }
         Track::VolumeLease(client, volume) => {
-            format!("client {client}: volume {volume} lease to {}, epoch {}", detail.until, detail.version)
+            format!("client {client}: volume {volume} lease to {until}, epoch {version}")
         }
         Track::ObjectLease(client, object) | Track::Copy(client, object) => {
-            let until = if detail.until > 0 { format!(", lease to {}", detail.until) } else { String::new() };
-            format!(
-                "client {client}: copy of object {object}, value {}, version {}{until}",
-                detail.value, detail.version
-            )
+            let copy = format!("client {client}: copy of object {object}, value {value}, version {version}");
+            match span.detail.until {
+                0 => copy,
+                _ => format!("{copy}, lease to {until}"),
+            }
         }
-    };
-    let last = span.to.map_or("the end".into(), |to| format!("step {}", timeline.step(to).line));
-    format!("{what}\nfrom step {}\nto {last}", timeline.step(span.from).line)
+    }
 }

@@ -1,8 +1,6 @@
 // How large the picture is. Above 100 % all grows; below, only the columns get
 // narrower.
 
-// Of the header: what stays where its words go.
-const numberRows = 40;
 // On a narrow screen nothing is smaller than 11 pixels: the smallest letters
 // are drawn with 8.5.
 const narrow = matchMedia('(max-width: 700px)');

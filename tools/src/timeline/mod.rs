@@ -12,9 +12,11 @@ use model::message::Message;
 use model::setup::Setup;
 use model::step_record::{Step, DELIVER, DOUBLE, LOSE};
 
+use crate::check::verdict;
 use crate::explain;
 use crate::latest_end::{self, Cause};
-use crate::scenario::Scenario;
+use crate::scenario::{Expectation, Scenario, Source};
+use crate::text::steps;
 use crate::trace::Moment;
 use crate::voice::Voice;
 use flights::{Flight, Flights};
@@ -32,11 +34,46 @@ pub struct StepView {
     pub cause: Option<Cause>,
     /// Its line of the explained listing.
     pub line: String,
+    /// As its text has it, or as the text form does.
+    pub written: String,
+    /// The number of the line of the text that it comes from.
+    pub text_line: Option<usize>,
+    pub expectation: Option<Expectation>,
+}
+
+impl StepView {
+    fn of(scenario: &Scenario, moment: &Moment) -> StepView {
+        let line = scenario.line(moment.number);
+        StepView {
+            step: moment.step,
+            answer: moment.answer,
+            clock_before: moment.before.tables.clock,
+            clock: moment.clock(),
+            message: message(moment),
+            cause: latest_end::cause(moment),
+            line: explain::line_of(scenario, moment),
+            written: line.map_or_else(
+                || moment.voice.said(&steps::line(&moment.step)),
+                |line| explain::written(line, moment),
+            ),
+            text_line: line.map(|line| line.number),
+            expectation: scenario.expectation(moment.number),
+        }
+    }
+
+    /// Whether something else was expected of it.
+    pub fn failed(&self) -> bool {
+        self.expectation.is_some_and(|expectation| !expectation.holds())
+    }
 }
 
 pub struct Timeline {
     pub setup: Setup,
     pub voice: Voice,
+    /// How many of a text's expectations hold.
+    pub verdict: Option<String>,
+    /// Why it ends before its text does.
+    pub stopped: Option<String>,
     /// Step k of the listing is at place k - 1.
     pub steps: Vec<StepView>,
     pub flights: Vec<Flight>,
@@ -56,19 +93,13 @@ impl Timeline {
         scenario.walk(|moment| {
             flights.follow(moment);
             spans.follow(moment.number, tracks::of(moment.setup, moment.after));
-            steps.push(StepView {
-                step: moment.step,
-                answer: moment.answer,
-                clock_before: moment.before.tables.clock,
-                clock: moment.clock(),
-                message: message(moment),
-                cause: latest_end::cause(moment),
-                line: explain::line_of(scenario, moment),
-            });
+            steps.push(StepView::of(scenario, moment));
         });
         Timeline {
             setup: scenario.run.setup,
             voice: scenario.voice,
+            verdict: scenario.source.as_ref().map(|_| verdict(scenario).words),
+            stopped: scenario.source.as_ref().and_then(stopped),
             steps,
             flights: flights.all,
             spans: spans.whole(),
@@ -87,6 +118,11 @@ impl Timeline {
         let inside = view.clock_before < time && time <= view.clock;
         inside.then(|| f64::from(time - view.clock_before) / f64::from(view.clock - view.clock_before))
     }
+}
+
+fn stopped(source: &Source) -> Option<String> {
+    let (trouble, line) = source.stopped_at()?;
+    Some(format!("stopped at {}", trouble.at(&line.written)))
 }
 
 fn message(moment: &Moment) -> Option<Message> {

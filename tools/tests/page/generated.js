@@ -1,46 +1,4 @@
-// What a page must do, asked of its own state. tools/browser-test puts this
-// after the page's script; each check leaves a line.
-const checks = [];
-
-function check(words, test) {
-  checks.push([words, test]);
-}
-
-function same(found, expected, what) {
-  if (JSON.stringify(found) !== JSON.stringify(expected)) {
-    throw `${what}: found ${JSON.stringify(found)}, expected ${JSON.stringify(expected)}`;
-  }
-}
-
-const bounds = element => element.getBoundingClientRect();
-const seen = element => element.getClientRects().length > 0;
-const press = (key, shiftKey = false) =>
-  document.dispatchEvent(new KeyboardEvent('keydown', { key, shiftKey, bubbles: true }));
-const button = answer => document.querySelector(`[data-seek="${answer}"]`);
-// Steps with such an answer, by the words of the listing.
-const answered = word => lines.filter(line => new RegExp(`^[0-9]+ [^:]*: ${word}`).test(line.textContent));
-const numbers = some => some.map(line => +line.dataset.step);
-const some = all => all.filter((_, place) => place % Math.ceil(all.length / 50) === 0);
-
-const laneName = name => [...names.querySelectorAll('.lane-name')].find(text => text.textContent === name);
-
-function pick(id, value) {
-  get(id).value = value;
-  get(id).dispatchEvent(new Event('change'));
-}
-
-// Goes on while there is a step to go to.
-function visited(go) {
-  const steps = [];
-  for (go(); get('said').textContent === '' && steps.length < 100; go()) steps.push(chosen);
-  return steps;
-}
-
-function inSight(box) {
-  const [spot, all] = [bounds(box), bounds(frame)];
-  return spot.left >= bounds(names).right - 1 && spot.right <= all.right + 1 &&
-    spot.top >= bounds(header).bottom - 1 && spot.bottom <= all.bottom + 1;
-}
+// What a page of a generated run must do, asked of its own state.
 
 check('the address names a step', () => same(chosen, 7, 'step'));
 
@@ -74,7 +32,7 @@ check('choosing a step scrolls to its lane and its line', () => {
 check('each step is on the lane of its client or of the server', () => {
   for (const step of some(lines)) {
     const words = step.textContent;
-    const asked = words.match(/^[0-9]+ (?:read|ask|restart) client ([0-9]+)/);
+    const asked = words.match(/^[0-9]+ \([^)]*\) (?:read|ask|restart) client ([0-9]+)/);
     if (!asked || +asked[1] >= clients) continue;
     same(+laneName(`client ${asked[1]}`).getAttribute('y') - 4, +step.dataset.lane, words);
   }
@@ -305,19 +263,3 @@ check('on paper each step is in one strip, whole, and all fit a page', () => {
 
 check('the page asks for nothing outside itself', () =>
   same(performance.getEntriesByType('resource').length, 0, 'requests'));
-
-(async () => {
-  const verdicts = [];
-  for (const [words, test] of checks) {
-    try {
-      await test();
-      verdicts.push(`ok ${words}`);
-    } catch (trouble) {
-      verdicts.push(`wrong ${words}: ${trouble}`);
-    }
-  }
-  const out = document.createElement('pre');
-  out.id = 'verdicts';
-  out.textContent = `\n${verdicts.join('\n')}\n`;
-  document.body.append(out);
-})();

@@ -1,0 +1,43 @@
+// What the checks of a page have in common. tools/browser-test puts this after
+// the page's script, then checks, then verdicts.js.
+const checks = [];
+
+function check(words, test) {
+  checks.push([words, test]);
+}
+
+function same(found, expected, what) {
+  if (JSON.stringify(found) !== JSON.stringify(expected)) {
+    throw `${what}: found ${JSON.stringify(found)}, expected ${JSON.stringify(expected)}`;
+  }
+}
+
+const bounds = element => element.getBoundingClientRect();
+const seen = element => element.getClientRects().length > 0;
+const press = (key, shiftKey = false) =>
+  document.dispatchEvent(new KeyboardEvent('keydown', { key, shiftKey, bubbles: true }));
+const button = answer => document.querySelector(`[data-seek="${answer}"]`);
+// Steps with such an answer, by the words of the listing.
+const answered = word => lines.filter(line => new RegExp(`^[0-9]+ [^:]*: ${word}`).test(line.textContent));
+const numbers = some => some.map(line => +line.dataset.step);
+const some = all => all.filter((_, place) => place % Math.ceil(all.length / 50) === 0);
+
+const laneName = name => [...names.querySelectorAll('.lane-name')].find(text => text.textContent === name);
+
+function pick(id, value) {
+  get(id).value = value;
+  get(id).dispatchEvent(new Event('change'));
+}
+
+// Goes on while there is a step to go to.
+function visited(go) {
+  const steps = [];
+  for (go(); get('said').textContent === '' && steps.length < 100; go()) steps.push(chosen);
+  return steps;
+}
+
+function inSight(box) {
+  const [spot, all] = [bounds(box), bounds(frame)];
+  return spot.left >= bounds(names).right - 1 && spot.right <= all.right + 1 &&
+    spot.top >= bounds(header).bottom - 1 && spot.bottom <= all.bottom + 1;
+}
