@@ -1,6 +1,6 @@
 //! A text's expectations, held to what the proved library answers.
 
-use crate::explain::{answered, written};
+use crate::explain::{answered, clock, written};
 use crate::scenario::Scenario;
 use crate::trace::Moment;
 
@@ -23,8 +23,8 @@ pub fn verdict(scenario: &Scenario) -> Verdict {
     Verdict { words: counted(scenario, failures.len()), failures }
 }
 
-/// How many hold or fail. A text that stops halfway has some that were not
-/// reached.
+/// Returns how many hold or fail. A text that stops halfway has some that were
+/// not reached.
 fn counted(scenario: &Scenario, failed: usize) -> String {
     let all = scenario.source.iter().flat_map(|source| &source.lines);
     let count = all.filter(|line| line.expected.is_some()).count();
@@ -42,13 +42,12 @@ fn counted(scenario: &Scenario, failed: usize) -> String {
     }
 }
 
-/// The step's line in the text and the clock, what was written there, and why
-/// the answer was another.
+/// Returns the step's line in the text and the clock, what was written there,
+/// and why the answer was another, if it was.
 fn failure(scenario: &Scenario, moment: &Moment) -> Option<String> {
     let step = moment.number;
-    let (line, expectation) = (scenario.line(step)?, scenario.expectation(step)?);
-    let clock = moment.voice.ticks(moment.clock());
-    let (written, answered) = (written(line, moment), answered(moment, Some(expectation)));
-    let told = format!("line {}, step {step}, clock {clock}, {written}: {answered}", line.number);
-    (!expectation.holds()).then_some(told)
+    let failed = scenario.expectation(step).filter(|expectation| !expectation.holds())?;
+    let line = scenario.line(step)?;
+    let (clock, written, answered) = (clock(moment), written(line, moment), answered(moment, Some(failed)));
+    Some(format!("line {}, step {step}, {clock}, {written}: {answered}", line.number))
 }

@@ -24,7 +24,7 @@ pub fn first(run: &Result<Scenario, Fault>, ours: &[u8], theirs: &[u8]) -> Optio
 
 const CR_LF: &[u8] = b"\r\n";
 
-/// The line with LF where it ends in CR LF.
+/// Returns the line with LF where it ends in CR LF.
 fn with_lf(line: &[u8]) -> impl Iterator<Item = &u8> {
     let (text, end) = line.strip_suffix(CR_LF).map_or((line, &b""[..]), |text| (text, b"\n"));
     text.iter().chain(end)

@@ -49,7 +49,7 @@ impl Input {
         self.name.as_deref().unwrap_or("standard input")
     }
 
-    /// What is told of it, behind the file's name.
+    /// Puts the file's name before what is told of it.
     pub fn named(&self, line: impl Display) -> String {
         match &self.name {
             None => line.to_string(),
@@ -62,9 +62,9 @@ impl Input {
         Failure::Input(lines.iter().map(|line| self.named(line)).collect::<Vec<_>>().join("\n"))
     }
 
-    /// An output that shows a run, with what is wrong with its text: that it
-    /// stopped, which is an input that is not right, and that expectations
-    /// failed.
+    /// Adds to an output that shows a run what is wrong with its text: that
+    /// expectations failed, and that it stopped. Only the latter is an input
+    /// that is not right.
     pub fn told_of(&self, scenario: &Scenario, mut output: Output) -> Output {
         let verdict = verdict(scenario);
         if !verdict.holds() {
@@ -97,9 +97,9 @@ impl Input {
         script.written_out().map_err(|trouble| self.failure(&[trouble.to_string()]))
     }
 
-    /// What a run file or a text has to show. Of a text that stops halfway,
-    /// this is the run up to there. Every accepted run file has a zero byte,
-    /// in its setup, and no text has one.
+    /// Returns what a run file or a text has to show. Of a text that stops
+    /// halfway, this is the run up to there. Every accepted run file has a
+    /// zero byte, in its setup, and no text has one.
     pub fn scenario(&self) -> Result<Scenario, Failure> {
         self.scenario_or_fault()?.map_err(|fault| self.failure(&[refused_file::told(&fault)]))
     }

@@ -21,7 +21,7 @@ pub fn way(kind: &str) -> &'static str {
     }
 }
 
-/// What a kind is about by its name: an object, or a volume.
+/// Returns what a kind is about by its name: an object, or a volume.
 pub fn about(kind: &str) -> &'static str {
     match kind {
         "OFFER" | "DROPPED" => "volume",
@@ -29,7 +29,7 @@ pub fn about(kind: &str) -> &'static str {
     }
 }
 
-/// The number of the object or volume that a message is about.
+/// Returns the number of the object or volume that a message is about.
 pub fn item(message: &Message) -> u8 {
     match message.kind {
         Kind::Renew { object, .. } | Kind::Invalidate { object, .. } | Kind::Ack { object, .. } => object,
@@ -62,8 +62,8 @@ pub fn routed(message: &Message) -> String {
     format!("{} {} client {}", label(message), way(kind(&message.kind)), message.client)
 }
 
-/// The same behind its place among those under way, with what it is about,
-/// so that a text can tell it from the others.
+/// Returns the same behind its place among those under way, with what it is
+/// about, so that a text can tell it from the others.
 pub fn placed(place: usize, message: &Message) -> String {
     let routed = routed(message);
     match message.kind {

@@ -1,6 +1,8 @@
 //! A run to show, with what its text says of each step. Of a run file there
 //! is the run alone.
 
+use std::ops::RangeInclusive;
+
 use model::gen::runs::Run;
 
 use crate::listed::Listed;
@@ -22,7 +24,8 @@ pub struct Scenario {
 pub struct Source {
     /// Comments among note and setup.
     pub opening: Vec<String>,
-    /// The lines that stand for steps.
+    /// The lines that stand for steps, also those after the one where the run
+    /// stops.
     pub lines: Vec<Line>,
     /// Comments after the last step.
     pub ending: Vec<String>,
@@ -52,7 +55,7 @@ impl Expectation {
         self.expected == self.found
     }
 
-    /// The answer beside what was expected.
+    /// Returns the answer beside what was expected.
     pub fn words(&self) -> String {
         let (expected, found) = (self.expected.words(), self.found.words());
         match self.holds() {
@@ -63,11 +66,23 @@ impl Expectation {
 }
 
 impl Source {
-    /// Why the run ends before its text does, and the line where it does.
+    /// Returns why the run ends before its text does, and the line where it
+    /// does.
     pub fn stopped_at(&self) -> Option<(&Trouble, &Line)> {
         let trouble = self.stopped.as_ref()?;
         let line = self.lines.iter().find(|line| line.number == trouble.line)?;
         Some((trouble, line))
+    }
+
+    /// Returns the comments after the last step. Of a text that stops, these
+    /// stand before the line where it does, unless a step of it was taken.
+    pub fn closing(&self) -> &[String] {
+        let last = self.steps.last().map(|last| self.lines[last.line].number);
+        match self.stopped_at() {
+            None => &self.ending,
+            Some((_, line)) if last == Some(line.number) => &[],
+            Some((_, line)) => &line.before,
+        }
     }
 }
 
@@ -96,7 +111,7 @@ impl Scenario {
         walk_in(&self.run, self.voice, each);
     }
 
-    /// The line of the text that this step comes from.
+    /// Returns the line of the text that this step comes from.
     pub fn line(&self, step: usize) -> Option<&Line> {
         let source = self.source.as_ref()?;
         Some(&source.lines[source.steps[step - 1].line])
@@ -106,28 +121,28 @@ impl Scenario {
         self.source.as_ref()?.steps[step - 1].expectation
     }
 
-    /// The steps that come from the same line: several where it is a join.
-    pub fn together(&self, step: usize) -> std::ops::RangeInclusive<usize> {
-        let Some(source) = &self.source else {
+    /// Returns the steps that come from the same line: several where it is a
+    /// join.
+    pub fn together(&self, step: usize) -> RangeInclusive<usize> {
+        let Some(Source { steps, .. }) = &self.source else {
             return step..=step;
         };
-        let line = |origin: &Origin| origin.line;
-        let own = source.steps[step - 1].line;
-        source.steps.partition_point(|origin| line(origin) < own) + 1
-            ..=source.steps.partition_point(|origin| line(origin) <= own)
+        let own = steps[step - 1].line;
+        let before = steps.partition_point(|origin| origin.line < own);
+        before + 1..=steps.partition_point(|origin| origin.line <= own)
     }
 
-    /// Whether the step is one of a join.
+    /// Tells whether the step is one of a join.
     pub fn joins(&self, step: usize) -> bool {
         matches!(self.line(step).map(|line| line.action), Some(Action::Join { .. }))
     }
 
-    /// Each step of which something is expected.
+    /// Returns each step of which something is expected.
     pub fn expectations(&self) -> impl Iterator<Item = (usize, Expectation)> + '_ {
         (1..=self.run.steps.len()).filter_map(|step| Some((step, self.expectation(step)?)))
     }
 
-    /// Why the run ends before its text does.
+    /// Returns why the run ends before its text does.
     pub fn stopped(&self) -> Option<&Trouble> {
         self.source.as_ref()?.stopped.as_ref()
     }

@@ -104,7 +104,7 @@ impl<'a> Moment<'a> {
         &self.after.tables.queue.messages()[kept..]
     }
 
-    /// The same with their places in the queue.
+    /// Returns the same with their places in the queue.
     pub fn placed(&self) -> impl Iterator<Item = (usize, &'a Message)> {
         let first = self.after.tables.queue.len - self.sent().len();
         self.sent().iter().enumerate().map(move |(place, message)| (first + place, message))

@@ -204,7 +204,7 @@ fn names_of(messages: &[Message], place: usize) -> Vec<String> {
         let named =
             |which: Which| format!("{}{name} {} client {}{end}", which.prefix(), way(name), message.client);
         names.push(named(Which::Nth(messages[..=place].iter().filter(|other| same(other)).count())));
-        if !messages[place + 1..].iter().any(|other| same(other)) {
+        if !messages[place + 1..].iter().any(same) {
             names.push(named(Which::Last));
         }
     }

@@ -11,12 +11,13 @@ use crate::scenario::{Expectation, Scenario, Source};
 use crate::text::actions::Action;
 use crate::text::script::Line;
 use crate::text::steps;
-use crate::trace::Moment;
+use crate::trace::{walk, Moment};
 
-/// The explained listing of a run: a line for each step, and nothing else.
+/// Returns the explained listing of a run: a line for each step, and nothing
+/// else.
 pub fn listing(run: &Run) -> String {
     let mut lines = String::new();
-    crate::trace::walk(run, |moment| put(&mut lines, &line(moment)));
+    walk(run, |moment| put(&mut lines, &line(moment)));
     lines
 }
 
@@ -24,35 +25,31 @@ fn put(lines: &mut String, line: &str) {
     writeln!(lines, "{line}").expect("a string takes every line");
 }
 
-/// The line of a step as a run file has it.
+/// Returns the line of a step as a run file has it.
 pub fn line(moment: &Moment) -> String {
-    joined(moment, None, &steps::line(&moment.step), None)
+    let step = moment.voice.said(&steps::line(&moment.step));
+    format!("{} ({}) {step}: {}", moment.number, clock(moment), answered(moment, None))
 }
 
-/// The line of a step, with the line of the text that it comes from and what
-/// was written and expected there.
+/// Returns the line of a step, with the line of the text that it comes from
+/// and what was written and expected there.
 pub fn line_of(scenario: &Scenario, moment: &Moment) -> String {
-    match scenario.line(moment.number) {
-        None => line(moment),
-        Some(line) => {
-            let expectation = scenario.expectation(moment.number);
-            joined(moment, Some(line.number), &written(line, moment), expectation)
-        }
-    }
-}
-
-fn joined(moment: &Moment, line: Option<usize>, written: &str, expectation: Option<Expectation>) -> String {
-    let line = line.map_or(String::new(), |number| format!("line {number}, "));
-    let clock = moment.voice.ticks(moment.clock());
-    let written = match line.is_empty() {
-        true => moment.voice.said(written),
-        false => written.into(),
+    let Some(origin) = scenario.line(moment.number) else {
+        return line(moment);
     };
-    let head = format!("{} ({line}clock {clock}) {written}", moment.number);
-    format!("{head}: {}", answered(moment, expectation))
+    let (number, clock, written) = (origin.number, clock(moment), written(origin, moment));
+    let answered = answered(moment, scenario.expectation(moment.number));
+    format!("{} (line {number}, {clock}) {written}: {answered}", moment.number)
 }
 
-/// What was written, and which step it stands for where it leaves that open.
+/// Returns the clock after the step: "clock 10", with its time if that is
+/// known.
+pub fn clock(moment: &Moment) -> String {
+    format!("clock {}", moment.voice.ticks(moment.clock()))
+}
+
+/// Returns what was written, and which step it stands for where it leaves that
+/// open.
 pub fn written(line: &Line, moment: &Moment) -> String {
     let written = &line.written;
     match line.action {
@@ -62,8 +59,8 @@ pub fn written(line: &Line, moment: &Moment) -> String {
     }
 }
 
-/// The answer and why it was given; that is the model's word, told where it
-/// gave the library's answer.
+/// Returns the answer and why it was given. Why is the model's word, so it is
+/// left out where the library gave another answer.
 pub fn answered(moment: &Moment, expectation: Option<Expectation>) -> String {
     let answer = Listed::of(&moment.answer);
     let words = match expectation {
@@ -77,26 +74,21 @@ pub fn answered(moment: &Moment, expectation: Option<Expectation>) -> String {
     }
 }
 
-/// All that explain tells of a run: its lines between the comments of its
-/// text, why it stopped if it did, and what is still under way.
+/// Returns all that explain tells of a run: its lines between the comments of
+/// its text, what is still under way, and why it stopped if it did.
 pub fn told(scenario: &Scenario) -> String {
     let mut lines = String::new();
     let source = scenario.source.as_ref();
     comments(&mut lines, source.map_or(&[], |source| &source.opening));
     let mut under_way = Vec::new();
     scenario.walk(|moment| {
-        let first = *scenario.together(moment.number).start() == moment.number;
-        let own = scenario.line(moment.number).filter(|_| first);
-        comments(&mut lines, own.map_or(&[], |line| &line.before));
-        let behind = own.and_then(|line| line.behind.as_ref());
-        let behind = behind.map_or(String::new(), |comment| format!(" # {comment}"));
-        put(&mut lines, &(line_of(scenario, moment) + &behind));
-        let messages = moment.after.tables.queue.messages();
-        under_way = messages.iter().enumerate().map(|(place, message)| placed(place, message)).collect();
+        step(&mut lines, scenario, moment);
+        if moment.number == scenario.run.steps.len() {
+            let messages = moment.after.tables.queue.messages().iter().enumerate();
+            under_way.extend(messages.map(|(place, message)| placed(place, message)));
+        }
     });
-    if let Some(source) = source {
-        comments(&mut lines, ending(source));
-    }
+    comments(&mut lines, source.map_or(&[], Source::closing));
     if !under_way.is_empty() {
         put(&mut lines, &scenario.voice.said(&format!("still under way: {}", under_way.join(", "))));
     }
@@ -106,20 +98,17 @@ pub fn told(scenario: &Scenario) -> String {
     lines
 }
 
-fn comments(lines: &mut String, comments: &[String]) {
-    comments.iter().for_each(|comment| put(lines, format!("# {comment}").trim_end()));
+/// Puts the line of a step, with the comments of the text's line if it is the
+/// first that comes from there.
+fn step(lines: &mut String, scenario: &Scenario, moment: &Moment) {
+    let first = *scenario.together(moment.number).start() == moment.number;
+    let origin = scenario.line(moment.number).filter(|_| first);
+    comments(lines, origin.map_or(&[], |line| &line.before));
+    let behind = origin.and_then(|line| line.behind.as_ref());
+    let behind = behind.map_or(String::new(), |comment| format!(" # {comment}"));
+    put(lines, &(line_of(scenario, moment) + &behind));
 }
 
-/// The comments after the last step: of a text that stops, those before the
-/// line where it does, unless a step of it was taken.
-pub fn ending(source: &Source) -> &[String] {
-    match source.stopped_at() {
-        None => &source.ending,
-        Some((_, line))
-            if source.steps.last().is_some_and(|last| source.lines[last.line].number == line.number) =>
-        {
-            &[]
-        }
-        Some((_, line)) => &line.before,
-    }
+fn comments(lines: &mut String, comments: &[String]) {
+    comments.iter().for_each(|comment| put(lines, format!("# {comment}").trim_end()));
 }

@@ -13,7 +13,7 @@ use model::answer::Answer;
 use crate::listed::Listed;
 use crate::scenario::Scenario;
 use crate::trace::Moment;
-pub use lines::{answered, ending, line, line_of, listing, told, written};
+pub use lines::{answered, clock, line, line_of, listing, told, written};
 
 /// The line of one step.
 pub fn line_at(scenario: &Scenario, number: usize) -> Option<String> {

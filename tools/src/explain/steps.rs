@@ -18,7 +18,7 @@ fn lease(moment: &Moment, what: &str, expiry: u32) -> String {
     }
 }
 
-/// What the step sends, each with its place among those under way.
+/// Tells what the step sends, each with its place among those under way.
 pub fn sends(moment: &Moment) -> Vec<String> {
     let sends = |(place, sent)| format!("sends {} at place {place}", whole(sent, &moment.voice));
     moment.placed().map(sends).collect()
@@ -78,7 +78,7 @@ pub fn write(moment: &Moment) -> Vec<String> {
     reasons
 }
 
-/// What a write sends: the same to each client.
+/// Tells what a write sends: the same to each client.
 fn sends_to(moment: &Moment) -> Option<String> {
     let to = |(place, sent): (usize, &Message)| format!("to client {} at place {place}", sent.client);
     let (_, first) = moment.placed().next()?;

@@ -41,7 +41,8 @@ pub struct Named {
 const STEPS: [(&str, u8); 3] = [("deliver", DELIVER), ("lose", LOSE), ("double", DOUBLE)];
 
 impl Named {
-    /// As in the text form: "second GRANT to client 0 object 1".
+    /// Returns its name as in the text form: "second GRANT to client 0 object
+    /// 1".
     pub fn what(&self) -> String {
         let Named { which, message, client, item, .. } = self;
         let item = item.map_or(String::new(), |item| format!(" {} {item}", names::about(message)));
@@ -73,13 +74,13 @@ pub fn line(action: &Action) -> String {
 
 pub fn parse(words: &mut Words) -> Result<Action, Wrong> {
     let step = STEPS.iter().find(|(word, _)| words.peek() == Some(word));
-    let by_name = words.second().is_some_and(|word| KINDS.contains(&word) || Which::of(word).is_some());
+    let by_name = |word: &str| KINDS.contains(&word) || Which::of(word).is_some();
     match (words.peek(), step) {
         (Some("join"), _) => {
             words.word("join")?;
             Ok(Action::Join { client: words.named_byte("client")?, object: words.named_byte("object")? })
         }
-        (_, Some((word, step))) if by_name => {
+        (_, Some((word, step))) if words.second().is_some_and(by_name) => {
             words.word(word)?;
             named(*step, words).map(Action::Named)
         }

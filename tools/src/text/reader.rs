@@ -132,7 +132,8 @@ impl Reader {
         }
     }
 
-    /// Before the first step it may stand anywhere.
+    /// Reads the length of a tick, which may stand anywhere before the first
+    /// step.
     fn read_tick(&mut self, words: &mut Words) -> Result<(), Wrong> {
         self.opening.append(&mut self.comments);
         let tick = Tick::parse(words)?;
@@ -173,13 +174,13 @@ impl Reader {
     }
 }
 
-/// What is written before expectation and comment, with single spaces.
+/// Returns what is written before expectation and comment, with single spaces.
 fn written(line: &str) -> String {
     let step = line.split('#').next().and_then(|words| words.split(ARROW).next());
     step.into_iter().flat_map(str::split_whitespace).collect::<Vec<_>>().join(" ")
 }
 
-/// The comment of a line, without its `#`.
+/// Returns the comment of a line, without its `#`.
 fn comment(line: &str) -> Option<String> {
     line.split_once('#').map(|(_, comment)| comment.trim().into())
 }

@@ -62,7 +62,7 @@ impl Script {
         canonical(&self.note, &self.setup, self.voice.tick, self.lines.iter().map(line))
     }
 
-    /// Every line as steps, up to the first one that cannot be.
+    /// Writes every line out as steps, up to the first one that cannot be.
     pub fn as_far_as_it_goes(&self) -> WrittenOut {
         let mut writer = Writer::new(&self.setup, self.voice, self.note.len());
         let stopped = self.lines.iter().enumerate().find_map(|(place, line)| {
@@ -78,7 +78,7 @@ impl Script {
         WrittenOut { run, steps, stopped }
     }
 
-    /// Every line as steps, or the first one that cannot be.
+    /// Writes every line out as steps, or tells the first one that cannot be.
     pub fn written_out(&self) -> Result<WrittenOut, Trouble> {
         let mut written = self.as_far_as_it_goes();
         written.stopped.take().map_or(Ok(written), Err)

@@ -17,7 +17,7 @@ impl Wrong {
         Wrong { found: found.into(), expected: expected.into() }
     }
 
-    /// The same in the user's words, but for what is quoted of the text.
+    /// Says the same in the user's words, but for what is quoted of the text.
     fn said(&self, words: Vocabulary) -> Wrong {
         let parts = self.found.split('`').enumerate();
         let found = parts.map(|(place, part)| if place % 2 == 1 { part.into() } else { words.said(part) });
@@ -33,13 +33,13 @@ pub struct Trouble {
 }
 
 impl Trouble {
-    /// In words, with what is written on the line.
+    /// Tells it with what is written on the line.
     pub fn at(&self, written: &str) -> String {
         let Wrong { found, expected } = &self.wrong;
         format!("line {}, {written}: found {found}, expected {expected}", self.line)
     }
 
-    /// The same in the user's words.
+    /// Says the same in the user's words.
     pub fn said(&self, words: Vocabulary) -> Trouble {
         Trouble { line: self.line, wrong: self.wrong.said(words) }
     }
@@ -81,7 +81,7 @@ impl<'a> Words<'a> {
         self.rest.get(1).copied()
     }
 
-    /// What the first word that has any gives.
+    /// Returns what the first word that has any gives.
     pub fn find<T>(&self, of: impl Fn(&str) -> Option<T>) -> Option<T> {
         self.rest.iter().find_map(|word| of(word))
     }
