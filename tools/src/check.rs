@@ -23,23 +23,22 @@ pub fn verdict(scenario: &Scenario) -> Verdict {
     Verdict { words: counted(scenario, failures.len()), failures }
 }
 
-/// Returns how many hold or fail. A text that stops halfway has some that were
+/// Returns how many hold or fail. Of a text that stops halfway, the rest was
 /// not reached.
 fn counted(scenario: &Scenario, failed: usize) -> String {
     let all = scenario.source.iter().flat_map(|source| &source.lines);
     let count = all.filter(|line| line.expected.is_some()).count();
     let reached = scenario.expectations().count();
-    let words = match (count, failed) {
-        (0, _) => "no expectations".into(),
-        (1, 0) if reached == 1 => "the 1 expectation holds".into(),
-        (_, 0) if reached == count => format!("all {count} expectations hold"),
-        (_, 0) => format!("{reached} of {count} expectations held"),
+    let stopped = scenario.stopped().map(|trouble| format!("stopped at line {}", trouble.line));
+    let words = match (count, failed, &stopped) {
+        (0, _, _) => "no expectations".into(),
+        (1, 0, None) => "the 1 expectation holds".into(),
+        (_, 0, None) => format!("all {count} expectations hold"),
+        (_, 0, Some(_)) => format!("{reached} of {count} expectations held"),
         _ => format!("{failed} of {count} expectations failed"),
     };
-    match count - reached {
-        0 => words,
-        missed => format!("{words}, {missed} not reached"),
-    }
+    let missed = (reached < count).then(|| format!("{} not reached", count - reached));
+    [Some(words), missed, stopped].into_iter().flatten().collect::<Vec<_>>().join(", ")
 }
 
 /// Returns the step's line in the text and the clock, what was written there,

@@ -88,11 +88,11 @@ fn pictures_go_up_to_there() {
 #[test]
 fn check_counts_what_was_not_reached() {
     for (before, verdict) in [
-        (BEFORE.to_string(), "1 of 2 expectations held, 1 not reached\n"),
-        (BEFORE.replace(" => done", ""), "0 of 1 expectations held, 1 not reached\n"),
+        (BEFORE.to_string(), "1 of 2 expectations held, 1 not reached, stopped at line 7\n"),
+        (BEFORE.replace(" => done", ""), "0 of 1 expectations held, 1 not reached, stopped at line 7\n"),
         (
             BEFORE.replace("=> done", "=> shown 1"),
-            "1 of 2 expectations failed, 1 not reached\nstandard input: line 5, step 8, clock 0, write object 0 value 7: FAILED: \
+            "1 of 2 expectations failed, 1 not reached, stopped at line 7\nstandard input: line 5, step 8, clock 0, write object 0 value 7: FAILED: \
              expected shown 1, found done: stands, latest end 10 by the volume lease of client 0; waits for client 0; \
              sends INVALIDATE object 0 version 2 to client 0 at place 0\n",
         ),
@@ -101,6 +101,18 @@ fn check_counts_what_was_not_reached() {
         assert_eq!(ended.status, 1);
         assert_eq!(output(&ended), format!("standard input: {verdict}"));
         assert_eq!(ended.errors, format!("line 7: {NO_GRANT}\n8 steps, none refused\n"));
+    }
+}
+
+/// Also where all were reached, or none is there.
+#[test]
+fn check_tells_that_it_stopped() {
+    for (lines, verdict) in [
+        (format!("{BEFORE}{NAME}"), "1 of 1 expectations held, stopped at line 7\n"),
+        (format!("{}{NAME}", BEFORE.replace(" => done", "")), "no expectations, stopped at line 7\n"),
+    ] {
+        let ended = run_program(RUNTEXT, &["check"], lines.as_bytes());
+        assert_eq!((ended.status, output(&ended)), (1, format!("standard input: {verdict}")));
     }
 }
 

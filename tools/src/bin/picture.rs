@@ -20,6 +20,10 @@ in the columns of clock steps alone. The server has a lane and each client one:
 leases are bars, messages arrows from sending to delivery, writes bars from
 acceptance to completion with their latest end and what fixes it, reads circles.
 
+Standard error tells how many expectations of a text failed. Where a join or a
+name in it cannot be met, the run is shown up to there and the reason is told;
+the exit status is then 1.
+
 --from and --to show the steps from N to N of the listing; what began before or
 ends after them is cut at the edge. A picture alone has at most 300 steps, since
 no wider one is drawn everywhere; standard error says where it was cut. For a
