@@ -162,7 +162,13 @@ fn explain_tells_the_time_beside_the_ticks() {
     let last = "9 (line 7, clock 90 = 1 h 30 min) read client 0 object 0: ask first: volume lease ended at 10 = 10 min\n";
     assert!(explained.ends_with(last), "{explained}");
     for number in 0..120 {
-        assert_times(&told(&scenario(&format!("{TICK}\n{}", print(&run(43, number))))));
+        let scenario = scenario(&format!("{TICK}\n{}", print(&run(43, number))));
+        assert_times(&told(&scenario));
+        scenario.walk(|moment| {
+            if moment.number % 20 == 0 {
+                assert_times_of_leases(&tables::print(moment.setup, moment.after, &moment.voice));
+            }
+        });
     }
 }
 
@@ -174,6 +180,19 @@ fn assert_times(explained: &str) {
         for rest in BEFORE.iter().flat_map(|before| line.split(before).skip(1)) {
             let unit = rest.trim_start_matches(|c: char| c.is_ascii_digit());
             assert!(unit.len() == rest.len() || unit.starts_with(" = "), "{rest}: {line}");
+        }
+    }
+}
+
+/// "10 = 2.5 s alive" and "latest end 10 = 2.5 s".
+fn assert_times_of_leases(tables: &str) {
+    for line in tables.lines() {
+        let words: Vec<&str> = line.split_whitespace().collect();
+        for pair in words.windows(2).filter(|pair| ["alive", "ended"].contains(&pair[1])) {
+            assert!(["s", "min", "h"].contains(&pair[0]), "{line}");
+        }
+        for rest in line.split("latest end ").skip(1) {
+            assert_eq!(rest.split(' ').nth(1), Some("="), "{line}");
         }
     }
 }
