@@ -62,6 +62,13 @@ impl Input {
         Failure::Input(lines.iter().map(|line| self.named(line)).collect::<Vec<_>>().join("\n"))
     }
 
+    /// Fails for want of a step, with the reason if the run is short because
+    /// its text stops.
+    pub fn too_short(&self, scenario: &Scenario, wanted: String) -> Failure {
+        let reason = scenario.stopped().map(Trouble::to_string);
+        self.failure(&[Some(wanted), reason].into_iter().flatten().collect::<Vec<_>>())
+    }
+
     /// Adds to an output that shows a run what is wrong with its text: that
     /// expectations failed, and that it stopped. Only the latter is an input
     /// that is not right.

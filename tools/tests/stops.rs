@@ -85,6 +85,19 @@ fn pictures_go_up_to_there() {
     }
 }
 
+/// A step that was not reached is told with why.
+#[test]
+fn a_step_after_it_is_told_with_the_reason() {
+    let tables = run_on(EXPLAIN, &["--tables", "9"], NAME);
+    let told = "--tables: found 9, expected a step from 0 to 8";
+    assert_eq!((tables.status, tables.errors), (1, format!("{told}\nline 7: {NO_GRANT}\n")));
+    let drawn = run_on(PICTURE, &["svg", "--from", "9"], NAME);
+    let told = "no steps from 9 to 8: the run has 8";
+    assert_eq!((drawn.status, drawn.errors), (1, format!("{told}\nline 7: {NO_GRANT}\n")));
+    let reached = run_on(EXPLAIN, &["--tables", "8"], NAME);
+    assert!(reached.status == 1 && reached.output.starts_with(b"after step 8 (line 5, clock 0) write"));
+}
+
 #[test]
 fn check_counts_what_was_not_reached() {
     for (before, verdict) in [

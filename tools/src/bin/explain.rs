@@ -88,7 +88,7 @@ fn tables_after(input: &Input, step: u64) -> Result<Output, Failure> {
     };
     let steps = scenario.run.steps.len();
     let wrong = || format!("--tables: found {step}, expected a step from 0 to {steps}");
-    let text = text.ok_or_else(|| input.failure(&[wrong()]))?;
+    let text = text.ok_or_else(|| input.too_short(&scenario, wrong()))?;
     Ok(counted(input, &scenario, text.into()))
 }
 

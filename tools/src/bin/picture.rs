@@ -29,8 +29,8 @@ ends after them is cut at the edge. A picture alone has at most 300 steps, since
 no wider one is drawn everywhere; standard error says where it was cut. For a
 long run take the page: it scrolls with the names in sight, zooms out to all of
 the run, shows one client or object alone, and finds a step by its number (also
-as run.html#120) or the next one that was refused, shown, told to ask first or
-completed a write. It works offline, on a phone and on paper.
+as run.html#120) or the next one that was refused, shown or completed a write.
+It works offline.
 "#;
 
 fn main() -> ExitCode {
@@ -46,13 +46,15 @@ fn main() -> ExitCode {
         let to = step(&mut arguments, "--to")?;
         let input = Input::read(arguments.file()?.as_deref())?;
         let scenario = input.scenario()?;
-        let wanted = window(from, to, scenario.run.steps.len())?;
+        let run = &scenario.run;
+        let wanted = window(from, to, run.steps.len());
+        let wanted = wanted.map_err(|wrong| input.too_short(&scenario, wrong))?;
         if form == "html" {
-            return Ok(input.told_of(&scenario, page(&scenario, wanted).into()));
+            return Ok(input.told_of(&scenario, page(run, wanted).into()));
         }
         let shown = wanted.narrowed();
         let told = narrowing(shown, wanted).into_iter().collect();
-        Ok(input.told_of(&scenario, Output { told, ..svg(&scenario, shown).into() }))
+        Ok(input.told_of(&scenario, Output { told, ..svg(run, shown).into() }))
     })
 }
 
@@ -70,15 +72,11 @@ fn step(arguments: &mut Arguments, name: &str) -> Result<Option<usize>, Failure>
 }
 
 /// A run without steps has an empty window.
-fn window(from: Option<usize>, to: Option<usize>, count: usize) -> Result<Window, Failure> {
+fn window(from: Option<usize>, to: Option<usize>, count: usize) -> Result<Window, String> {
     let window = Window { from: from.unwrap_or(1), to: to.unwrap_or(count).min(count) };
     let empty = count == 0 && from.is_none();
     if empty || (1..=window.to).contains(&window.from) {
         return Ok(window);
     }
-    Err(Failure::Input(format!(
-        "no steps from {} to {}: the run has {count}",
-        window.from,
-        to.unwrap_or(count)
-    )))
+    Err(format!("no steps from {} to {}: the run has {count}", window.from, to.unwrap_or(count)))
 }
