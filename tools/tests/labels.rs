@@ -4,6 +4,9 @@
 mod boxes;
 mod common;
 
+use std::fs;
+use std::path::Path;
+
 use boxes::{number, parts, Part, Shape};
 use common::example;
 use model::answer::Answer;
@@ -12,7 +15,8 @@ use model::message::{Kind, Message};
 use tools::latest_end::{Cause, Leases};
 use tools::picture::drawn;
 use tools::picture::layout::{Window, COLUMN};
-use tools::text::{from_file, steps};
+use tools::scenario::Scenario;
+use tools::text::{from_file, script, steps};
 use tools::timeline::flights::{End, Flight};
 use tools::timeline::Timeline;
 
@@ -140,6 +144,19 @@ fn every_text_fits_and_no_two_meet() {
     for (place, run) in examples().chain(generated()).chain(long()).enumerate() {
         let timeline = Timeline::new(&run);
         assert_readable(&svg(&run, whole(&timeline)), &format!("run {place}"));
+    }
+}
+
+/// Words of the text, expectations, times and numbers of lines as well.
+#[test]
+fn pictures_of_texts_are_readable() {
+    let names = model::examples::all().into_iter().map(|one| format!("{}.runtext", one.name));
+    let own = Path::new(env!("CARGO_MANIFEST_DIR")).join("tests/page/text.runtext");
+    for text in names.map(|name| example(&name)).chain([fs::read(own).unwrap()]) {
+        let scenario = Scenario::from(script(&text).unwrap());
+        let timeline = Timeline::of(&scenario);
+        let picture = drawn(&scenario.run.note, &timeline, whole(&timeline));
+        assert_readable(&picture, &String::from_utf8_lossy(&scenario.run.note));
     }
 }
 

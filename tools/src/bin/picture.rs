@@ -29,8 +29,8 @@ ends after them is cut at the edge. A picture alone has at most 300 steps, since
 no wider one is drawn everywhere; standard error says where it was cut. For a
 long run take the page: it scrolls with the names in sight, zooms out to all of
 the run, shows one client or object alone, and finds a step by its number (also
-as run.html#120) or the next one that was refused, shown or completed a write.
-It works offline.
+as run.html#120) or the next one that was refused, shown, told to ask first,
+completed a write or was expected to do something else. It works offline, on a phone and on paper.
 "#;
 
 fn main() -> ExitCode {
@@ -46,15 +46,14 @@ fn main() -> ExitCode {
         let to = step(&mut arguments, "--to")?;
         let input = Input::read(arguments.file()?.as_deref())?;
         let scenario = input.scenario()?;
-        let run = &scenario.run;
-        let wanted = window(from, to, run.steps.len());
+        let wanted = window(from, to, scenario.run.steps.len());
         let wanted = wanted.map_err(|wrong| input.too_short(&scenario, wrong))?;
         if form == "html" {
-            return Ok(input.told_of(&scenario, page(run, wanted).into()));
+            return Ok(input.told_of(&scenario, page(&scenario, wanted).into()));
         }
         let shown = wanted.narrowed();
         let told = narrowing(shown, wanted).into_iter().collect();
-        Ok(input.told_of(&scenario, Output { told, ..svg(run, shown).into() }))
+        Ok(input.told_of(&scenario, Output { told, ..svg(&scenario, shown).into() }))
     })
 }
 

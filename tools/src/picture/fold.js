@@ -52,11 +52,13 @@ function reroute(groups) {
   const end = group => +drawn.get(group.querySelector('.arrow')).y2;
   let lowest = 0;
   worded.clear();
-  for (const group of groups.sort((a, b) => end(a) - end(b))) {
+  const ways = groups.sort((a, b) => end(a) - end(b)).map(group => {
     let y = fold(end(group));
     if (group.querySelector('.under-way')) y = lowest = Math.max(y, lowest + 11);
-    turn(group, y);
-  }
+    return turn(group, y);
+  });
+  ways.forEach(keepClear);
+  ways.forEach(way => way.labels.forEach(text => turnLabel(text, way)));
   return lowest + 11;
 }
 
@@ -67,36 +69,46 @@ function beginning(group, y) {
   return fold(server) + (y - server) * (fold(client) - fold(server)) / (client - server);
 }
 
-// Cells of the picture that have words along an arrow. Words are left out
-// where others are: the arrow still tells all when it is pointed at.
+// Cells of the picture that have words along an arrow, or what no words may
+// hide. Words are left out where others are: the arrow still tells all when it
+// is pointed at.
 const worded = new Set();
+const cell = (x, y) => `${Math.round(x / 10)} ${Math.round(y / 10)}`;
 function free(x, y, angle, from, wide, across) {
   const [cos, sin] = [Math.cos(angle), Math.sin(angle)];
   const cells = [];
   for (let along = from; along < from + wide; along += 5) {
     const [right, down] = [along * cos - across * sin, along * sin + across * cos];
-    cells.push(`${Math.round((x + right) / 10)} ${Math.round((y + down) / 10)}`);
+    cells.push(cell(x + right, y + down));
   }
   const good = !cells.some(cell => worded.has(cell));
   if (good) cells.forEach(cell => worded.add(cell));
   return good;
 }
 
-// From the beginning to the end at this y, with all that is at either end or
-// along the way.
+// Head, cross or ring at the end of a way, and the diamond where a copy
+// begins.
+function keepClear({ x1, x2, fromY, toY, copy }) {
+  for (const [x, y] of [[x2, toY], ...(copy ? [[x1, fromY]] : [])]) {
+    for (const right of [-8, 0, 8]) [-8, 0, 8].forEach(down => worded.add(cell(x + right, y + down)));
+  }
+}
+
+// From the beginning to the end at this y, with all that is at either end. The
+// way, with the labels along it.
 function turn(group, toY) {
   const arrow = group.querySelector('.arrow');
   const [x1, y1, x2, y2] = ['x1', 'y1', 'x2', 'y2'].map(name => +drawn.get(arrow)[name]);
   const fromY = beginning(group, y1);
-  const way = { x1, y1, fromY, was: Math.atan2(y2 - y1, x2 - x1), is: Math.atan2(toY - fromY, x2 - x1),
-    length: Math.hypot(toY - fromY, x2 - x1) };
+  const way = { x1, y1, x2, fromY, toY, was: Math.atan2(y2 - y1, x2 - x1), is: Math.atan2(toY - fromY, x2 - x1),
+    length: Math.hypot(toY - fromY, x2 - x1), copy: group.querySelector('.doubled'), labels: [] };
   arrow.setAttribute('y1', fromY);
   arrow.setAttribute('y2', toY);
   const words = said.get(group.dataset.flight)?.children ?? [];
   for (const element of [...group.children, ...words].filter(one => one !== arrow && drawn.has(one))) {
     const { class: name, transform } = drawn.get(element);
     if (transform) {
-      if (element.tagName === 'text') turnLabel(element, way);
+      if (element.tagName === 'text') way.labels.push(element);
     } else if (name.startsWith('head')) {
       const tip = `translate(${x2} ${toY}) rotate(${degrees(way.is - way.was)})`;
       element.setAttribute('transform', `${tip} translate(${-x2} ${-y2})`);
@@ -104,6 +116,7 @@ function turn(group, toY) {
       element.setAttribute('transform', `translate(0 ${name.startsWith('doubled') ? fromY - y1 : toY - y2})`);
     }
   }
+  return way;
 }
 
 const degrees = angle => angle * 180 / Math.PI;

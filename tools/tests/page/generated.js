@@ -106,6 +106,22 @@ check('what the filter leaves moves together', () => {
   same(places(), before, 'as before');
 });
 
+check('no label hides a head, with and without a filter', () => {
+  for (const client of ['7', '']) {
+    pick('client', client);
+    const heads = [...lanes.querySelectorAll('.head')].filter(seen);
+    for (const head of some(heads)) {
+      head.scrollIntoView({ block: 'center', inline: 'center' });
+      const { left, top, width, height } = bounds(head);
+      const over = document.elementsFromPoint(left + width / 2, top + height / 2);
+      const hidden = over.slice(0, over.indexOf(head)).find(one => one.classList.contains('ground'));
+      if (hidden) throw `${hidden.nextElementSibling.textContent} of ${client || 'all'}`;
+    }
+    same(heads.length > 0, true, 'heads');
+  }
+  pick('client', '');
+});
+
 check('the filter by object leaves it and its volume', () => {
   const object = lines.find(line => line.dataset.object).dataset.object;
   pick('object', object);
