@@ -5,8 +5,9 @@
 mod common;
 
 use common::run_program;
-use tools::explain::told;
-use tools::scenario::Scenario;
+use tools::explain::{answered, told};
+use tools::listed::Listed;
+use tools::scenario::{Expectation, Scenario};
 use tools::text::script;
 
 const EXPLAIN: &str = env!("CARGO_BIN_EXE_explain");
@@ -95,6 +96,19 @@ fn a_run_file_has_no_source() {
     let explained = told(&scenario);
     assert!(!explained.contains("line ") && !explained.contains('#') && !explained.contains("expected"));
     assert!(explained.starts_with("1 (clock 0) ask client 0 object 0: done: "), "{explained}");
+}
+
+/// Why is the model's word: it says nothing of an answer that it did not give.
+#[test]
+fn reasons_are_told_of_the_models_answer_alone() {
+    scenario(TEXT).walk(|moment| {
+        let answer = Listed::of(&moment.answer);
+        let told = |found| answered(moment, Some(Expectation { expected: Listed::shown(9), found }));
+        let other = Listed::refused(6);
+        assert_eq!(told(other), "FAILED: expected shown 9, found refused 6");
+        let same = format!("FAILED: expected shown 9, found {}: ", answer.words());
+        assert!(told(answer).starts_with(&same), "{}", told(answer));
+    });
 }
 
 /// They show the run all the same, so the exit status is 0.

@@ -49,9 +49,15 @@ fn generated_runs_are_told_in_the_papers_words() {
 #[test]
 fn the_first_word_of_the_setup_decides() {
     let words = |text: &str| scenario(text).voice.words;
-    assert_eq!(words(&format!("note \"client\"\n{SETUP}read client 0 object 0\n")), Vocabulary::Paper);
+    assert_eq!(
+        words(&format!("note \"the client rides\"\n{SETUP}read client 0 object 0\n")),
+        Vocabulary::Paper
+    );
     let mixed = SETUP.replace("dashes", "clients");
-    assert_eq!(words(&format!("note \"dash\"\n# dash\n{mixed}read dash 0 notice 0\n")), Vocabulary::Field);
+    assert_eq!(
+        words(&format!("note \"the dash rides\"\n# dash\n{mixed}read dash 0 notice 0\n")),
+        Vocabulary::Field
+    );
     let read = told(&scenario(&format!("{SETUP}read client 0 notice 0\n")));
     assert_eq!(read, "1 (line 4, clock 0) read client 0 notice 0: ask first: no copy; no region lease\n");
     let read = told(&scenario(&format!("{mixed}read dash 0 notice 0\n")));
