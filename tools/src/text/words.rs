@@ -25,6 +25,12 @@ impl Wrong {
     }
 }
 
+impl fmt::Display for Wrong {
+    fn fmt(&self, f: &mut fmt::Formatter) -> fmt::Result {
+        write!(f, "found {}, expected {}", self.found, self.expected)
+    }
+}
+
 /// The same with the line's number, from 1.
 #[derive(Clone, Debug, PartialEq, Eq)]
 pub struct Trouble {
@@ -35,8 +41,7 @@ pub struct Trouble {
 impl Trouble {
     /// Tells it with what is written on the line.
     pub fn at(&self, written: &str) -> String {
-        let Wrong { found, expected } = &self.wrong;
-        format!("line {}, {written}: found {found}, expected {expected}", self.line)
+        format!("line {}, {written}: {}", self.line, self.wrong)
     }
 
     /// Says the same in the user's words.
@@ -47,8 +52,7 @@ impl Trouble {
 
 impl fmt::Display for Trouble {
     fn fmt(&self, f: &mut fmt::Formatter) -> fmt::Result {
-        let Wrong { found, expected } = &self.wrong;
-        write!(f, "line {}: found {found}, expected {expected}", self.line)
+        write!(f, "line {}: {}", self.line, self.wrong)
     }
 }
 
