@@ -96,7 +96,9 @@ fn verdict(timeline: &Timeline) -> String {
     let told = verdicts(timeline).enumerate().map(|(place, (words, bad))| {
         let class = if bad { "failed" } else { "held" };
         let jump = match place == 0 && failed {
-            true => "; next <button data-seek=\"failed\" data-key=\"f\">failed</button>",
+            true => {
+                "<span class=\"jump\">; next <button data-seek=\"failed\" data-key=\"f\">failed</button></span>"
+            }
             false => "",
         };
         format!("<p class=\"verdict\"><span class=\"{class}\">{}</span>{jump}</p>\n", escaped(words))

@@ -21,49 +21,78 @@ function reaches(svg) {
   return all.map(one => ({ ...one, texts: [...one.element.querySelectorAll('text')].map(text => reach(text, origin)) }));
 }
 
-// Words at the edge of a strip stand whole in the one that has their middle,
-// moved on along their line.
+// Words along an arrow that cross the edge of a strip stand whole in the one
+// that has their middle, and reach out of it a little or move on along their
+// line.
+const beyond = { left: 8, right: 14 };
+function moved(label, { left, right }, from, to) {
+  const middle = (left + right) / 2;
+  if (middle < from || middle >= to) return label.forEach(one => one.remove());
+  if (left >= from - beyond.left && right <= to + beyond.right) return;
+  const on = left < from ? from - left : to - right;
+  for (const one of label) {
+    const turned = one.getAttribute('transform') ?? '';
+    const [cos, sin] = turned ? turned.match(/[-0-9.]+/g).map(Number) : [1, 0];
+    one.setAttribute('transform', `translate(${on} ${on * sin / cos}) ${turned}`);
+  }
+}
+
+// Words of a bar begin where they are, and end in a sign that there is more.
+function shortened([text, ground], { left, right }, from, to) {
+  const letters = text.textContent.length;
+  const room = Math.floor((to - left) * letters / (right - left)) - 1;
+  if (left < from || room < 3) return [text, ground].forEach(one => one.remove());
+  if (right <= to) return;
+  text.textContent = `${text.textContent.slice(0, room)}…`;
+  ground.setAttribute('width', to - left);
+}
+
 function whole(copy, texts, from, to) {
   const copies = copy.querySelectorAll('text');
-  texts.forEach(({ left, right }, place) => {
-    if (left >= from && right <= to) return;
-    const ground = copies[place].previousElementSibling;
-    const label = [copies[place], ...(ground?.classList.contains('ground') ? [ground] : [])];
-    const middle = (left + right) / 2;
-    if (middle < from || middle >= to) return label.forEach(one => one.remove());
-    const right_by = left < from ? from - left : to - right;
-    for (const one of label) {
-      const turned = one.getAttribute('transform') ?? '';
-      const [cos, sin] = turned ? turned.match(/[-0-9.]+/g).map(Number) : [1, 0];
-      one.setAttribute('transform', `translate(${right_by} ${right_by * sin / cos}) ${turned}`);
-    }
+  texts.forEach((reach, place) => {
+    const [text, ground] = [copies[place], copies[place].previousElementSibling];
+    if (text.classList.contains('bar-text')) shortened([text, ground], reach, from, to);
+    else moved(ground?.classList.contains('ground') ? [text, ground] : [text], reach, from, to);
   });
 }
 
-// The part from one vertical to another, as large as the page takes it.
+// The part from one vertical to another, as large as the page takes it. Lines
+// are cut there, and words are not.
 function cut(svg, all, from, to, scale) {
-  const height = +svg.dataset.height;
-  const made = svg.cloneNode(false);
-  made.setAttribute('viewBox', `${from} 0 ${to - from} ${height}`);
+  const [height, made] = [+svg.dataset.height, svg.cloneNode(false)];
+  const box = { viewBox: `${from} 0 ${to - from} ${height}` };
+  for (const key in box) made.setAttribute(key, box[key]);
   made.setAttribute('width', (to - from) * scale);
   made.setAttribute('height', height * scale);
+  const lines = element('svg', { ...box, x: from, width: to - from, height }, made);
   for (const { element, left, right, texts } of all.filter(one => one.right >= from && one.left <= to)) {
     const copy = element.cloneNode(true);
     if (left < from || right > to) whole(copy, texts, from, to);
-    made.append(copy);
+    (copy.querySelector('.ground') ? made : lines).append(copy);
   }
   return made;
 }
 
+// As many columns in each strip as there is room for, and no more than make all
+// of them alike; the last strip has room for what stands right of it as well.
+function columnsOfStrip(room, beside) {
+  const [count, most] = [lines.length, Math.max(1, Math.floor((room - margin) / column))];
+  const strips = columns => Math.ceil(count / columns);
+  const fits = columns => (count - (strips(columns) - 1) * columns) * column + beside <= room;
+  const columns = [...Array(most).keys()].map(less => most - less).find(fits) ?? most;
+  const alike = Math.ceil(count / strips(columns));
+  return fits(alike) ? alike : columns;
+}
+
 // The verticals at which the strips begin and end.
 function edges(room) {
-  const [wide, columns] = [+lanes.dataset.width, Math.max(1, Math.floor((room - margin) / column))];
-  const all = [];
-  for (let from = 0, to; from < wide; from = to) {
-    to = wide - from <= room ? wide : Math.min(from + columns * column, lines.length * column);
-    all.push([from, to]);
-  }
-  return all;
+  const [wide, all] = [+lanes.dataset.width, lines.length * column];
+  const step = columnsOfStrip(room, wide - all) * column;
+  const edges = [];
+  for (let from = 0; from < all; from += step) edges.push([from, Math.min(from + step, all)]);
+  const last = edges.pop() ?? [0, 0];
+  const fits = wide - last[0] <= room;
+  return [...edges, ...(fits ? [[last[0], wide]] : [last, [all, wide]])];
 }
 
 function strips() {

@@ -248,8 +248,8 @@ check('the lanes are seen, not the header alone', () => {
   const lowest = Math.min(bounds(frame).bottom, innerHeight);
   const room = lowest - bounds(header).bottom;
   same(room >= 200 && room >= (lowest - bounds(frame).top) / 2, true, `${room} of ${lowest}`);
-  const client = bounds(laneName('client 0'));
-  same([bounds(laneName('server')).bottom < lowest, client.bottom < lowest], [true, true], 'server and a client');
+  const inside = [...names.querySelectorAll('text')].map(bounds).filter(name => name.bottom < lowest);
+  same(inside.filter(name => name.top >= bounds(header).bottom).length > 1, true, 'names of lanes and rows');
   get('words').click();
   const other = bounds(header).height;
   get('words').click();
@@ -269,7 +269,9 @@ check('on paper each step is in one strip, whole, and all fit a page', () => {
     same([width <= sheet.width + 1, height <= sheet.height + 9], [true, true], `${width} x ${height}`);
     for (const text of strip.querySelectorAll('text')) {
       const [words, part] = [bounds(text), bounds(text.closest('svg'))];
-      if (words.left < part.left - 1 || words.right > part.right + 1) throw `cut: ${text.textContent}`;
+      const out = text.closest('.lanes') ? beyond : { left: 1, right: 1 };
+      const inside = words.left >= part.left - out.left - 1 && words.right <= part.right + out.right + 1;
+      if (!inside) throw `cut: ${text.textContent}`;
     }
   }
   get('paper').style.display = '';

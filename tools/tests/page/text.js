@@ -4,7 +4,7 @@ const failed = () => numbers(lines.filter(line => line.textContent.includes('FAI
 check('the count of expectations is at the top', () => {
   const top = [...document.querySelectorAll('header .failed')].map(one => one.textContent);
   same(top.length, 2, 'count and reason');
-  same(top[0], '3 of 8 expectations failed, 1 not reached', 'count');
+  same(top[0].startsWith('3 of 8 expectations failed, 1 not reached'), true, top[0]);
   same(top[1], lines.at(-1).parentNode.lastElementChild.textContent, 'reason');
   same(top[1].startsWith('stopped at line 23, deliver GRANT to dash 1: found no GRANT to dash 1 under way'), true, 'reason');
 });
