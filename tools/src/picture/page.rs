@@ -11,12 +11,13 @@ use crate::voice::Voice;
 
 const PAGE: &str = include_str!("page.html");
 const PAGE_STYLE: &str = include_str!("page.css");
-const SCRIPTS: [&str; 7] = [
+const SCRIPTS: [&str; 8] = [
     include_str!("parts.js"),
     include_str!("fold.js"),
     include_str!("zoom.js"),
     include_str!("steps.js"),
     include_str!("told.js"),
+    include_str!("strip-words.js"),
     include_str!("print.js"),
     include_str!("page.js"),
 ];

@@ -7,55 +7,6 @@ const sheets = [{ size: 'landscape', width: 970, height: 690 }, { size: 'portrai
 // Right of the last column, at least.
 const margin = 10;
 
-// How far an element reaches from left to right in its part.
-function reach(element, origin) {
-  const { left, right, width, height } = element.getBoundingClientRect();
-  return { element, shown: width + height > 0, left: (left - origin) / zoom, right: (right - origin) / zoom };
-}
-
-// What is drawn in a part and shown, with its reach and that of its words.
-function reaches(svg) {
-  const origin = svg.getBoundingClientRect().left;
-  const drawn = [...svg.children].filter(child => !child.classList.contains('chosen'));
-  const all = drawn.map(child => reach(child, origin)).filter(({ shown }) => shown);
-  return all.map(one => ({ ...one, texts: [...one.element.querySelectorAll('text')].map(text => reach(text, origin)) }));
-}
-
-// Words along an arrow that cross the edge of a strip stand whole in the one
-// that has their middle, and reach out of it a little or move on along their
-// line.
-const beyond = { left: 8, right: 14 };
-function moved(label, { left, right }, from, to) {
-  const middle = (left + right) / 2;
-  if (middle < from || middle >= to) return label.forEach(one => one.remove());
-  if (left >= from - beyond.left && right <= to + beyond.right) return;
-  const on = left < from ? from - left : to - right;
-  for (const one of label) {
-    const turned = one.getAttribute('transform') ?? '';
-    const [cos, sin] = turned ? turned.match(/[-0-9.]+/g).map(Number) : [1, 0];
-    one.setAttribute('transform', `translate(${on} ${on * sin / cos}) ${turned}`);
-  }
-}
-
-// Words of a bar begin where they are, and end in a sign that there is more.
-function shortened([text, ground], { left, right }, from, to) {
-  const letters = text.textContent.length;
-  const room = Math.floor((to - left) * letters / (right - left)) - 1;
-  if (left < from || room < 3) return [text, ground].forEach(one => one.remove());
-  if (right <= to) return;
-  text.textContent = `${text.textContent.slice(0, room)}…`;
-  ground.setAttribute('width', to - left);
-}
-
-function whole(copy, texts, from, to) {
-  const copies = copy.querySelectorAll('text');
-  texts.forEach((reach, place) => {
-    const [text, ground] = [copies[place], copies[place].previousElementSibling];
-    if (text.classList.contains('bar-text')) shortened([text, ground], reach, from, to);
-    else moved(ground?.classList.contains('ground') ? [text, ground] : [text], reach, from, to);
-  });
-}
-
 // The part from one vertical to another, as large as the page takes it. Lines
 // are cut there, and words are not.
 function cut(svg, all, from, to, scale) {
@@ -67,9 +18,10 @@ function cut(svg, all, from, to, scale) {
   const lines = element('svg', { ...box, x: from, width: to - from, height }, made);
   for (const { element, left, right, texts } of all.filter(one => one.right >= from && one.left <= to)) {
     const copy = element.cloneNode(true);
-    if (left < from || right > to) whole(copy, texts, from, to);
-    (copy.querySelector('.ground') ? made : lines).append(copy);
+    const cut = svg === lanes && (left < from || right > to) && settled(copy, texts, from, to);
+    (copy.querySelector('.ground') && !cut ? made : lines).append(copy);
   }
+  if (svg === lanes) nameAgain(made, all, from, to);
   return made;
 }
 
@@ -102,7 +54,9 @@ function strips() {
   const scale = Math.min(1, paper.height / high);
   const wide = +names.dataset.width;
   const parts = new Map([corner, header, names, lanes].map(svg => [svg, reaches(svg)]));
-  return edges(paper.width / scale - wide).map(([from, to]) => {
+  const all = edges(paper.width / scale - wide);
+  settle(parts.get(lanes), all);
+  return all.map(([from, to]) => {
     const strip = document.createElement('div');
     strip.className = 'strip';
     strip.style.gridTemplateColumns = `${wide * scale}px ${(to - from) * scale}px`;

@@ -55,6 +55,15 @@ check('on paper the joins are open', () => {
   same(joins.map(join => join.open), [false, false], 'as before');
 });
 
+check('on paper a bar that goes on in the next strip is named there again', () => {
+  window.dispatchEvent(new Event('beforeprint'));
+  const [before, after] = [...document.querySelectorAll('.strip .lanes')].map(strip =>
+    [...strip.querySelectorAll('.bar-text')].map(text => text.textContent));
+  window.dispatchEvent(new Event('afterprint'));
+  same(before.some(words => words.startsWith('region 0')), true, before.join('; '));
+  same(after.some(words => words.startsWith('dash 0: region 0 lease to')), true, after.join('; '));
+});
+
 check('comments stand beside their steps', () => {
   const before = text => [...document.querySelectorAll('#listing .comment')].find(one => one.textContent === text);
   same(before('# Both drive in.').nextElementSibling, joins[0], 'before a join');
