@@ -39,6 +39,7 @@ function pressed(event) {
 
 options(get('client'), clients);
 options(get('object'), volumeOf.length);
+for (const kind of ['pointerover', 'pointerout']) lanes.addEventListener(kind, pointed);
 lanes.addEventListener('click', clicked);
 header.addEventListener('click', clicked);
 get('told').onclick = () => tell('');

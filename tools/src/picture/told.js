@@ -19,6 +19,13 @@ function titleAt(x, y) {
   return null;
 }
 
+// An arrow is thick while its label is pointed at, as while it is itself.
+const arrowOf = new Map(flights.map(group => [group.dataset.flight, group]));
+function pointed(event) {
+  const arrow = arrowOf.get(event.target.closest('g')?.dataset.flight);
+  arrow?.classList.toggle('pointed', event.type === 'pointerover');
+}
+
 function clicked(event) {
   const x = (event.clientX - event.currentTarget.getBoundingClientRect().left) / zoom;
   const place = Math.floor(x / column);

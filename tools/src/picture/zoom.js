@@ -50,10 +50,15 @@ function ruler() {
   }
 }
 
-// The same part of full size, where that has become another.
-let fullBefore = full();
+// The same part of full size, where that has become another. A phone that shows
+// or hides its bars changes the height alone, and nothing is to move then.
+let before = { full: full(), width: innerWidth };
 function resized() {
-  const part = zoom / fullBefore;
-  fullBefore = full();
+  const [part, wide] = [zoom / before.full, before.width !== innerWidth];
+  before = { full: full(), width: innerWidth };
   setZoom(part * full());
+  if (chosen && wide) {
+    find(lines[chosen - first]);
+    listed(lines[chosen - first]);
+  }
 }

@@ -175,6 +175,7 @@ check('every text is as wide as was reckoned, or narrower', () => {
 });
 
 check('the page is as wide as the screen, and says so to a phone', () => {
+  same(`${innerWidth},${innerHeight}`, asked, 'size');
   same(document.querySelector('meta[name=viewport]').content, 'width=device-width, initial-scale=1', 'viewport');
   same(document.documentElement.scrollWidth <= innerWidth, true, 'nothing to scroll sideways');
 });
@@ -232,6 +233,16 @@ check('a tap tells what pointing does', () => {
     }
   }
   same(told > 10, true, `${told} told`);
+});
+
+check('an arrow is thick while its label is pointed at', () => {
+  const label = [...lanes.querySelectorAll('[data-flight] > .message')].find(seen);
+  const arrow = lanes.querySelector(`[data-flight="${label.parentNode.dataset.flight}"] > .arrow`);
+  const thick = kind => {
+    label.dispatchEvent(new PointerEvent(kind, { bubbles: true }));
+    return getComputedStyle(arrow).strokeWidth;
+  };
+  same([thick('pointerover'), thick('pointerout') === '3px'], ['3px', false], 'stroke');
 });
 
 check('a tap beside an arrow tells of it', () => {

@@ -12,6 +12,9 @@ function same(found, expected, what) {
   }
 }
 
+// The size that the window was asked to have, such as 1024,600.
+const asked = location.search.slice(1);
+
 const bounds = element => element.getBoundingClientRect();
 const seen = element => element.getClientRects().length > 0;
 const press = (key, shiftKey = false) =>

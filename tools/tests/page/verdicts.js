@@ -1,16 +1,13 @@
-// Runs the checks; each leaves a line.
-(async () => {
-  const verdicts = [];
+// Runs the checks; each makes a line.
+const verdicts = (async () => {
+  const lines = [];
   for (const [words, test] of checks) {
     try {
       await test();
-      verdicts.push(`ok ${words}`);
+      lines.push(`ok ${words}`);
     } catch (trouble) {
-      verdicts.push(`wrong ${words}: ${trouble}`);
+      lines.push(`wrong ${words}: ${trouble}`);
     }
   }
-  const out = document.createElement('pre');
-  out.id = 'verdicts';
-  out.textContent = `\n${verdicts.join('\n')}\n`;
-  document.body.append(out);
+  return lines.join('\n');
 })();
