@@ -227,6 +227,9 @@ check('a tap tells what pointing does', () => {
       const [clientX, clientY] = point;
       document.elementFromPoint(clientX, clientY).dispatchEvent(new MouseEvent('click', { clientX, clientY, bubbles: true }));
       same([get('told').textContent, seen(get('told'))], [group.querySelector('title').textContent, true], 'told');
+      const { left, right, top } = bounds(get('told'));
+      const over = [left + 10, right - 10].map(x => document.elementFromPoint(x, top + 10) === get('told'));
+      same(over, [true, true], 'nothing lies over it');
       get('told').click();
       same(seen(get('told')), false, 'told until it is tapped');
       told++;
