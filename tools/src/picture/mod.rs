@@ -16,6 +16,7 @@ mod paths;
 pub mod svg;
 mod tiles;
 mod words;
+mod writes;
 
 use crate::scenario::Scenario;
 use crate::text;

@@ -44,8 +44,8 @@ function settle(all, edges) {
     const [from, to] = text.home = edges.find(([, to]) => middle < to) ?? edges.at(-1);
     if (text.left >= from - beyond.left && text.right <= to + beyond.right) continue;
     text.on = text.left < from ? from - text.left : to - text.right;
-    const there = corners(text.element, text.on);
-    const near = texts.filter(({ left, right }) => left < text.right + Math.abs(text.on) && right > text.left - Math.abs(text.on));
+    const [there, far] = [corners(text.element, text.on), Math.abs(text.on)];
+    const near = texts.filter(({ left, right }) => left < text.right + far && right > text.left - far);
     text.cut = near.some(other => other !== text && meet(there, corners(other.element, other.on ?? 0)));
   }
 }

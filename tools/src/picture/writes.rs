@@ -1,0 +1,78 @@
+//! The bars of writes, with their latest ends.
+
+use model::step_record::{RESTART_SERVER, WRITE};
+
+use super::bars::Bar;
+use super::layout::{Layout, COLUMN};
+use super::svg::{at, Svg};
+use crate::timeline::spans::Span;
+use crate::timeline::tracks::Track;
+use crate::timeline::Timeline;
+
+/// Of its bar: one that a restart cut off looks another way.
+pub fn class(timeline: &Timeline, layout: &Layout, span: &Span) -> &'static str {
+    match cut_off(timeline, layout, span) {
+        true => "write cut-off",
+        false => "write",
+    }
+}
+
+fn cut_off(timeline: &Timeline, layout: &Layout, span: &Span) -> bool {
+    ended(layout, span).is_some_and(|step| timeline.step(step).step.kind == RESTART_SERVER)
+}
+
+/// The step in the window that ended it.
+fn ended(layout: &Layout, span: &Span) -> Option<usize> {
+    span.to.filter(|&step| step <= layout.window.to)
+}
+
+/// A write has its latest end where the clock reaches it: a tick in the bar,
+/// or past its completion with a thin line up to there.
+pub fn draw(timeline: &Timeline, layout: &Layout, svg: &mut Svg, span: &Span, bar: Bar) {
+    let Bar { top, from, to } = bar;
+    let cut_off = cut_off(timeline, layout, span);
+    bar.draw(svg, class(timeline, layout, span), 4.0, 11.0);
+    svg.line("drop", at(from, top + 15.0), at(from, layout.server));
+    if ended(layout, span).is_some() && !cut_off {
+        svg.shape("completed", &[at(to, top + 4.0), at(to + 6.0, top + 9.5), at(to, top + 15.0)]);
+    }
+    let (latest, reached) = latest_end(timeline, layout, span);
+    if latest > to && cut_off {
+        return;
+    }
+    if latest > to {
+        svg.line("latest-rest", at(to, top + 9.5), at(latest.min(layout.width), top + 9.5));
+    }
+    if reached && latest <= layout.width {
+        svg.line("latest", at(latest, top + 2.0), at(latest, top + 17.0));
+    }
+}
+
+/// How far a write's words may go: they keep clear of the tick.
+pub fn before_latest(timeline: &Timeline, layout: &Layout, span: &Span, bar: Bar) -> f64 {
+    match latest_end(timeline, layout, span) {
+        (latest, true) => bar.to.min(latest),
+        _ => bar.to,
+    }
+}
+
+/// Where the clock reaches a write's latest end, if it does so before the
+/// object's next write; else how far it comes.
+fn latest_end(timeline: &Timeline, layout: &Layout, span: &Span) -> (f64, bool) {
+    for number in span.from..=timeline.steps.len() {
+        if let Some(part) = timeline.passed(number, span.detail.until) {
+            return (layout.left(number) + part * COLUMN, true);
+        }
+        let view = timeline.step(number);
+        let stands = span.to.is_none_or(|to| number <= to);
+        if !stands && (view.step.kind == RESTART_SERVER || next_write(timeline, number, span)) {
+            return (layout.left(number), false);
+        }
+    }
+    (layout.left(timeline.steps.len() + 1), false)
+}
+
+fn next_write(timeline: &Timeline, number: usize, span: &Span) -> bool {
+    let step = &timeline.step(number).step;
+    step.kind == WRITE && Track::Write(step.object.into()) == span.track
+}
