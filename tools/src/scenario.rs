@@ -74,6 +74,12 @@ impl Source {
         Some((trouble, line))
     }
 
+    /// Returns the same in words, for the end of what is shown.
+    pub fn why_stopped(&self) -> Option<String> {
+        let (trouble, line) = self.stopped_at()?;
+        Some(format!("stopped at {}", trouble.at(&line.written)))
+    }
+
     /// Returns the comments after the last step. Of a text that stops, these
     /// stand before the line where it does, unless a step of it was taken.
     pub fn closing(&self) -> &[String] {

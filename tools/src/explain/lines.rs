@@ -92,8 +92,8 @@ pub fn told(scenario: &Scenario) -> String {
     if !under_way.is_empty() {
         put(&mut lines, &scenario.voice.said(&format!("still under way: {}", under_way.join(", "))));
     }
-    if let Some((trouble, line)) = source.and_then(Source::stopped_at) {
-        put(&mut lines, &format!("stopped at {}", trouble.at(&line.written)));
+    if let Some(why) = source.and_then(Source::why_stopped) {
+        put(&mut lines, &why);
     }
     lines
 }

@@ -7,7 +7,6 @@ use super::about::About;
 use super::layout::Layout;
 use super::svg::{escaped, n};
 use super::words::answered;
-use crate::explain::ending;
 use crate::scenario::Scenario;
 use crate::text::script::Line;
 use crate::timeline::{StepView, Timeline};
@@ -41,7 +40,7 @@ pub fn listing(scenario: &Scenario, timeline: &Timeline, layout: &Layout) -> Str
         }
     }
     if let Some(source) = whole.filter(|_| to == timeline.steps.len()) {
-        out.comments(ending(source), About::default());
+        out.comments(source.closing(), About::default());
     }
     if let Some(stopped) = timeline.stopped.as_ref().filter(|_| to == timeline.steps.len()) {
         out.put(&format!("<p class=\"stopped failed\">{}</p>", escaped(stopped)));

@@ -99,7 +99,7 @@ impl Timeline {
             setup: scenario.run.setup,
             voice: scenario.voice,
             verdict: scenario.source.as_ref().map(|_| verdict(scenario).words),
-            stopped: scenario.source.as_ref().and_then(stopped),
+            stopped: scenario.source.as_ref().and_then(Source::why_stopped),
             steps,
             flights: flights.all,
             spans: spans.whole(),
@@ -118,11 +118,6 @@ impl Timeline {
         let inside = view.clock_before < time && time <= view.clock;
         inside.then(|| f64::from(time - view.clock_before) / f64::from(view.clock - view.clock_before))
     }
-}
-
-fn stopped(source: &Source) -> Option<String> {
-    let (trouble, line) = source.stopped_at()?;
-    Some(format!("stopped at {}", trouble.at(&line.written)))
 }
 
 fn message(moment: &Moment) -> Option<Message> {
