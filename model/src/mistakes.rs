@@ -1,264 +1,229 @@
-//! Plausible mistakes, each behind a switch, to show that the generated
-//! runs would find it, or, where no run can, the stored cases of single steps.
-//! The rules are a type parameter: with `Honest` every switch is a constant
-//! and leaves no trace in the code.
+//! Plausible mistakes, to show that the generated runs would find each of them
+//! or, where no run can, the stored cases of single steps. A mistake is a small
+//! type with a rule of its own in place of one of the papers'.
 
-/// Which mistakes a run makes.
-pub trait Rules: Copy {
-    fn mistakes(&self) -> Mistakes;
+use crate::answer::Answer;
+use crate::cases::RowRules;
+use crate::rules::{Papers, Rules};
+use crate::step_record::Step;
+use crate::world::World;
+
+/// Rules chosen at run time: the papers' or those of a mistake. The choice is
+/// made once, where a step is taken; the rules themselves know of none.
+#[derive(Clone, Copy)]
+pub struct Mistakes {
+    step: fn(&mut World, &Step) -> Answer,
+    pub(crate) rows: &'static dyn RowRules,
 }
 
-/// No mistakes: document 01, with A3 and A4 of document 02.
-#[derive(Clone, Copy, Debug)]
-pub struct Honest;
+impl Mistakes {
+    pub const NONE: Mistakes = Mistakes { step: |world, step| Papers.step(world, step), rows: &Papers };
 
-impl Rules for Honest {
-    #[inline(always)]
-    fn mistakes(&self) -> Mistakes {
-        Mistakes::NONE
+    /// Those that change the listings of runs.
+    pub const IN_RUNS: &'static [(&'static str, Mistakes)] = Self::EACH.split_at(SHOWN).0;
+
+    /// Those that change nothing in any state that a run reaches.
+    pub const NOT_IN_RUNS: &'static [(&'static str, Mistakes)] = Self::EACH.split_at(SHOWN).1;
+
+    pub fn named(name: &str) -> Mistakes {
+        Self::EACH.iter().find(|(each, _)| *each == name).expect("a mistake's name").1
+    }
+
+    /// Asks questions 2 to 6, then takes the step.
+    pub fn step(self, world: &mut World, step: &Step) -> Answer {
+        (self.step)(world, step)
     }
 }
 
-impl Rules for Mistakes {
-    fn mistakes(&self) -> Mistakes {
-        *self
-    }
+/// Makes mistakes about the rules of one trait. The name is the one that
+/// documents cite; what follows it stands in place of the papers' rule.
+macro_rules! mistakes_about {
+    ($rules:ident: $($(#[$why:meta])* $name:ident $rule:tt)*) => {$(
+        $(#[$why])*
+        #[allow(non_camel_case_types)]
+        pub(super) struct $name;
+        implement!($rules $name $rule);
+    )*};
 }
 
-/// The mistakes that runs show, then those that only other tables show.
-macro_rules! mistakes {
-    ($($(#[$why:meta])* $name:ident,)* ; $($(#[$hidden_why:meta])* $hidden:ident,)*) => {
-        #[derive(Clone, Copy, Debug, Default, PartialEq, Eq)]
-        pub struct Mistakes {
-            $($(#[$why])* pub $name: bool,)*
-            $($(#[$hidden_why])* pub $hidden: bool,)*
-        }
+/// Gives the type its own rule where the trait is the one that it is about, and
+/// the papers' rules otherwise.
+macro_rules! implement {
+    (RowRules $name:ident $rule:tt) => { impl crate::cases::RowRules for $name $rule };
+    (Gate Gate $name:ident $rule:tt) => { impl crate::rules::Gate for $name $rule };
+    (NetworkRules NetworkRules $name:ident $rule:tt) => { impl crate::rules::NetworkRules for $name $rule };
+    (ClientRules ClientRules $name:ident $rule:tt) => { impl crate::rules::ClientRules for $name $rule };
+    (GrantRules GrantRules $name:ident $rule:tt) => { impl crate::rules::GrantRules for $name $rule };
+    (LatestEnd LatestEnd $name:ident $rule:tt) => { impl crate::rules::LatestEnd for $name $rule };
+    (WriteRules WriteRules $name:ident $rule:tt) => { impl crate::rules::WriteRules for $name $rule };
+    (ServerRules ServerRules $name:ident $rule:tt) => { impl crate::rules::ServerRules for $name $rule };
+    ($each:ident $about:ident $name:ident $rule:tt) => { impl crate::rules::$each for $name {} };
+    ($about:ident $name:ident $rule:tt) => {
+        implement!(Gate $about $name $rule);
+        implement!(NetworkRules $about $name $rule);
+        implement!(ClientRules $about $name $rule);
+        implement!(GrantRules $about $name $rule);
+        implement!(LatestEnd $about $name $rule);
+        implement!(WriteRules $about $name $rule);
+        implement!(ServerRules $about $name $rule);
+        impl crate::rules::Rules for $name {}
+    };
+}
+
+mod client;
+pub mod former;
+mod gate;
+mod grant;
+mod kept;
+mod latest_end;
+mod network;
+mod rows;
+mod server;
+mod server_restart;
+mod writes;
+
+use {
+    client::*, gate::*, grant::*, latest_end::*, network::*, rows::*, server::*, server_restart::*, writes::*,
+};
+
+/// The mistakes that runs show, then those that only other tables show: first
+/// those about the model's rules, then those about rows.
+macro_rules! list {
+    (in runs { $($shown:ident,)* } not in runs { $($hidden:ident,)* } rows { $($row:ident,)* }) => {
+        const SHOWN: usize = [$(stringify!($shown),)*].len();
 
         impl Mistakes {
-            pub const NONE: Mistakes = Mistakes { $($name: false,)* $($hidden: false,)* };
-
-            /// Every switch by name, alone. A step on tables made by hand finds
-            /// each of them.
+            /// Each by name, alone. A step on tables made by hand finds each of
+            /// them.
             pub const EACH: &'static [(&'static str, Mistakes)] = &[
-                $((stringify!($name), Mistakes { $name: true, ..Mistakes::NONE }),)*
-                $((stringify!($hidden), Mistakes { $hidden: true, ..Mistakes::NONE }),)*
+                $((stringify!($shown), about_rules!($shown)),)*
+                $((stringify!($hidden), about_rules!($hidden)),)*
+                $((stringify!($row), Mistakes { rows: &$row, ..Mistakes::NONE }),)*
             ];
-
-            const SHOWN: usize = [$(stringify!($name),)*].len();
-
-            /// Those that change the listings of runs.
-            pub const IN_RUNS: &'static [(&'static str, Mistakes)] = Self::EACH.split_at(Self::SHOWN).0;
-
-            /// Those that change nothing in any state that a run reaches.
-            pub const NOT_IN_RUNS: &'static [(&'static str, Mistakes)] = Self::EACH.split_at(Self::SHOWN).1;
-
-            pub fn named(name: &str) -> Mistakes {
-                Self::EACH.iter().find(|(each, _)| *each == name).expect("a mistake's name").1
-            }
         }
     };
 }
 
-mistakes! {
-    // The four traps at the end of 01's Edges.
-    /// Renews a volume for a client still waited for there.
-    renew_while_waiting,
-    /// Waits for no unreachable client, though its volume lease lives.
-    skip_unreachable,
-    /// Counts an ACK of another epoch.
-    ack_any_epoch,
-    /// Lets a doubled RENEW renew an offer.
-    old_renew_offers,
+macro_rules! about_rules {
+    ($name:ident) => {
+        Mistakes { step: |world, step| $name.step(world, step), ..Mistakes::NONE }
+    };
+}
 
-    // The client.
-    /// Shows a copy whose volume lease is dead.
-    read_without_volume_lease,
-    /// Shows a copy whose object lease is dead.
-    read_without_object_lease,
-    /// Takes a lease for alive at its expiry.
-    read_alive_at_expiry,
-    /// Stores a GRANT that nobody asks for.
-    grant_any_number,
-    /// Stores a GRANT for the object asked for, whatever its number.
-    grant_same_object,
-    /// Stores 0 for the value that a GRANT does not bring.
-    no_value_stores_0,
-    /// Keeps the volume expiry at a GRANT without a value.
-    no_value_keeps_volume_expiry,
-    /// Keeps the object expiry at a GRANT without a value.
-    no_value_keeps_object_expiry,
-    /// Keeps the standing request at a GRANT without a value. Only an OFFER of
-    /// the same number shows it, which a doubled RENEW brings after a restart
-    /// of the server.
-    no_value_keeps_request,
-    /// Obeys an OFFER that nobody asks for.
-    offer_any_number,
-    /// Keeps all its leases at an OFFER.
-    offer_keeps_leases,
-    /// Keeps the object expiries at an OFFER.
-    offer_keeps_object_expiries,
-    /// Keeps the known epoch at an OFFER.
-    offer_keeps_epoch,
-    /// Keeps the standing request at an INVALIDATE.
-    invalidate_keeps_request,
-    /// Sends no ACK where it holds no copy.
-    ack_only_with_copy,
-    /// Keeps copies and volume leases over its restart.
-    client_restart_keeps_leases,
-    /// Keeps the standing request over its restart.
-    client_restart_keeps_request,
-    /// Counts from 1 again after its restart.
-    client_restart_resets_number,
+list! {
+    in runs {
+        // The four traps at the end of 01's Edges.
+        renew_while_waiting,
+        skip_unreachable,
+        ack_any_epoch,
+        old_renew_offers,
 
-    // Writes.
-    /// Waits for a client whose object lease ends at the clock.
-    write_alive_at_expiry,
-    /// Completes a write at its latest end, not past it.
-    ends_at_latest_end,
-    /// Waits beyond the latest end.
-    waits_forever,
-    /// Leaves the guard out of the latest end.
-    latest_end_without_guard,
-    /// Leaves clock + m out of the latest end.
-    latest_end_without_timeout,
-    /// Leaves the waiting clients out of the latest end.
-    latest_end_without_clients,
-    /// Takes a waiting client's volume expiry alone for the latest end.
-    latest_end_by_volume,
-    /// Takes the greater of a waiting client's two expiries for it.
-    latest_end_by_greater,
-    /// Takes the waiting client whose leases end first for it.
-    latest_end_of_first,
-    /// Takes the greatest volume and the greatest object expiry of the waiting
-    /// clients, and the lesser of these two.
-    latest_end_across_clients,
-    /// Takes the lesser of VE and OE for it, as before A3.
-    latest_end_by_old_rule,
-    /// Completes a write on acceptance before the guard.
-    write_before_guard,
-    /// Completes a write on an ACK before the guard.
-    ack_before_guard,
-    /// Completes nothing at the guard.
-    clock_without_guard,
-    /// Marks nobody unreachable on completing.
-    complete_without_marking,
-    /// Voids the offers of those it marks on completing.
-    complete_clears_offers,
-    /// Lets a second write replace the standing one.
-    second_write_replaces,
+        // The client.
+        read_without_volume_lease,
+        read_without_object_lease,
+        read_alive_at_expiry,
+        grant_any_number,
+        grant_same_object,
+        no_value_stores_0,
+        no_value_keeps_volume_expiry,
+        no_value_keeps_object_expiry,
+        no_value_keeps_request,
+        offer_any_number,
+        offer_keeps_leases,
+        offer_keeps_object_expiries,
+        offer_keeps_epoch,
+        invalidate_keeps_request,
+        ack_only_with_copy,
+        client_restart_keeps_leases,
+        client_restart_keeps_request,
+        client_restart_resets_number,
 
-    // Messages at the server.
-    /// Takes a RENEW whatever its number.
-    renew_any_number,
-    /// Marks nobody at an OFFER.
-    offer_without_marking,
-    /// Resends INVALIDATE for the highest object.
-    resend_highest,
-    /// Grants an object whose write stands.
-    grant_during_write,
-    /// Sends no GRANT where the client holds the version.
-    grant_only_news,
-    /// Counts an ACK of another version.
-    ack_any_version,
-    /// Counts a DROPPED of another number.
-    dropped_any_number,
-    /// Keeps the offer after its DROPPED.
-    dropped_keeps_offer,
-    /// Keeps the mark after a DROPPED.
-    dropped_keeps_mark,
-    /// Keeps the object leases after a DROPPED.
-    dropped_keeps_leases,
-    /// Waits on after a DROPPED.
-    dropped_keeps_waiting,
-    /// Completes no write on a DROPPED.
-    dropped_completes_nothing,
+        // Writes.
+        write_alive_at_expiry,
+        ends_at_latest_end,
+        waits_forever,
+        latest_end_without_guard,
+        latest_end_without_timeout,
+        latest_end_without_clients,
+        latest_end_by_volume,
+        latest_end_by_greater,
+        latest_end_of_first,
+        latest_end_across_clients,
+        latest_end_by_old_rule,
+        write_before_guard,
+        ack_before_guard,
+        clock_without_guard,
+        complete_without_marking,
+        complete_clears_offers,
+        second_write_replaces,
 
-    // The server's restart.
-    /// Keeps the epochs.
-    restart_keeps_epochs,
-    /// Sets no guard.
-    restart_without_guard,
-    /// Forgets VE, so that a second restart sets no guard.
-    restart_forgets_latest,
-    /// Keeps the standing writes.
-    restart_keeps_writes,
-    /// Keeps the highest numbers seen.
-    restart_keeps_seen,
-    /// Keeps the leases.
-    restart_keeps_leases,
-    /// Loses the messages under way.
-    restart_empties_queue,
+        // Messages at the server.
+        renew_any_number,
+        offer_without_marking,
+        resend_highest,
+        grant_during_write,
+        grant_only_news,
+        ack_any_version,
+        dropped_any_number,
+        dropped_keeps_offer,
+        dropped_keeps_mark,
+        dropped_keeps_leases,
+        dropped_keeps_waiting,
+        dropped_completes_nothing,
 
-    // The message list.
-    /// Puts the 65th message over the 64th.
-    full_overwrites_last,
-    /// Makes room for the 65th message by losing the first.
-    full_loses_first,
-    /// Refuses to double in a full list.
-    full_refuses_double,
-    /// Fills the gap of a removal with the last message.
-    removal_swaps_last,
-    /// Puts a doubled message behind its original.
-    double_lands_behind,
+        // The server's restart.
+        restart_keeps_epochs,
+        restart_without_guard,
+        restart_forgets_latest,
+        restart_keeps_writes,
+        restart_keeps_seen,
+        restart_keeps_leases,
+        restart_empties_queue,
 
-    // The gate.
-    /// Refuses a clock step to the same time.
-    same_time_refused,
-    /// Accepts a clock step back.
-    time_goes_back,
-    ;
-    // A GRANT without a value on tables that no run reaches. In a run, while the
-    // request stands, the client holds the version that it named in its RENEW
-    // and knows the epoch, and such a GRANT repeats both (02, A4).
-    /// Ignores it where another version is held, as before A4.
-    no_value_needs_version,
-    /// Ignores it where no copy is held.
-    no_value_needs_copy,
-    /// Keeps the version held.
-    no_value_keeps_version,
-    /// Keeps the known epoch.
-    no_value_keeps_epoch,
+        // The message list.
+        full_overwrites_last,
+        full_loses_first,
+        full_refuses_double,
+        removal_swaps_last,
+        double_lands_behind,
 
-    // A row of the message list that is in use and is no message. Only tables
-    // that are handed over have one.
-    /// Reads one of kind 0 as a RENEW.
-    row_of_kind_0,
-    /// Reads one of a kind above 6 as a RENEW.
-    row_of_kind_above_6,
-    /// Reads the low byte of a row's kind alone.
-    row_kind_low_byte,
-    /// Reads the low byte of a row's client alone.
-    row_client_low_byte,
-    /// Reads the low byte of a row's object or volume alone.
-    row_object_low_byte,
-    /// Reads the low byte of a row's presence alone.
-    row_presence_low_byte,
-    /// Takes a GRANT's presence above 1 for a 1.
-    row_any_presence,
-    /// Lets a GRANT without a value carry one.
-    row_value_without_presence,
-    /// Lets a kind that has no presence carry one.
-    row_stray_presence,
-    /// The same of a number.
-    row_stray_number,
-    /// The same of a volume expiry.
-    row_stray_volume_expiry,
-    /// The same of a version.
-    row_stray_version,
-    /// The same of an object expiry.
-    row_stray_object_expiry,
-    /// The same of a value.
-    row_stray_value,
-    /// Does not ask about the first row.
-    rows_without_first,
-    /// Does not ask about the last row in use.
-    rows_without_last,
-    /// Asks about the row after the last one too.
-    rows_past_length,
-    /// Asks only about the row that a step delivers, loses or doubles.
-    rows_when_used,
-    /// Asks whether the kind of the step is known first.
-    rows_after_kind,
-    /// Answers 1 and makes the row a blank one.
-    row_blanked,
+        // The gate.
+        same_time_refused,
+        time_goes_back,
+    }
+
+    not in runs {
+        // A GRANT without a value on tables that no run reaches. In a run, while the
+        // request stands, the client holds the version that it named in its RENEW
+        // and knows the epoch, and such a GRANT repeats both (02, A4).
+        no_value_needs_version,
+        no_value_needs_copy,
+        no_value_keeps_version,
+        no_value_keeps_epoch,
+    }
+
+    rows {
+        // A row of the message list that is in use and is no message. Only tables
+        // that are handed over have one.
+        row_of_kind_0,
+        row_of_kind_above_6,
+        row_kind_low_byte,
+        row_client_low_byte,
+        row_object_low_byte,
+        row_presence_low_byte,
+        row_any_presence,
+        row_value_without_presence,
+        row_stray_presence,
+        row_stray_number,
+        row_stray_volume_expiry,
+        row_stray_version,
+        row_stray_object_expiry,
+        row_stray_value,
+        rows_without_first,
+        rows_without_last,
+        rows_past_length,
+        rows_when_used,
+        rows_after_kind,
+        row_blanked,
+    }
 }

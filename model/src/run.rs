@@ -3,7 +3,7 @@
 use crate::answer::Answer;
 use crate::copies::{ObjectCopy, NO_COPIES};
 use crate::limits::{CLIENTS, OBJECTS};
-use crate::mistakes::Rules;
+use crate::mistakes::Mistakes;
 use crate::requests::{Request, NO_REQUESTS};
 use crate::setup::Setup;
 use crate::step::{step, step_sound};
@@ -59,16 +59,16 @@ pub fn run_trusting(setup: &Setup, steps: impl Iterator<Item = Step>, mut each: 
 }
 
 /// A run under other rules, to see what a mistake changes.
-pub fn run_under<R: Rules>(
-    rules: R,
+pub fn run_under(
+    rules: Mistakes,
     setup: &Setup,
     steps: impl Iterator<Item = Step>,
     mut each: impl FnMut(Answer),
 ) {
     let mut state = State::fresh();
     let (tables, copies, requests) = state.parts(setup);
-    let mut world = World { rules, setup, tables, copies, requests };
+    let mut world = World { setup, tables, copies, requests };
     for record in steps {
-        each(world.step(&record));
+        each(rules.step(&mut world, &record));
     }
 }

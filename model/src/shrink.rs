@@ -170,7 +170,7 @@ mod tests {
 
     #[test]
     fn a_long_run_becomes_short() {
-        let mistakes = Mistakes { ends_at_latest_end: true, ..Mistakes::NONE };
+        let mistakes = Mistakes::named("ends_at_latest_end");
         let fails = |file: &[u8]| listing_with(mistakes, file) != listing_trusting(file);
         let long = (0..).map(|number| run(1, number).file()).find(|file| fails(file)).unwrap();
         let short = shrink(&long, fails);

@@ -7,7 +7,7 @@
 use crate::answer::Answer;
 use crate::bits::members;
 use crate::message::{Kind, Message};
-use crate::mistakes::Rules;
+use crate::mistakes::Mistakes;
 use crate::step_record::Step;
 use crate::world::World;
 
@@ -44,9 +44,22 @@ impl Ending {
     fn goes_on(&self) -> bool {
         self.refused.is_none() && self.steps < MOST_STEPS
     }
+
+    /// Takes in the answer of an ask or a delivery.
+    fn count(&mut self, answer: Answer) {
+        match answer {
+            Answer::Refused(number) => {
+                self.refused = Some(number);
+                return;
+            }
+            Answer::Delivered { message, .. } => self.delivered = Some(message),
+            _ => (),
+        }
+        self.steps += 1;
+    }
 }
 
-impl<R: Rules> World<'_, R> {
+impl World<'_> {
     /// What 02 asks of the state beside its being reachable.
     pub fn until_shown_premises(&self, client: u8, object: u8) -> bool {
         let volume = self.setup.volume(object.into());
@@ -56,8 +69,7 @@ impl<R: Rules> World<'_, R> {
     }
 
     fn write_stands_in(&self, volume: usize) -> bool {
-        let mut standing = members(self.tables.server.standing & self.setup.all_objects());
-        standing.any(|object| self.setup.volume(object) == volume)
+        members(self.standing()).any(|object| self.setup.volume(object) == volume)
     }
 
     /// The asks and deliveries that 02 claims to be enough. The mark is what
@@ -73,41 +85,29 @@ impl<R: Rules> World<'_, R> {
             OFFERED + GRANTED
         }
     }
+}
 
-    /// Asks, delivers, and does so once more after a DROPPED of this client.
-    /// It asks although the copy may be alive, or a request stand.
-    pub fn until_shown(&mut self, client: u8, object: u8) -> Ending {
-        let mut ending = Ending::NONE;
-        let dropped = self.ask_and_deliver(client, object, &mut ending);
-        if dropped && ending.goes_on() {
-            self.ask_and_deliver(client, object, &mut ending);
-        }
-        ending.messages = self.tables.queue.len;
-        ending.read = self.step(&Step::read(client, object));
-        ending
+/// Asks, delivers, and does so once more after a DROPPED of this client. It
+/// asks although the copy may be alive, or a request stand.
+pub fn until_shown(rules: Mistakes, world: &mut World, client: u8, object: u8) -> Ending {
+    let mut ending = Ending::NONE;
+    let dropped = ask_and_deliver(rules, world, client, object, &mut ending);
+    if dropped && ending.goes_on() {
+        ask_and_deliver(rules, world, client, object, &mut ending);
     }
+    ending.messages = world.tables.queue.len;
+    ending.read = rules.step(world, &Step::read(client, object));
+    ending
+}
 
-    /// Whether a DROPPED of this client was among the deliveries.
-    fn ask_and_deliver(&mut self, client: u8, object: u8, ending: &mut Ending) -> bool {
-        let mut dropped = false;
-        self.counted(&Step::ask(client, object), ending);
-        while self.tables.queue.len > 0 && ending.goes_on() {
-            self.counted(&Step::deliver(0), ending);
-            let of_client = ending.delivered.filter(|message| message.client == client);
-            dropped |= of_client.is_some_and(|message| matches!(message.kind, Kind::Dropped { .. }));
-        }
-        dropped
+/// Whether a DROPPED of this client was among the deliveries.
+fn ask_and_deliver(rules: Mistakes, world: &mut World, client: u8, object: u8, ending: &mut Ending) -> bool {
+    let mut dropped = false;
+    ending.count(rules.step(world, &Step::ask(client, object)));
+    while world.tables.queue.len > 0 && ending.goes_on() {
+        ending.count(rules.step(world, &Step::deliver(0)));
+        let of_client = ending.delivered.filter(|message| message.client == client);
+        dropped |= of_client.is_some_and(|message| matches!(message.kind, Kind::Dropped { .. }));
     }
-
-    fn counted(&mut self, step: &Step, ending: &mut Ending) {
-        match self.step(step) {
-            Answer::Refused(number) => {
-                ending.refused = Some(number);
-                return;
-            }
-            Answer::Delivered { message, .. } => ending.delivered = Some(message),
-            _ => (),
-        }
-        ending.steps += 1;
-    }
+    dropped
 }

@@ -1,30 +1,30 @@
 //! A3 of document 02: what holds of the latest end along the generated runs.
 
 use model::gen::runs::run;
-use model::latest_end::old_leases_end;
-use model::mistakes::Honest;
+use model::mistakes::former::old_leases_end;
+use model::rules::{LatestEnd, Papers, Rules, WriteRules};
 use model::run::State;
 use model::world::World;
 
 /// Every object in every state on the way of runs of several seeds, the fresh
 /// one included.
-fn each_object(mut each: impl FnMut(&World<Honest>, usize)) {
+fn each_object(mut each: impl FnMut(&World, usize)) {
     for run in [1, 5, 11, 21].into_iter().flat_map(|seed| (0..200).map(move |number| run(seed, number))) {
         let mut state = State::fresh();
         let (tables, copies, requests) = state.parts(&run.setup);
-        let mut world = World { rules: Honest, setup: &run.setup, tables, copies, requests };
+        let mut world = World { setup: &run.setup, tables, copies, requests };
         let objects = 0..usize::from(run.setup.objects);
         objects.clone().for_each(|object| each(&world, object));
         for record in &run.steps {
-            world.step(record);
+            Papers.step(&mut world, record);
             objects.clone().for_each(|object| each(&world, object));
         }
     }
 }
 
 /// That of a write that would be accepted now.
-fn latest_end(world: &World<Honest>, object: usize) -> u32 {
-    world.latest_end(object, world.to_wait_for(object))
+fn latest_end(world: &World, object: usize) -> u32 {
+    Papers.latest_end(world, object, Papers.to_wait_for(world, object))
 }
 
 #[test]
@@ -33,7 +33,7 @@ fn never_later_than_before_and_often_earlier() {
     each_object(|world, object| {
         let new = latest_end(world, object);
         let leases = old_leases_end(world.setup, &world.tables.server, object);
-        let old = world.latest_end(object, 0).max(leases);
+        let old = Papers.latest_end(world, object, 0).max(leases);
         assert!(new <= old, "object {object}, {:?} {:?}", world.setup, world.tables);
         earlier += usize::from(new < old);
     });
@@ -44,7 +44,7 @@ fn never_later_than_before_and_often_earlier() {
 #[test]
 fn whoever_is_not_waited_for_does_not_count() {
     each_object(|world, object| {
-        let over_all = world.latest_end(object, world.setup.all_clients());
+        let over_all = Papers.latest_end(world, object, world.setup.all_clients());
         assert_eq!(latest_end(world, object), over_all, "object {object}, {:?}", world.tables);
     });
 }

@@ -35,7 +35,7 @@ fn the_model_itself_is_the_same() {
 /// The text is of a run for which the difference is as told.
 #[test]
 fn a_difference_is_a_text() {
-    let mistakes = Mistakes { ends_at_latest_end: true, ..Mistakes::NONE };
+    let mistakes = Mistakes::named("ends_at_latest_end");
     let words = different(1_000, |file| listing_with(mistakes, file));
     assert!(words.starts_with("seed 1, run "), "{words}");
     let (_, rest) = words.split_once(" differs; the smallest such run:\n\n").expect(&words);

@@ -8,9 +8,11 @@ mod left;
 mod list;
 mod numbers;
 mod row_messages;
-mod rows;
+mod row_rules;
+pub(crate) mod rows;
 mod tables;
 
+pub use row_rules::RowRules;
 pub use tables::CaseTables;
 
 use left::left;
@@ -18,17 +20,17 @@ use numbers::Numbers;
 use rows::Row;
 
 use crate::answer::Answer;
-use crate::mistakes::{Honest, Rules};
+use crate::mistakes::Mistakes;
 use crate::step_record::Step;
 
 /// A line `case answer value` for each step of each case. Below it, each after
 /// two spaces, the message that was delivered and what the step left.
 pub fn lines(text: &str) -> String {
-    lines_under(Honest, text)
+    lines_under(Mistakes::NONE, text)
 }
 
 /// The same under other rules, to see what a mistake changes.
-pub fn lines_under(rules: impl Rules, text: &str) -> String {
+pub fn lines_under(rules: Mistakes, text: &str) -> String {
     let mut numbers = Numbers::of(text);
     let base = changed(&mut numbers, &CaseTables::fresh());
     let mut lines = String::new();

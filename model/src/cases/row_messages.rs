@@ -1,9 +1,8 @@
 //! Which message a row is, if it is one (docs/DECISIONS.md, "What of a live row
 //! that is no message?").
 
-use crate::cases::rows::{Row, NUMBER, OBJECT_EXPIRY, PRESENT, VALUE, VERSION, VOLUME_EXPIRY};
+use crate::cases::rows::{Row, KIND, NUMBER, OBJECT_EXPIRY, PRESENT, VALUE, VERSION, VOLUME_EXPIRY};
 use crate::message::{Grant, Kind, Message};
-use crate::mistakes::Mistakes;
 
 const RENEW: u64 = 1;
 const GRANT: u64 = 2;
@@ -26,64 +25,41 @@ const FIELDS_OF_SOME: [(usize, &[u64]); 6] = [
 impl Row {
     /// Reads the row as a message. Gives none where a word is too large, the
     /// kind is unknown or the fields are not right for it.
-    pub fn message(&self, mistakes: Mistakes) -> Option<Message> {
-        let row = self.with_bytes(mistakes)?.of_known_kind(mistakes)?;
-        (!row.has_stray(mistakes) && row.presence_right(mistakes)).then(|| row.read())
+    pub fn message(&self) -> Option<Message> {
+        let right = self.has_bytes() && self.is_of_known_kind() && !self.has_stray() && self.presence_right();
+        right.then(|| self.read())
     }
 
-    /// Refuses a word above 255 among the first four, which are bytes in a
-    /// frame.
-    fn with_bytes(mut self, mistakes: Mistakes) -> Option<Row> {
-        let cut = [
-            mistakes.row_kind_low_byte,
-            mistakes.row_client_low_byte,
-            mistakes.row_object_low_byte,
-            mistakes.row_presence_low_byte,
-        ];
-        for (word, cut) in self.fields.iter_mut().zip(cut) {
-            if *word > 255 && !cut {
-                return None;
-            }
-            *word &= 255;
-        }
-        Some(self)
+    /// Asks of the first four words, which are bytes in a frame, that none is
+    /// above 255.
+    fn has_bytes(&self) -> bool {
+        self.fields[..=PRESENT].iter().all(|&word| word <= 255)
     }
 
-    /// Refuses a kind that is not 1 to 6.
-    fn of_known_kind(mut self, mistakes: Mistakes) -> Option<Row> {
-        let kind = &mut self.fields[0];
-        match *kind {
-            RENEW..=DROPPED => (),
-            0 if mistakes.row_of_kind_0 => *kind = RENEW,
-            7.. if mistakes.row_of_kind_above_6 => *kind = RENEW,
-            _ => return None,
-        }
-        Some(self)
+    /// Asks of the kind that it is 1 to 6.
+    fn is_of_known_kind(&self) -> bool {
+        (RENEW..=DROPPED).contains(&self.fields[KIND])
     }
 
     /// Tells whether a field that the kind lacks is not 0.
-    fn has_stray(&self, mistakes: Mistakes) -> bool {
-        let unasked = [
-            mistakes.row_stray_presence,
-            mistakes.row_stray_number,
-            mistakes.row_stray_volume_expiry,
-            mistakes.row_stray_version,
-            mistakes.row_stray_object_expiry,
-            mistakes.row_stray_value,
-        ];
-        FIELDS_OF_SOME.iter().zip(unasked).any(|((field, kinds), unasked)| {
-            self.fields[*field] != 0 && !kinds.contains(&self.fields[0]) && !unasked
-        })
+    fn has_stray(&self) -> bool {
+        FIELDS_OF_SOME.iter().any(|&(field, _)| self.lacks(field) && self.fields[field] != 0)
+    }
+
+    /// Tells whether the kind lacks this field.
+    pub fn lacks(&self, field: usize) -> bool {
+        let kinds = FIELDS_OF_SOME.iter().find(|(some, _)| *some == field);
+        kinds.is_some_and(|(_, kinds)| !kinds.contains(&self.fields[KIND]))
     }
 
     /// Asks of a GRANT that its presence is 0 or 1, and that its value is 0
     /// where it has none.
-    fn presence_right(&self, mistakes: Mistakes) -> bool {
-        self.fields[0] != GRANT
+    fn presence_right(&self) -> bool {
+        self.fields[KIND] != GRANT
             || match self.fields[PRESENT] {
-                0 => self.fields[VALUE] == 0 || mistakes.row_value_without_presence,
+                0 => self.fields[VALUE] == 0,
                 1 => true,
-                _ => mistakes.row_any_presence,
+                _ => false,
             }
     }
 
@@ -147,25 +123,25 @@ mod tests {
     fn a_row_is_the_message_of_its_frame() {
         for row in rows() {
             let message = frame(&row).and_then(|frame| decode(&frame).ok());
-            assert_eq!(row.message(Mistakes::NONE), message, "{row}");
+            assert_eq!(row.message(), message, "{row}");
         }
     }
 
     #[test]
     fn a_message_is_the_message_of_its_row() {
-        let messages: Vec<_> = rows().filter_map(|row| row.message(Mistakes::NONE)).collect();
+        let messages: Vec<_> = rows().filter_map(|row| row.message()).collect();
         let kinds: Vec<_> =
             (1..=6).filter(|&kind| messages.iter().any(|message| message.kind.code() == kind)).collect();
         assert_eq!(kinds, [1, 2, 3, 4, 5, 6]);
         for message in messages {
-            assert_eq!(Row::of(&message).message(Mistakes::NONE), Some(message));
+            assert_eq!(Row::of(&message).message(), Some(message));
         }
     }
 
     #[test]
     fn a_fresh_row_is_none_and_a_blank_one_is_a_renew() {
-        assert_eq!(Row::FRESH.message(Mistakes::NONE), None);
+        assert_eq!(Row::FRESH.message(), None);
         let renew = Kind::Renew { object: 0, number: 0, epoch: 0, version: 0 };
-        assert_eq!(Row::BLANK.message(Mistakes::NONE), Some(Message { client: 0, kind: renew }));
+        assert_eq!(Row::BLANK.message(), Some(Message { client: 0, kind: renew }));
     }
 }

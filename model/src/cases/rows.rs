@@ -6,6 +6,10 @@ use std::fmt::{Display, Formatter, Result};
 use crate::message::{Grant, Kind, Message};
 
 /// Where a field stands in a row.
+pub const KIND: usize = 0;
+pub const CLIENT: usize = 1;
+/// The object or volume.
+pub const ITEM: usize = 2;
 pub const PRESENT: usize = 3;
 pub const NUMBER: usize = 4;
 pub const VOLUME_EXPIRY: usize = 5;
@@ -25,6 +29,12 @@ impl Row {
 
     /// What a place past the list's length shows: a RENEW of zeros.
     pub const BLANK: Row = Row { fields: [1, 0, 0, 0, 0, 0, 0, 0, 0, 0] };
+
+    /// The same row with another number in this field.
+    pub fn with(mut self, field: usize, number: u64) -> Row {
+        self.fields[field] = number;
+        self
+    }
 
     pub fn of(message: &Message) -> Row {
         let fields = match message.kind {

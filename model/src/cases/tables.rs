@@ -5,7 +5,7 @@ use crate::cases::free::settle;
 use crate::cases::rows::Row;
 use crate::copies::{ObjectCopy, NO_COPIES};
 use crate::limits::{CLIENTS, QUEUE, UNSOUND};
-use crate::mistakes::Rules;
+use crate::mistakes::Mistakes;
 use crate::requests::{Request, Standing, NO_REQUESTS};
 use crate::setup::Setup;
 use crate::sound::sound;
@@ -18,7 +18,7 @@ pub struct CaseTables {
     pub(super) setup: Setup,
     /// Of the message list the length alone counts; its messages are the rows.
     pub(super) tables: Tables,
-    pub(super) rows: [Row; QUEUE],
+    pub(crate) rows: [Row; QUEUE],
     pub(super) copies: Vec<ObjectCopy>,
     pub(super) requests: Vec<Request>,
     /// Number and object of each request record, whether it stands or not.
@@ -60,20 +60,20 @@ impl CaseTables {
     }
 
     /// All six questions, then the step.
-    pub fn take(&mut self, rules: impl Rules, record: &Step) -> Answer {
+    pub fn take(&mut self, rules: Mistakes, record: &Step) -> Answer {
         let before = self.clone();
         let answer = self.asked_and_taken(rules, record);
         if !matches!(answer, Answer::Refused(_)) {
             settle(&before, self, record);
             self.keep_list();
-        } else if rules.mistakes().row_blanked {
-            self.blank_rows(rules.mistakes());
+        } else {
+            rules.rows.refused(self);
         }
         answer
     }
 
-    fn asked_and_taken(&mut self, rules: impl Rules, record: &Step) -> Answer {
-        match self.list(rules.mistakes(), record) {
+    fn asked_and_taken(&mut self, rules: Mistakes, record: &Step) -> Answer {
+        match self.list(rules, record) {
             Ok(queue) => self.tables.queue = queue,
             Err(number) => return Answer::Refused(number),
         }
@@ -84,6 +84,6 @@ impl CaseTables {
         if !sound(setup, tables, copies, requests) {
             return Answer::Refused(UNSOUND);
         }
-        World { rules, setup, tables, copies, requests }.step(record)
+        rules.step(&mut World { setup, tables, copies, requests }, record)
     }
 }

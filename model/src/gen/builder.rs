@@ -5,7 +5,7 @@ use crate::answer::Answer;
 use crate::gen::rng::Rng;
 use crate::limits::STEPS;
 use crate::message::{Kind, Message};
-use crate::mistakes::Honest;
+use crate::rules::{Papers, Rules};
 use crate::run::State;
 use crate::setup::Setup;
 use crate::step_record::Step;
@@ -39,7 +39,7 @@ impl Builder {
         }
         self.steps.push(step);
         let (tables, copies, requests) = self.state.parts(&self.setup);
-        World { rules: Honest, setup: &self.setup, tables, copies, requests }.step(&step)
+        Papers.step(&mut World { setup: &self.setup, tables, copies, requests }, &step)
     }
 
     pub fn full(&self) -> bool {

@@ -3,7 +3,7 @@
 use crate::gen::builder::{Builder, INVALIDATE};
 use crate::gen::scenes::{exchange, hold, probe, Scene};
 use crate::gen::scenes_leases::keep_volume;
-use crate::latest_end::old_leases_end;
+use crate::mistakes::former::old_leases_end;
 use crate::step_record::Step;
 
 pub const SCENES: &[Scene] = &[

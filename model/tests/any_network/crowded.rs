@@ -5,7 +5,8 @@ use model::gen::builder::{ACK, GRANT, INVALIDATE, OFFER, RENEW};
 use model::gen::setups::sized;
 use model::limits::QUEUE;
 use model::message::Message;
-use model::mistakes::{Honest, Mistakes};
+use model::mistakes::Mistakes;
+use model::rules::{Papers, Rules};
 use model::setup::Setup;
 use model::step_record::Step;
 use model::world::World;
@@ -110,13 +111,13 @@ fn the_list_of_64_loses_some_of_them() {
     all_hold_all(&mut run);
     let mut state = run.network.state;
     let (tables, copies, requests) = state.parts(&run.network.setup);
-    let mut world = World { rules: Honest, setup: &run.network.setup, tables, copies, requests };
+    let mut world = World { setup: &run.network.setup, tables, copies, requests };
     for object in 0..OBJECTS {
-        world.step(&Step::write(object, 7));
+        Papers.step(&mut world, &Step::write(object, 7));
     }
     assert_eq!(world.tables.queue.len, QUEUE);
     while world.tables.queue.len > 0 {
-        world.step(&Step::deliver(0));
+        Papers.step(&mut world, &Step::deliver(0));
     }
     assert_eq!(world.tables.server.standing, 1 << (OBJECTS - 1));
 }

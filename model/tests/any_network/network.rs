@@ -36,9 +36,10 @@ impl Network {
         Network { rules, setup, state: State::fresh(), sent: Vec::new() }
     }
 
-    pub fn world(&mut self) -> World<'_, Mistakes> {
+    /// Takes a step by the rules, without question 1.
+    pub fn step(&mut self, step: &Step) -> Answer {
         let (tables, copies, requests) = self.state.parts(&self.setup);
-        World { rules: self.rules, setup: &self.setup, tables, copies, requests }
+        self.rules.step(&mut World { setup: &self.setup, tables, copies, requests }, step)
     }
 
     /// Takes a step of the model, with all six questions, on a list that holds
@@ -53,7 +54,7 @@ impl Network {
                 Step::deliver(0)
             }
         };
-        let answer = if self.is_sound() { self.world().step(&step) } else { Answer::Refused(UNSOUND) };
+        let answer = if self.is_sound() { self.step(&step) } else { Answer::Refused(UNSOUND) };
         if !matches!(answer, Answer::Refused(_)) {
             self.keep_sent();
         }

@@ -6,7 +6,7 @@ use model::gen::rng::Rng;
 use model::gen::setups::{self, sized};
 use model::message::{Grant, Kind, Message};
 use model::mistakes::Mistakes;
-use model::step_record::{RESTART_CLIENT, RESTART_SERVER};
+use model::step_record::{Step, RESTART_CLIENT, RESTART_SERVER};
 
 use crate::ledger::Breach;
 use crate::network::Move;
@@ -53,7 +53,7 @@ fn a_client_whose_clock_is_behind() {
     let now = stage.now();
     let mut read_at = |time| {
         stage.run.network.state.tables.clock = time;
-        stage.run.network.world().read(0, 0)
+        stage.run.network.step(&Step::read(0, 0))
     };
     for time in [now, now + 1, now + 1_000] {
         assert_eq!(read_at(time), Answer::AskFirst);

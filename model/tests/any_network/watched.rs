@@ -4,7 +4,7 @@ use model::answer::Answer;
 use model::limits::UNSOUND;
 use model::mistakes::Mistakes;
 use model::setup::Setup;
-use model::step_record::{CLOCK, WRITE};
+use model::step_record::{Step, CLOCK, WRITE};
 
 use crate::ledger::{latest_end, Breach, Ledger};
 use crate::network::{Move, Network};
@@ -80,9 +80,8 @@ impl Watched {
     /// covers whatever reads a run might have here.
     fn wrong_read(&mut self) -> Option<Breach> {
         let Setup { clients, objects, .. } = self.network.setup;
-        let world = self.network.world();
         for (client, object) in (0..clients).flat_map(|client| (0..objects).map(move |at| (client, at))) {
-            let Answer::Shown(shown) = world.read(client.into(), object.into()) else {
+            let Answer::Shown(shown) = self.network.step(&Step::read(client, object)) else {
                 continue;
             };
             let posted = self.ledger.posted[usize::from(object)];

@@ -4,9 +4,8 @@ use std::ops::ControlFlow;
 
 use model::copies::ObjectCopy;
 use model::gen::runs::Run;
-use model::grant::names_held_version;
 use model::message::{Grant, Kind, Message};
-use model::mistakes::Rules;
+use model::mistakes::{former::names_held_version, Mistakes};
 use model::requests::Request;
 use model::run::State;
 use model::setup::Setup;
@@ -42,20 +41,21 @@ impl Met<'_> {
     }
 
     /// What its delivery leaves. The run itself stays where it is.
-    pub fn delivered(&self, rules: impl Rules) -> State {
+    pub fn delivered(&self, rules: Mistakes) -> State {
         let mut state = *self.state;
         let (tables, copies, requests) = state.parts(self.setup);
-        World { rules, setup: self.setup, tables, copies, requests }.step(&Step::deliver(self.place as u8));
+        let mut world = World { setup: self.setup, tables, copies, requests };
+        rules.step(&mut world, &Step::deliver(self.place as u8));
         state
     }
 }
 
 /// All of them, after every step of the run.
-pub fn along(rules: impl Rules, run: &Run, mut each: impl FnMut(&Met) -> ControlFlow<()>) -> ControlFlow<()> {
+pub fn along(rules: Mistakes, run: &Run, mut each: impl FnMut(&Met) -> ControlFlow<()>) -> ControlFlow<()> {
     let mut state = State::fresh();
     for step in &run.steps {
         let (tables, copies, requests) = state.parts(&run.setup);
-        World { rules, setup: &run.setup, tables, copies, requests }.step(step);
+        rules.step(&mut World { setup: &run.setup, tables, copies, requests }, step);
         under_way(&run.setup, &state).try_for_each(|met| each(&met))?;
     }
     ControlFlow::Continue(())

@@ -1,7 +1,6 @@
 //! The cases that a trial is one of.
 
 use model::message::{Grant, Kind};
-use model::mistakes::Rules;
 use model::tables::alive;
 
 use crate::followed::Quieted;
@@ -50,7 +49,7 @@ impl Case {
     ];
 }
 
-pub fn cases<R: Rules>(trial: &Trial<R>) -> impl Iterator<Item = Case> {
+pub fn cases(trial: &Trial) -> impl Iterator<Item = Case> {
     let sort = match trial.claimed {
         3 => found_by_grant(trial),
         _ => reason_to_offer(trial),
@@ -65,7 +64,7 @@ pub fn cases<R: Rules>(trial: &Trial<R>) -> impl Iterator<Item = Case> {
 
 /// A mark without an offer is a completed write's: the number of an offer
 /// stays until a DROPPED or a restart of the server ends the mark as well.
-fn reason_to_offer<R: Rules>(trial: &Trial<R>) -> Case {
+fn reason_to_offer(trial: &Trial) -> Case {
     let (client, volume) = (usize::from(trial.client), trial.volume());
     let tables = &trial.from.state.tables;
     let known = tables.clients.epoch[client][volume];
@@ -80,7 +79,7 @@ fn reason_to_offer<R: Rules>(trial: &Trial<R>) -> Case {
 }
 
 /// As the last message says: the GRANT has no value for the version held.
-fn found_by_grant<R: Rules>(trial: &Trial<R>) -> Case {
+fn found_by_grant(trial: &Trial) -> Case {
     match trial.ending.delivered.map(|message| message.kind) {
         Some(Kind::Grant(Grant { value: None, .. })) => Case::SameVersion,
         _ if trial.copy().version == 0 => Case::NoCopy,
@@ -88,7 +87,7 @@ fn found_by_grant<R: Rules>(trial: &Trial<R>) -> Case {
     }
 }
 
-fn beside<R: Rules>(trial: &Trial<R>) -> [Option<Case>; 4] {
+fn beside(trial: &Trial) -> [Option<Case>; 4] {
     let (client, volume) = (usize::from(trial.client), trial.volume());
     let (setup, state) = (&trial.from.setup, &trial.from.state);
     let lives = |expiry| alive(expiry, state.tables.clock);

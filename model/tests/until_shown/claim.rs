@@ -4,7 +4,7 @@
 use std::collections::BTreeMap;
 use std::ops::ControlFlow;
 
-use model::mistakes::{Honest, Mistakes};
+use model::mistakes::Mistakes;
 
 use crate::cases::{cases, Case};
 use crate::trial::{along, Breach};
@@ -18,7 +18,7 @@ const FLOOR: usize = 2_000;
 fn shown_in_the_steps_claimed() {
     let mut met = BTreeMap::new();
     for number in 0..RUNS {
-        let broken = along(Honest, number, |trial| {
+        let broken = along(Mistakes::NONE, number, |trial| {
             cases(trial).for_each(|case| *met.entry(case).or_insert(0) += 1);
             let found = trial.breach().map(|breach| (trial.client, trial.object, breach));
             found.map_or(ControlFlow::Continue(()), ControlFlow::Break)

@@ -3,18 +3,18 @@
 use model::answer::Answer;
 use model::bits::members;
 use model::limits::{CLOCK_MAX, OBJECTS};
-use model::mistakes::Rules;
+use model::mistakes::Mistakes;
 use model::run::State;
 use model::setup::Setup;
 use model::step_record::*;
-use model::until_shown::Ending;
+use model::until_shown::{until_shown, Ending};
 use model::world::World;
 
 /// Posted values are followed by the steps and by which writes stand, never by
 /// the server's values, so that a read can be held to them.
 #[derive(Clone, Copy)]
-pub struct Followed<R> {
-    pub rules: R,
+pub struct Followed {
+    pub rules: Mistakes,
     pub setup: Setup,
     pub state: State,
     pub posted: [u64; OBJECTS],
@@ -33,19 +33,19 @@ pub enum Quieted {
     WritesEnded,
 }
 
-impl<R: Rules> Followed<R> {
-    pub fn fresh(rules: R, setup: Setup) -> Followed<R> {
+impl Followed {
+    pub fn fresh(rules: Mistakes, setup: Setup) -> Followed {
         let none = [0; OBJECTS];
         Followed { rules, setup, state: State::fresh(), posted: none, restarted: 0, open: 0, written: none }
     }
 
-    pub fn world(&mut self) -> World<'_, R> {
+    fn world(&mut self) -> World<'_> {
         let (tables, copies, requests) = self.state.parts(&self.setup);
-        World { rules: self.rules, setup: &self.setup, tables, copies, requests }
+        World { setup: &self.setup, tables, copies, requests }
     }
 
     pub fn step(&mut self, step: &Step) -> Answer {
-        let answer = self.world().step(step);
+        let answer = self.rules.step(&mut self.world(), step);
         if !matches!(answer, Answer::Refused(_)) {
             self.follow(step);
         }
@@ -99,6 +99,7 @@ impl<R: Rules> Followed<R> {
         let mut from = *self;
         let mut world = from.world();
         let claimed = world.until_shown_claim(client, object);
-        world.until_shown_premises(client, object).then(|| (claimed, world.until_shown(client, object)))
+        let premises = world.until_shown_premises(client, object);
+        premises.then(|| (claimed, until_shown(self.rules, &mut world, client, object)))
     }
 }

@@ -6,7 +6,7 @@ use model::answer::Answer;
 use model::copies::ObjectCopy;
 use model::gen::rng::Rng;
 use model::gen::runs::run;
-use model::mistakes::Rules;
+use model::mistakes::Mistakes;
 use model::step_record::{ASK, READ};
 use model::until_shown::Ending;
 
@@ -16,8 +16,8 @@ use crate::followed::{Followed, Quieted};
 const SEED: u64 = 1;
 
 /// A client asks for an object, from a state made quiet.
-pub struct Trial<'a, R> {
-    pub from: &'a Followed<R>,
+pub struct Trial<'a> {
+    pub from: &'a Followed,
     pub quieted: Quieted,
     pub client: u8,
     pub object: u8,
@@ -36,7 +36,7 @@ pub enum Breach {
     Value { posted: u64, shown: u64 },
 }
 
-impl<R: Rules> Trial<'_, R> {
+impl Trial<'_> {
     pub fn volume(&self) -> usize {
         self.from.setup.volume(self.object.into())
     }
@@ -65,10 +65,10 @@ impl<R: Rules> Trial<'_, R> {
 /// Tries along the run of this number: after each step that changes anything
 /// the client that asked last, for that object, and one by chance; at the end
 /// every client for every object.
-pub fn along<R: Rules, B>(
-    rules: R,
+pub fn along<B>(
+    rules: Mistakes,
     number: usize,
-    mut each: impl FnMut(&Trial<R>) -> ControlFlow<B>,
+    mut each: impl FnMut(&Trial) -> ControlFlow<B>,
 ) -> ControlFlow<B> {
     let run = run(SEED, number);
     let (clients, objects) = (run.setup.clients, run.setup.objects);
@@ -89,10 +89,10 @@ pub fn along<R: Rules, B>(
 }
 
 /// The premises do not hold where a write ends past the last clock.
-fn attempt<R: Rules, B>(
-    at: &Followed<R>,
+fn attempt<B>(
+    at: &Followed,
     (client, object): (u8, u8),
-    each: &mut impl FnMut(&Trial<R>) -> ControlFlow<B>,
+    each: &mut impl FnMut(&Trial) -> ControlFlow<B>,
 ) -> ControlFlow<B> {
     let mut from = *at;
     let quieted = from.quieten(object);

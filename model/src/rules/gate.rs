@@ -1,0 +1,71 @@
+//! Questions 2 to 6 (01, Questions at the gate). Question 1 is `sound`.
+
+use crate::limits::{BAD_TIME, CLOCK_MAX, NO_NUMBER_LEFT, NO_SUCH_ITEM, UNKNOWN_KIND, WRITE_STANDS};
+use crate::step_record::*;
+use crate::world::World;
+
+pub trait Gate {
+    /// "Asked in order; the first "no" gives its number." For sound tables.
+    #[inline]
+    fn refusal(&self, world: &World, step: &Step) -> Option<u8> {
+        if !is_known(step.kind) {
+            return Some(UNKNOWN_KIND);
+        }
+        if !self.items_exist(world, step) {
+            return Some(NO_SUCH_ITEM);
+        }
+        match step.kind {
+            CLOCK if !self.time_fits(world.tables.clock, step.clock) => Some(BAD_TIME),
+            WRITE if !self.none_stands(world, step.object.into()) => Some(WRITE_STANDS),
+            _ if !self.can_grow(world, step) => Some(NO_NUMBER_LEFT),
+            _ => None,
+        }
+    }
+
+    /// "Do the dash, object and place it uses exist?"
+    #[inline]
+    fn items_exist(&self, world: &World, step: &Step) -> bool {
+        let client = step.client < world.setup.clients;
+        let object = step.object < world.setup.objects;
+        match step.kind {
+            READ | ASK => client && object,
+            WRITE => object,
+            DELIVER | LOSE | DOUBLE => usize::from(step.place) < world.tables.queue.len,
+            RESTART_CLIENT => client,
+            _ => true,
+        }
+    }
+
+    /// "Is T from the clock to 2,147,483,647?"
+    #[inline]
+    fn time_fits(&self, clock: u32, time: u32) -> bool {
+        (clock..=CLOCK_MAX).contains(&time)
+    }
+
+    /// "For a write, is none standing there?"
+    #[inline]
+    fn none_stands(&self, world: &World, object: usize) -> bool {
+        !world.tables.server.stands(object)
+    }
+
+    /// "Is the version, every epoch or the next number that must grow below
+    /// 4,294,967,295?"
+    #[inline]
+    fn can_grow(&self, world: &World, step: &Step) -> bool {
+        let server = &world.tables.server;
+        match step.kind {
+            ASK => world.requests[usize::from(step.client)].next < u32::MAX,
+            WRITE => server.version[usize::from(step.object)] < u32::MAX,
+            RESTART_SERVER => {
+                server.epoch[..usize::from(world.setup.volumes)].iter().all(|&epoch| epoch < u32::MAX)
+            }
+            _ => true,
+        }
+    }
+}
+
+/// "Is the kind 1 to 9?"
+#[inline]
+pub fn is_known(kind: u8) -> bool {
+    (CLOCK..=RESTART_CLIENT).contains(&kind)
+}
