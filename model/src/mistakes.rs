@@ -35,41 +35,8 @@ impl Mistakes {
     }
 }
 
-/// Makes mistakes about the rules of one trait. The name is the one that
-/// documents cite; what follows it stands in place of the papers' rule.
-macro_rules! mistakes_about {
-    ($rules:ident: $($(#[$why:meta])* $name:ident $rule:tt)*) => {$(
-        $(#[$why])*
-        #[allow(non_camel_case_types)]
-        pub(super) struct $name;
-        implement!($rules $name $rule);
-    )*};
-}
-
-/// Gives the type its own rule where the trait is the one that it is about, and
-/// the papers' rules otherwise.
-macro_rules! implement {
-    (RowRules $name:ident $rule:tt) => { impl crate::cases::RowRules for $name $rule };
-    (Gate Gate $name:ident $rule:tt) => { impl crate::rules::Gate for $name $rule };
-    (NetworkRules NetworkRules $name:ident $rule:tt) => { impl crate::rules::NetworkRules for $name $rule };
-    (ClientRules ClientRules $name:ident $rule:tt) => { impl crate::rules::ClientRules for $name $rule };
-    (GrantRules GrantRules $name:ident $rule:tt) => { impl crate::rules::GrantRules for $name $rule };
-    (LatestEnd LatestEnd $name:ident $rule:tt) => { impl crate::rules::LatestEnd for $name $rule };
-    (WriteRules WriteRules $name:ident $rule:tt) => { impl crate::rules::WriteRules for $name $rule };
-    (ServerRules ServerRules $name:ident $rule:tt) => { impl crate::rules::ServerRules for $name $rule };
-    ($each:ident $about:ident $name:ident $rule:tt) => { impl crate::rules::$each for $name {} };
-    ($about:ident $name:ident $rule:tt) => {
-        implement!(Gate $about $name $rule);
-        implement!(NetworkRules $about $name $rule);
-        implement!(ClientRules $about $name $rule);
-        implement!(GrantRules $about $name $rule);
-        implement!(LatestEnd $about $name $rule);
-        implement!(WriteRules $about $name $rule);
-        implement!(ServerRules $about $name $rule);
-        impl crate::rules::Rules for $name {}
-    };
-}
-
+#[macro_use]
+mod about;
 mod client;
 pub mod former;
 mod gate;

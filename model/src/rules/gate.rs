@@ -6,7 +6,7 @@ use crate::world::World;
 
 pub trait Gate {
     /// "Asked in order; the first "no" gives its number." For sound tables.
-    #[inline]
+    #[inline(always)]
     fn refusal(&self, world: &World, step: &Step) -> Option<u8> {
         if !is_known(step.kind) {
             return Some(UNKNOWN_KIND);

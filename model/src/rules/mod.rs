@@ -27,7 +27,6 @@ use crate::world::World;
 /// All of the rules, and which of them a step or a message calls for.
 pub trait Rules: Gate + ClientRules + GrantRules + ServerRules {
     /// Asks questions 2 to 6, then takes the step.
-    #[inline]
     fn step(&self, world: &mut World, step: &Step) -> Answer {
         match self.refusal(world, step) {
             Some(number) => Answer::Refused(number),
@@ -36,6 +35,7 @@ pub trait Rules: Gate + ClientRules + GrantRules + ServerRules {
     }
 
     /// Takes a step that no question refuses (01, Steps).
+    #[inline(always)]
     fn take(&self, world: &mut World, step: &Step) -> Answer {
         let client = usize::from(step.client);
         let object = usize::from(step.object);

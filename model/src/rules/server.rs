@@ -171,10 +171,10 @@ pub trait ServerRules: WriteRules {
         let old = world.tables.server;
         let server = &mut world.tables.server;
         *server = Server { value: old.value, version: old.version, ..Server::fresh() };
-        (server.epoch, server.volume_latest) = (old.epoch, old.volume_latest);
-        server.guard = old.volume_latest;
-        for volume in 0..world.setup.volumes as usize {
-            server.epoch[volume] += 1;
+        (server.volume_latest, server.guard) = (old.volume_latest, old.volume_latest);
+        server.epoch = old.epoch;
+        for epoch in &mut server.epoch[..world.setup.volumes.into()] {
+            *epoch += 1;
         }
     }
 }
