@@ -2,10 +2,10 @@
 //! refusals, from parts that callers lend and from workloads.
 
 use gevtsomi::{list, workload, write, Refused, LISTING_BYTES};
+use model::checked_writer::workload_file;
 use model::gen::{workload_calls, writer_calls};
 use model::limits::{BAD_SETUP, NOT_WRITTEN};
 use model::listing::listing;
-use model::writer::workload_file;
 
 const SEEDS: std::ops::Range<u64> = 1..41;
 

@@ -74,7 +74,7 @@ fn damaged_files_are_refused_where_the_model_refuses_them() {
 fn the_longest_listing_fits() {
     use model::gen::setups::sized;
     use model::step_record::Step;
-    use model::write_runfile::write;
+    use model::unchecked_writer::write;
 
     let mut steps = vec![Step::write(0, u64::MAX)];
     for _ in 0..2 {

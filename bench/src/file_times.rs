@@ -4,9 +4,9 @@
 use std::io;
 
 use gevtsomi::FILE_BYTES;
+use model::checked_writer::{workload_file, written};
 use model::limits::{SETUP_BYTES, STEPS, TRAILER_BYTES};
 use model::runfile::read;
-use model::writer::{workload_file, written};
 
 use crate::files::{load_file, refused_at_its_end, runs, SEED};
 use crate::memory;

@@ -12,7 +12,7 @@ use model::listing::listing;
 use model::runfile::parts;
 use model::setup::Setup;
 use model::step_record::Step;
-use model::write_runfile::{setup_bytes, write};
+use model::unchecked_writer::{setup_bytes, write};
 
 /// The seed of the workload.
 pub const SEED: u32 = 1;

@@ -4,7 +4,7 @@ use std::fmt;
 
 use model::limits::STEPS;
 use model::step_record::Step;
-use model::write_runfile::write;
+use model::unchecked_writer::write;
 
 use crate::files::largest;
 

@@ -6,28 +6,27 @@
 
 pub mod answer;
 pub mod bits;
-pub mod cases;
+pub mod checked_writer;
 pub mod copies;
-pub mod examples;
 pub mod frame;
-pub mod gen;
 pub mod limits;
 pub mod listing;
 pub mod message;
-pub mod mistakes;
 pub mod queue;
 pub mod requests;
 pub mod rules;
-pub mod run;
+pub mod run_steps;
 pub mod runfile;
 pub mod setup;
-pub mod shrink;
 pub mod sound;
-pub mod step;
+pub mod state;
+pub mod step_call;
 pub mod step_record;
 pub mod tables;
-pub mod until_shown;
+pub mod unchecked_writer;
 pub mod workload;
 pub mod world;
-pub mod write_runfile;
-pub mod writer;
+
+mod checks;
+
+pub use checks::{cases, examples, gen, mistakes, shrink, until_shown};

@@ -4,7 +4,7 @@ use std::io::Write;
 
 use crate::answer::Answer;
 use crate::mistakes::Mistakes;
-use crate::run::{run_asking, run_trusting, run_under};
+use crate::run_steps::{run_asking, run_trusting, run_under};
 use crate::runfile::{read, RunFile};
 
 const HEADER: &[u8] = b"step answer value\n";

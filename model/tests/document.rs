@@ -3,7 +3,7 @@
 use model::listing::{listing, listing_trusting};
 use model::setup::Setup;
 use model::step_record::Step;
-use model::write_runfile::write;
+use model::unchecked_writer::write;
 
 const LISTING: &str = "\
 step answer value

@@ -6,9 +6,9 @@ use model::answer::Answer;
 use model::gen::damage;
 use model::gen::runs::run;
 use model::listing::{listing, listing_trusting};
-use model::run::State;
 use model::runfile::read;
-use model::step::step;
+use model::state::State;
+use model::step_call::step;
 use model::step_record::*;
 
 const SEED: u64 = 1;

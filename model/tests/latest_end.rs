@@ -3,7 +3,7 @@
 use model::gen::runs::run;
 use model::mistakes::former::old_leases_end;
 use model::rules::{LatestEnd, Papers, Rules, WriteRules};
-use model::run::State;
+use model::state::State;
 use model::world::World;
 
 /// Every object in every state on the way of runs of several seeds, the fresh

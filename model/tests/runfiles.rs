@@ -5,7 +5,7 @@ mod common;
 use model::runfile::{parts, read, Fault};
 use model::setup::Field;
 use model::step_record::*;
-use model::write_runfile::write;
+use model::unchecked_writer::write;
 
 fn steps(count: usize) -> Vec<Step> {
     (0..count).map(|place| Step::read(place as u8, (place >> 8) as u8)).collect()

@@ -6,7 +6,7 @@ use common::Bench;
 use model::answer::Answer;
 use model::message::{Grant, Kind, Message};
 use model::requests::Standing;
-use model::step::step;
+use model::step_call::step;
 use model::step_record::Step;
 
 const PAST: u32 = 2_148_483_648;

@@ -5,9 +5,9 @@ use model::copies::ObjectCopy;
 use model::gen::runs::Run;
 use model::message::Message;
 use model::requests::Request;
-use model::run::State;
 use model::setup::Setup;
-use model::step::step;
+use model::state::State;
+use model::step_call::step;
 use model::step_record::Step;
 use model::tables::{Server, Write};
 

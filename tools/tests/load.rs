@@ -3,11 +3,11 @@
 mod common;
 
 use common::{run_program, Ended};
+use model::checked_writer::workload_file;
 use model::gen::workload_calls::calls;
 use model::limits::{FILE_BYTES, SETUP_BYTES};
 use model::listing::listing;
 use model::runfile::read_setup;
-use model::writer::workload_file;
 use tools::text::{self, from_file, parse};
 
 const RUNTEXT: &str = env!("CARGO_BIN_EXE_runtext");

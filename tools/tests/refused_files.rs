@@ -6,7 +6,7 @@ use common::{example, run_program};
 use model::gen::damage;
 use model::runfile::parts;
 use model::step_record::Step;
-use model::write_runfile::write;
+use model::unchecked_writer::write;
 use tools::refused_file::told;
 use tools::text::from_file;
 

@@ -6,7 +6,7 @@ use model::gen::rng::Rng;
 use model::gen::{damage, runs, setups};
 use model::runfile::read;
 use model::step_record::Step;
-use model::write_runfile::write;
+use model::unchecked_writer::write;
 use tools::text::{from_file, parse, print, script, to_file};
 
 fn there_and_back(file: &[u8]) {

@@ -2,8 +2,8 @@
 
 use model::gen::runs::{run, Run};
 use model::message::Message;
-use model::run::State;
-use model::step::step;
+use model::state::State;
+use model::step_call::step;
 use model::step_record::{Step, DELIVER, DOUBLE, LOSE};
 use tools::names::{item, kind, way};
 use tools::scenario::Scenario;

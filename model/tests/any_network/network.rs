@@ -4,9 +4,9 @@ use model::answer::Answer;
 use model::limits::{CLIENTS, UNSOUND};
 use model::message::Message;
 use model::mistakes::Mistakes;
-use model::run::State;
 use model::setup::Setup;
 use model::sound::sound;
+use model::state::State;
 use model::step_record::Step;
 use model::world::World;
 

@@ -6,9 +6,9 @@ use model::answer::Answer;
 use model::gen::runs::run;
 use model::limits::QUEUE;
 use model::mistakes::Mistakes;
-use model::run::State;
 use model::setup::Setup;
-use model::step::step;
+use model::state::State;
+use model::step_call::step;
 use model::step_record::{Step, DELIVER, DOUBLE, LOSE};
 
 use crate::network::Move;

@@ -3,9 +3,9 @@
 
 use model::answer::Answer;
 use model::message::Message;
-use model::run::State;
 use model::setup::Setup;
-use model::step::step;
+use model::state::State;
+use model::step_call::step;
 use model::step_record::Step;
 
 /// Three clients, two volumes, four objects: 0, 1, 3 in volume 0, 2 in 1.

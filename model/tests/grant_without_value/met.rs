@@ -7,8 +7,8 @@ use model::gen::runs::Run;
 use model::message::{Grant, Kind, Message};
 use model::mistakes::{former::names_held_version, Mistakes};
 use model::requests::Request;
-use model::run::State;
 use model::setup::Setup;
+use model::state::State;
 use model::step_record::Step;
 use model::world::World;
 

@@ -5,7 +5,7 @@ use model::gen::runs::run;
 use model::limits::{FILE_BYTES, STEPS};
 use model::runfile::{distance, parts, read, Fault};
 use model::step_record::Step;
-use model::write_runfile::write;
+use model::unchecked_writer::write;
 
 use crate::bytes::{setup_place, step_count, step_in};
 use crate::common;

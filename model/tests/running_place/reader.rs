@@ -4,9 +4,9 @@
 use std::io::Write;
 
 use model::answer::Answer;
-use model::run::State;
 use model::setup::Setup;
-use model::step::step_sound;
+use model::state::State;
+use model::step_call::step_sound;
 use model::step_record::{Step, CLOCK, RESTART_CLIENT};
 
 use crate::bytes::{setup_place, step_count, step_in};

@@ -3,8 +3,8 @@
 use model::gen::runs::Run;
 use model::gen::setups::sized;
 use model::listing::{listing, listing_trusting};
-use model::run::State;
 use model::runfile::read;
+use model::state::State;
 use model::step_record::Step;
 
 use crate::common::Bench;

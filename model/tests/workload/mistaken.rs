@@ -1,11 +1,11 @@
 //! A small generator of its own, which may make a mistake.
 
+use model::checked_writer::written;
 use model::gen::workload_calls::WorkloadCall;
 use model::runfile::{distance, read_setup};
 use model::setup::Setup;
 use model::step_record::{Step, CLOCK, WRITE};
-use model::write_runfile::{record, write};
-use model::writer::written;
+use model::unchecked_writer::{record, write};
 
 use crate::rule::Rule;
 

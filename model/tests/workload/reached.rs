@@ -6,8 +6,8 @@ use std::collections::BTreeMap;
 
 use model::gen::setups::sized;
 use model::limits::STEPS;
-use model::run::State;
 use model::setup::Setup;
+use model::state::State;
 use model::step_record::*;
 use model::workload::steps;
 

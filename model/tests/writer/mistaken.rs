@@ -147,7 +147,7 @@ impl Rule<Mistake> {
         let (whole, _) = records.as_chunks::<16>();
         let written = |record: &[u8; 16]| {
             let step = read_step(record);
-            let cleared = model::write_runfile::record(&step.used_fields());
+            let cleared = model::unchecked_writer::record(&step.used_fields());
             self.number(*record, UnusedCleared, cleared)
         };
         whole.iter().flat_map(written).collect()

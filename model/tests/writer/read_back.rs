@@ -1,15 +1,15 @@
 //! Each written file is read back with the same parts, and is what the
 //! unchecked writer makes.
 
+use model::checked_writer::{workload_file, write_checked, written};
 use model::gen::rng::Rng;
 use model::gen::{damage, runs, setups};
 use model::limits::STEPS;
 use model::runfile::{distance, read};
 use model::setup::Setup;
 use model::step_record::Step;
+use model::unchecked_writer::{record, setup_bytes};
 use model::workload;
-use model::write_runfile::{record, setup_bytes};
-use model::writer::{workload_file, write_checked, written};
 
 use crate::common;
 

@@ -1,11 +1,11 @@
 //! Each reason for 10, its edge, and 7 before all of them.
 
+use model::checked_writer::{workload_file, write_checked, written};
 use model::limits::FILE_BYTES;
 use model::runfile::distance;
 use model::setup::Setup;
 use model::step_record::Step;
-use model::write_runfile::setup_bytes;
-use model::writer::{workload_file, write_checked, written};
+use model::unchecked_writer::setup_bytes;
 
 use crate::common;
 

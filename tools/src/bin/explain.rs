@@ -2,7 +2,7 @@
 
 use std::process::ExitCode;
 
-use model::run::State;
+use model::state::State;
 use tools::arguments::Arguments;
 use tools::command::{self, Failure};
 use tools::explain::{at, line_of, tables, told};

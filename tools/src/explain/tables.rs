@@ -1,8 +1,8 @@
 //! The tables after a step: of clients, volumes and objects that exist, and
 //! only the rows that hold something.
 
-use model::run::State;
 use model::setup::Setup;
+use model::state::State;
 use model::tables::alive;
 
 use super::table;

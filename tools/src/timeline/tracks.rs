@@ -2,8 +2,8 @@
 
 use std::collections::BTreeMap;
 
-use model::run::State;
 use model::setup::Setup;
+use model::state::State;
 use model::tables::alive;
 
 /// Whose it is and what, so that each track holds one at a time.

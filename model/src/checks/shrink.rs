@@ -3,7 +3,7 @@
 use crate::runfile::{distance, read};
 use crate::setup::Setup;
 use crate::step_record::Step;
-use crate::write_runfile::write;
+use crate::unchecked_writer::write;
 
 /// How often the failure may be tried: each try may start a program.
 const TRIES: usize = 3_000;

@@ -1,14 +1,14 @@
 //! What callers ask of a workload's file (02, A5): seeds, setups and counts,
 //! aimed at the edges.
 
+use crate::checked_writer::workload_file;
 use crate::gen::rng::Rng;
 use crate::gen::setups::sized;
 use crate::gen::writer_calls::{bytes, rooms};
 use crate::gen::{lent_setups, notes};
 use crate::limits::{CLIENTS, FILE_BYTES, OBJECTS, STEPS};
 use crate::runfile::distance;
-use crate::write_runfile::setup_bytes;
-use crate::writer::workload_file;
+use crate::unchecked_writer::setup_bytes;
 
 #[derive(Clone, Debug, PartialEq, Eq)]
 pub struct WorkloadCall {

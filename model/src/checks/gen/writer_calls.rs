@@ -1,13 +1,13 @@
 //! What callers lend the writer of run files (02, A5), in bytes and aimed at
 //! its refusals: one thing wrong, just not wrong, or several at once.
 
+use crate::checked_writer::written;
 use crate::gen::rng::Rng;
 use crate::gen::{lent_setups, runs};
 use crate::limits::{FILE_BYTES, STEP_BYTES};
 use crate::runfile::distance;
 use crate::step_record::Step;
-use crate::write_runfile::{record, setup_bytes};
-use crate::writer::written;
+use crate::unchecked_writer::{record, setup_bytes};
 
 #[derive(Clone, Debug, PartialEq, Eq)]
 pub struct WriterCall {

@@ -4,7 +4,7 @@ use crate::gen::rng::Rng;
 use crate::gen::setups::{any, sized};
 use crate::limits::{CLIENTS, OBJECTS, OBJECT_LEASE, TIMEOUT, VOLUMES, VOLUME_LEASE};
 use crate::setup::Setup;
-use crate::write_runfile::setup_bytes;
+use crate::unchecked_writer::setup_bytes;
 
 pub fn good(rng: &mut Rng) -> Vec<u8> {
     setup_bytes(&any(rng))

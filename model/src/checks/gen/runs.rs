@@ -7,7 +7,7 @@ use crate::gen::{notes, random_steps, setups};
 use crate::limits::STEPS;
 use crate::setup::Setup;
 use crate::step_record::Step;
-use crate::write_runfile::write;
+use crate::unchecked_writer::write;
 
 /// A run as its parts.
 #[derive(Clone, Debug)]

@@ -4,8 +4,8 @@ use crate::limits::{BAD_SETUP, FILE_BYTES, NOT_WRITTEN, SETUP_BYTES, STEPS, STEP
 use crate::runfile::{distance, read_setup, read_step};
 use crate::setup::Setup;
 use crate::step_record::Step;
+use crate::unchecked_writer::write;
 use crate::workload;
-use crate::write_runfile::write;
 
 /// The file, for an output of so many bytes.
 pub fn write_checked(note: &[u8], setup: &Setup, steps: &[Step], room: usize) -> Result<Vec<u8>, u8> {

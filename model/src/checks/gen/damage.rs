@@ -5,7 +5,7 @@ use crate::gen::runs::{run, Run};
 use crate::limits::{FILE_BYTES, SETUP_BYTES, TRAILER_BYTES};
 use crate::runfile::distance;
 use crate::step_record::Step;
-use crate::write_runfile::write;
+use crate::unchecked_writer::write;
 
 pub fn files(seed: u64) -> Vec<Vec<u8>> {
     let mut rng = Rng::new(!seed);
