@@ -1,4 +1,4 @@
-//! The program `step_cases` prints what the model answers to the same cases and
+//! The program `test_step_cases` prints what the model answers to the same cases and
 //! leaves, and the cases would show each mistake.
 
 use std::fs;

@@ -1,6 +1,6 @@
 //! Steps on tables that no run reaches: unsound ones, and ones at or past a
 //! limit. The cases are numbers in a text file that the product's program
-//! `step_cases` reads too; what it prints is held to these lines.
+//! `test_step_cases` reads too; what it prints is held to these lines.
 
 mod changes;
 mod free;
