@@ -1,12 +1,13 @@
 ghost use mathlib.Core.Path.{_≡_};
 ghost use Prim.Native.Nat.{_<_};
 ghost use Rattle.protocol.specs.Client.{numbered, ended, turned, CanTurn, stands, forgotten};
+ghost use Rattle.setup.specs.Limits.{largest};
 use protocol::records::Request;
 use protocol::step::Turn;
 
 // Step 3: "take the next number, replace the standing request".
 pub fn number(r: Request, object: u8) -> Request
-    requires { ⌜ r .next < 4294967295 ⌝ }
+    requires { ⌜ r .next < largest ⌝ }
     ensures { λ q. ⌜ q ≡ numbered r object ⌝ }
 {
     Request {

@@ -4,6 +4,7 @@ ghost use lib.ListN.{getD};
 ghost use Rattle.protocol.specs.Tables.{noRequest};
 ghost use Rattle.protocol.specs.Sound.{requestsSound};
 ghost use Rattle.protocol.specs.Client.{numbered, ended};
+ghost use Rattle.setup.specs.Limits.{largest};
 use client_cache::request::end;
 use client_cache::request::number;
 use gate_records::requests::as_many;
@@ -28,7 +29,7 @@ pub fn look(requests: &[Request], i: usize) -> Request
 
 // Takes the next number for a request for the object, which becomes the standing request. Returns the number.
 pub fn take_number(r: &mut Request, object: u8) -> u32
-    requires { ⌜ now r .next < 4294967295 ⌝ }
+    requires { ⌜ now r .next < largest ⌝ }
     ensures { λ n. ⌜ (n ≡ now (r .entry) .next) × (now (r .exit) ≡ numbered (now (r .entry)) object) ⌝ }
 {
     let n = number(*r, object);

@@ -3,6 +3,7 @@ ghost use mathlib.Core.Path.{_≡_};
 ghost use Prim.Native.Nat.{_<_};
 ghost use Rattle.protocol.specs.Tables.{byVolume};
 ghost use Rattle.client_receive.specs.Views.{viewStored};
+use state_words::VOLUMES;
 use state_words::Words;
 use state_words::client;
 
@@ -12,6 +13,6 @@ pub fn put(words: &mut Words, client: usize, volume: usize, epoch: u32, expiry: 
     requires { ⌜ volume < 8 ⌝ }
     ensures { λ _. ⌜ now (words .exit) ≡ viewStored (now (words .entry)) (byVolume client volume) epoch expiry ⌝ }
 {
-    words[client::VIEW_EPOCH + (client * 8 + volume)] = epoch;
-    words[client::VIEW_EXPIRY + (client * 8 + volume)] = expiry;
+    words[client::VIEW_EPOCH + (client * VOLUMES + volume)] = epoch;
+    words[client::VIEW_EXPIRY + (client * VOLUMES + volume)] = expiry;
 }

@@ -14,6 +14,7 @@ use protocol::records::Copy;
 use protocol::records::Request;
 use protocol::setup::Setup;
 use protocol::step::Answer;
+use state_words::VOLUMES;
 use state_words::Values;
 use state_words::Words;
 use state_words::client;
@@ -29,7 +30,7 @@ pub fn read(s: Setup, words: &Words, c: Copy, client: u8, object: u8) -> Answer
 {
     let volume = place::volume_of(s, object as usize);
     let clock = words[network::CLOCK];
-    let expiry = words[client::VIEW_EXPIRY + (client as usize * 8 + volume)];
+    let expiry = words[client::VIEW_EXPIRY + (client as usize * VOLUMES + volume)];
     if copy::showable(clock, expiry, c) {
         return Answer::Shown(c.value);
     }
@@ -53,7 +54,7 @@ pub fn ask(
     ensures { λ _. ⌜ recordsOf (now (words .exit)) (now (values .exit)) ≡ recordsOf (now (words .entry)) (now (values .entry)) ⌝ }
 {
     let volume = place::volume_of(s, object as usize);
-    let epoch = words[client::VIEW_EPOCH + (client as usize * 8 + volume)];
+    let epoch = words[client::VIEW_EPOCH + (client as usize * VOLUMES + volume)];
     let kind = Kind::Renew {
         object,
         number: r.next,

@@ -3,6 +3,7 @@ ghost use Rattle.protocol.specs.Sound.{kindSound, messageSound};
 use protocol::message::Kind;
 use protocol::message::Message;
 use protocol::setup::Setup;
+use setup::limits;
 
 // Returns whether the fields of this kind are sound: "named items existing", and a GRANT's expiries in range.
 fn kind_sound(s: Setup, kind: Kind) -> bool
@@ -24,8 +25,8 @@ fn kind_sound(s: Setup, kind: Kind) -> bool
             object_expiry,
             payload: _,
         } => ((object as u32) < s.objects)
-            & (volume_expiry <= 2148483647)
-            & (object_expiry <= 2148483647),
+            & (volume_expiry <= limits::LAST_END)
+            & (object_expiry <= limits::LAST_END),
         Kind::Invalidate {
             object,
             epoch: _,

@@ -11,6 +11,7 @@ ghost use Rattle.state_words.specs.View.{numbersOf};
 use protocol::records::Request;
 use protocol::setup::Setup;
 use protocol::step::Step;
+use setup::limits;
 use state_words::Words;
 use state_words::server;
 
@@ -21,7 +22,8 @@ fn version_grows(words: &Words, step: Step) -> bool
 {
     let object = step.object as usize;
     if object < 32 {
-        return (step.kind != 4) | (words[server::VERSION + object] < 4294967295);
+        return (step.kind != known_kinds::WRITE)
+            | (words[server::VERSION + object] < limits::LARGEST);
     }
     true
 }
@@ -34,7 +36,7 @@ fn epochs_grow(words: &Words, n: usize) -> bool
     let mut ok = true;
     let mut volume = 0;
     while volume < n {
-        ok = ok & (words[server::VOLUME_EPOCH + volume] < 4294967295);
+        ok = ok & (words[server::VOLUME_EPOCH + volume] < limits::LARGEST);
         volume += 1;
     }
     ok
@@ -47,5 +49,7 @@ pub fn growable(s: Setup, words: &Words, request: Request, step: Step) -> bool
 {
     let version = version_grows(words, step);
     let epochs = epochs_grow(words, s.volumes as usize);
-    version & ((step.kind != 8) | epochs) & ((step.kind != 3) | (request.next < 4294967295))
+    version
+        & ((step.kind != known_kinds::RESTART_SERVER) | epochs)
+        & ((step.kind != known_kinds::ASK) | (request.next < limits::LARGEST))
 }

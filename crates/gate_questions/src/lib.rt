@@ -6,6 +6,7 @@ ghost use Rattle.protocol.specs.Gate.{exists, timely, vacant};
 ghost use Rattle.state_words.specs.View.{numbersOf};
 use protocol::setup::Setup;
 use protocol::step::Step;
+use setup::limits;
 use state_words::Words;
 use state_words::network;
 use state_words::server;
@@ -24,7 +25,7 @@ pub fn timely(words: &Words, step: Step) -> bool
     ensures { λ r. ⌜ r ≡ timely (numbersOf (now (words .entry))) step ⌝ }
 {
     !known_kinds::uses_clock(step)
-        | ((words[network::CLOCK] <= step.clock) & (step.clock <= 2147483647))
+        | ((words[network::CLOCK] <= step.clock) & (step.clock <= limits::LAST_CLOCK))
 }
 
 // Answers question 5: "For a write, is none standing there?" Other steps pass, and so does an object that has no place in the words.
@@ -33,7 +34,7 @@ pub fn vacant(words: &Words, step: Step) -> bool
 {
     let object = step.object as usize;
     if object < 32 {
-        return (step.kind != 4) | (words[server::STANDING + object] == 0);
+        return (step.kind != known_kinds::WRITE) | (words[server::STANDING + object] == 0);
     }
     true
 }

@@ -5,12 +5,13 @@ ghost use lib.Dec.{eqb};
 ghost use Rattle.protocol.specs.Sound.{timeFits};
 use protocol::records::Copy;
 use protocol::setup::Setup;
+use setup::limits;
 
 // Returns whether the copy's expiry is in range: "expiries .. at most 2,148,483,647".
 pub fn copy_sound(copy: Copy) -> bool
     ensures { λ r. ⌜ r ≡ timeFits (copy .expiry) ⌝ }
 {
-    copy.expiry <= 2148483647
+    copy.expiry <= limits::LAST_END
 }
 
 // Returns whether there is one copy for each client and object: "dash by dash in object order; another length is unsound".

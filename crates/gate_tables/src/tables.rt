@@ -8,6 +8,9 @@ ghost use Rattle.protocol.specs.Sound.{volumeSound, objectSound, sessionSound, 
 ghost use Rattle.state_words.specs.View.{tablesOf, numbersOf};
 use crate::messages;
 use protocol::setup::Setup;
+use setup::limits;
+use state_words::OBJECTS;
+use state_words::VOLUMES;
 use state_words::Values;
 use state_words::Words;
 use state_words::client;
@@ -25,7 +28,8 @@ fn volumes_fit(words: &Words, n: usize) -> bool
         let epoch = words[server::VOLUME_EPOCH + volume];
         let volume_expiry = words[server::VOLUME_EXPIRY + volume];
         let guard = words[server::GUARD + volume];
-        ok = ok & ((1 <= epoch) & (volume_expiry <= 2148483647) & (guard <= 2148483647));
+        ok = ok
+            & ((1 <= epoch) & (volume_expiry <= limits::LAST_END) & (guard <= limits::LAST_END));
         volume += 1;
     }
     ok
@@ -42,9 +46,9 @@ fn objects_fit(words: &Words, n: usize) -> bool
     while object < n {
         let version = words[server::VERSION + object];
         let object_expiry = words[server::OBJECT_EXPIRY + object];
-        let open = (words[server::END + object] <= 2148483647) & (version < 4294967295);
+        let open = (words[server::END + object] <= limits::LAST_END) & (version < limits::LARGEST);
         let settled = (words[server::STANDING + object] == 0) | open;
-        ok = ok & ((1 <= version) & (object_expiry <= 2148483647) & settled);
+        ok = ok & ((1 <= version) & (object_expiry <= limits::LAST_END) & settled);
         object += 1;
     }
     ok
@@ -59,9 +63,9 @@ fn sessions_fit(words: &Words, client: usize, n: usize) -> bool
     let mut ok = true;
     let mut volume = 0;
     while volume < n {
-        let granted = words[server::SESSION_EXPIRY + (client * 8 + volume)];
-        let known = words[client::VIEW_EXPIRY + (client * 8 + volume)];
-        ok = ok & ((granted <= 2148483647) & (known <= 2148483647));
+        let granted = words[server::SESSION_EXPIRY + (client * VOLUMES + volume)];
+        let known = words[client::VIEW_EXPIRY + (client * VOLUMES + volume)];
+        ok = ok & ((granted <= limits::LAST_END) & (known <= limits::LAST_END));
         volume += 1;
     }
     ok
@@ -76,7 +80,7 @@ fn holders_fit(words: &Words, client: usize, n: usize) -> bool
     let mut ok = true;
     let mut object = 0;
     while object < n {
-        ok = ok & (words[server::LEASE + (client * 32 + object)] <= 2148483647);
+        ok = ok & (words[server::LEASE + (client * OBJECTS + object)] <= limits::LAST_END);
         object += 1;
     }
     ok
@@ -122,5 +126,5 @@ pub fn tables_sound(s: Setup, words: &Words, values: &Values) -> bool
     let sessions = all_sessions_fit(s, words);
     let holders = all_holders_fit(s, words);
     let queue = messages::queue_sound(s, words, values);
-    (words[network::CLOCK] <= 2147483647) & volumes & objects & sessions & holders & queue
+    (words[network::CLOCK] <= limits::LAST_CLOCK) & volumes & objects & sessions & holders & queue
 }

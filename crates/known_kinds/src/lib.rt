@@ -4,41 +4,60 @@ ghost use mathlib.Core.Path.{_≡_};
 ghost use Rattle.protocol.specs.Gate.{isClock, isWrite, usesClient, usesObject, usesPlace, known};
 use protocol::step::Step;
 
+// the kinds of steps, by 01's numbers
+pub const CLOCK: u8 = 1;
+
+pub const READ: u8 = 2;
+
+pub const ASK: u8 = 3;
+
+pub const WRITE: u8 = 4;
+
+pub const DELIVER: u8 = 5;
+
+pub const LOSE: u8 = 6;
+
+pub const DOUBLE: u8 = 7;
+
+pub const RESTART_SERVER: u8 = 8;
+
+pub const RESTART_CLIENT: u8 = 9;
+
 // "Is the kind 1 to 9?"
 pub fn known(step: Step) -> bool
     ensures { λ r. ⌜ r ≡ known step ⌝ }
 {
-    (1 <= step.kind) & (step.kind <= 9)
+    (CLOCK <= step.kind) & (step.kind <= RESTART_CLIENT)
 }
 
 pub fn uses_client(step: Step) -> bool
     ensures { λ r. ⌜ r ≡ usesClient step ⌝ }
 {
-    (step.kind == 2) | (step.kind == 3) | (step.kind == 9)
+    (step.kind == READ) | (step.kind == ASK) | (step.kind == RESTART_CLIENT)
 }
 
 pub fn uses_object(step: Step) -> bool
     ensures { λ r. ⌜ r ≡ usesObject step ⌝ }
 {
-    (step.kind == 2) | (step.kind == 3) | (step.kind == 4)
+    (step.kind == READ) | (step.kind == ASK) | (step.kind == WRITE)
 }
 
 pub fn uses_place(step: Step) -> bool
     ensures { λ r. ⌜ r ≡ usesPlace step ⌝ }
 {
-    (step.kind == 5) | (step.kind == 6) | (step.kind == 7)
+    (step.kind == DELIVER) | (step.kind == LOSE) | (step.kind == DOUBLE)
 }
 
 // Returns whether this is a clock step; no other step uses the clock.
 pub fn uses_clock(step: Step) -> bool
     ensures { λ r. ⌜ r ≡ isClock step ⌝ }
 {
-    step.kind == 1
+    step.kind == CLOCK
 }
 
 // Returns whether this is a write; no other step uses the value.
 pub fn uses_value(step: Step) -> bool
     ensures { λ r. ⌜ r ≡ isWrite step ⌝ }
 {
-    step.kind == 4
+    step.kind == WRITE
 }

@@ -19,7 +19,13 @@ pub fn remove(words: &mut Words, values: &mut Values, place: usize)
     pass::sized_values(&*values);
     let n = words[network::LENGTH];
     let rows = n as usize - (place + 1);
-    network_rows::shift::shift(&mut *words, network::MESSAGES, place * 9, rows * 9, 9);
+    network_rows::shift::shift(
+        &mut *words,
+        network::MESSAGES,
+        place * network::ROW,
+        rows * network::ROW,
+        network::ROW,
+    );
     network_rows::shift::shift_values(&mut *values, network::MESSAGE_VALUE, place, rows, 1);
     words[network::LENGTH] = n - 1;
 }

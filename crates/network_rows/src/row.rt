@@ -44,7 +44,7 @@ pub fn store(words: &mut Words, place: usize, row: Row)
 {
     let mut k = 0;
     while k < 9 {
-        words[network::MESSAGES + (place * 9 + k)] = row[k];
+        words[network::MESSAGES + (place * network::ROW + k)] = row[k];
         k += 1;
     }
 }
@@ -55,7 +55,7 @@ fn word(words: &Words, place: usize, k: usize) -> u32
     requires { ⌜ k < 9 ⌝ }
     ensures { λ r. ⌜ r ≡ getD (parts wordLengths (now (words .entry)) MESSAGES) (place * 9 + k) 0 ⌝ }
 {
-    words[network::MESSAGES + (place * 9 + k)]
+    words[network::MESSAGES + (place * network::ROW + k)]
 }
 
 // Returns whether the first four words of a row (kind, client, object, value flag) fit in a byte.

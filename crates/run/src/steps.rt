@@ -6,6 +6,8 @@ ghost use Rattle.bytes_layout.specs.Written.{Written};
 ghost use Rattle.file_reader.specs.File.{contentsOf};
 ghost use Rattle.run.specs.Ran.{linesOf};
 use file_reader::Contents;
+use state_words::VALUES;
+use state_words::WORDS;
 
 // Runs the steps of an accepted file from fresh words on, and writes one line per step to the output from `at` on, which has room for them. The offset
 // in the file advances by 16 after every step, refused or not. Returns the output offset after the last line.
@@ -17,8 +19,8 @@ pub fn run_steps(file: &[u8], c: Contents, out: &mut [u8], at: usize) -> usize
 {
     let s = c.setup;
     let count = c.count;
-    let mut words = [0; 3498];
-    let mut values = [0; 640];
+    let mut words = [0; WORDS];
+    let mut values = [0; VALUES];
     state_words::fresh::fresh(&mut words, &mut values);
     let mut place = c.first;
     let mut next = at;

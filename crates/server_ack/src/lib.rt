@@ -9,6 +9,7 @@ ghost use Rattle.protocol.specs.Server.{ackTaken, ackStaged};
 ghost use Rattle.state_words.specs.View.{tablesOf, numbersOf, recordsOf};
 use lease_tests::place;
 use protocol::setup::Setup;
+use state_words::OBJECTS;
 use state_words::Values;
 use state_words::Words;
 use state_words::server;
@@ -47,8 +48,8 @@ pub fn receive_ack(
     ensures { λ _. ⌜ recordsOf (now (words .exit)) (now (values .exit)) ≡ recordsOf (now (words .entry)) (now (values .entry)) ⌝ }
 {
     if ack_taken(s, &*words, object, epoch, version) {
-        words[server::LEASE + (client * 32 + object)] = 0;
-        words[server::WAITING + (client * 32 + object)] = 0;
+        words[server::LEASE + (client * OBJECTS + object)] = 0;
+        words[server::WAITING + (client * OBJECTS + object)] = 0;
         return server_complete::completion::settle_one(s, &mut *words, &mut *values, object);
     }
     0

@@ -14,6 +14,8 @@ use lease_tests::place;
 use protocol::setup::Setup;
 use server_complete::settle;
 use server_due::Trigger;
+use state_words::OBJECTS;
+use state_words::VOLUMES;
 use state_words::Values;
 use state_words::Words;
 use state_words::pass;
@@ -33,7 +35,7 @@ fn clear_in_volume(s: Setup, words: &mut Words, field: usize, client: usize, vol
         pass::put_if(
             &mut *words,
             own == volume,
-            field + (client * 32 + object),
+            field + (client * OBJECTS + object),
             0,
         );
         object += 1;
@@ -46,7 +48,7 @@ fn drop_taken(words: &Words, client: usize, volume: usize, number: u32, epoch: u
     requires { ⌜ volume < 8 ⌝ }
     ensures { λ r. ⌜ r ≡ dropTaken (numbersOf (now (words .entry))) client volume number epoch ⌝ }
 {
-    let offer = words[server::OFFER + (client * 8 + volume)];
+    let offer = words[server::OFFER + (client * VOLUMES + volume)];
     (epoch == words[server::VOLUME_EPOCH + volume]) & ((number != 0) & (number == offer))
 }
 
@@ -69,9 +71,9 @@ pub fn receive_dropped(
     ensures { λ _. ⌜ recordsOf (now (words .exit)) (now (values .exit)) ≡ recordsOf (now (words .entry)) (now (values .entry)) ⌝ }
 {
     if drop_taken(&*words, client, volume, number, epoch) {
-        words[server::SESSION_EXPIRY + (client * 8 + volume)] = 0;
-        words[server::UNREACHABLE + (client * 8 + volume)] = 0;
-        words[server::OFFER + (client * 8 + volume)] = 0;
+        words[server::SESSION_EXPIRY + (client * VOLUMES + volume)] = 0;
+        words[server::UNREACHABLE + (client * VOLUMES + volume)] = 0;
+        words[server::OFFER + (client * VOLUMES + volume)] = 0;
         clear_in_volume(s, &mut *words, server::LEASE, client, volume);
         clear_in_volume(s, &mut *words, server::WAITING, client, volume);
         return settle::settle(s, Trigger::Volume(volume), &mut *words, &mut *values);

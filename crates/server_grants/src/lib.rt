@@ -4,10 +4,13 @@ ghost use mathlib.Core.Bool.{true};
 ghost use Prim.Native.Nat.{_≤_, _<_};
 ghost use Rattle.protocol.specs.Setup.{inRange};
 ghost use Rattle.protocol.specs.Server.{sent, offered, offering, granted};
+ghost use Rattle.protocol.specs.Sound.{clockLimit};
 ghost use Rattle.state_words.specs.View.{tablesOf, recordsOf};
 use lease_tests::place;
 use network_send::push;
 use protocol::setup::Setup;
+use state_words::OBJECTS;
+use state_words::VOLUMES;
 use state_words::Values;
 use state_words::Words;
 use state_words::network;
@@ -21,8 +24,8 @@ pub fn offer(words: &mut Words, values: &mut Values, client: usize, volume: usiz
     ensures { λ _. ⌜ recordsOf (now (words .exit)) (now (values .exit)) ≡ recordsOf (now (words .entry)) (now (values .entry)) ⌝ }
 {
     let message = server_replies::offering(&*words, client, volume, number);
-    words[server::UNREACHABLE + (client * 8 + volume)] = 1;
-    words[server::OFFER + (client * 8 + volume)] = number;
+    words[server::UNREACHABLE + (client * VOLUMES + volume)] = 1;
+    words[server::OFFER + (client * VOLUMES + volume)] = number;
     push(&mut *words, &mut *values, message);
 }
 
@@ -37,7 +40,7 @@ pub fn grant(
     held: u32,
 )
     requires { ⌜ inRange s ≡ true ⌝ }
-    requires { ⌜ tablesOf (now words) (now values) .clock ≤ 2147483647 ⌝ }
+    requires { ⌜ tablesOf (now words) (now values) .clock ≤ clockLimit ⌝ }
     requires { ⌜ client < 16 ⌝ }
     requires { ⌜ object < s .objects ⌝ }
     ensures { λ _. ⌜ tablesOf (now (words .exit)) (now (values .exit)) ≡ granted s (tablesOf (now (words .entry)) (now (values .entry))) client object number held ⌝ }
@@ -48,8 +51,8 @@ pub fn grant(
     let volume_expiry = words[network::CLOCK] + s.tv;
     let object_expiry = words[network::CLOCK] + s.t;
     words[server::VOLUME_EXPIRY + volume] = volume_expiry;
-    words[server::SESSION_EXPIRY + (client * 8 + volume)] = volume_expiry;
+    words[server::SESSION_EXPIRY + (client * VOLUMES + volume)] = volume_expiry;
     words[server::OBJECT_EXPIRY + object] = object_expiry;
-    words[server::LEASE + (client * 32 + object)] = object_expiry;
+    words[server::LEASE + (client * OBJECTS + object)] = object_expiry;
     push(&mut *words, &mut *values, message);
 }

@@ -5,6 +5,7 @@ ghost use Prim.Native.Nat.{_≤_, _<_};
 ghost use Rattle.protocol.specs.Setup.{inRange};
 ghost use Rattle.protocol.specs.SoundLaws.{Growing};
 ghost use Rattle.protocol.specs.Server.{mustDrop, renewedBy};
+ghost use Rattle.protocol.specs.Sound.{clockLimit};
 ghost use Rattle.state_words.specs.View.{tablesOf, numbersOf, recordsOf};
 use lease_tests::place;
 use network_send::push;
@@ -12,6 +13,7 @@ use protocol::setup::Setup;
 use server_grants::grant;
 use server_grants::offer;
 use server_replies::lowest;
+use state_words::VOLUMES;
 use state_words::Values;
 use state_words::Words;
 use state_words::server;
@@ -23,7 +25,7 @@ fn must_drop(words: &Words, client: usize, volume: usize, epoch: u32) -> bool
     ensures { λ r. ⌜ r ≡ mustDrop (numbersOf (now (words .entry))) client volume epoch ⌝ }
 {
     (epoch != words[server::VOLUME_EPOCH + volume])
-        | (words[server::UNREACHABLE + (client * 8 + volume)] != 0)
+        | (words[server::UNREACHABLE + (client * VOLUMES + volume)] != 0)
 }
 
 // Answers a RENEW whose number is new: "take the first rule that fits".
@@ -38,7 +40,7 @@ pub fn renew_by(
     held: u32,
 )
     requires { ⌜ inRange s ≡ true ⌝ }
-    requires { ⌜ tablesOf (now words) (now values) .clock ≤ 2147483647 ⌝ }
+    requires { ⌜ tablesOf (now words) (now values) .clock ≤ clockLimit ⌝ }
     requires { ⌜ Growing s (tablesOf (now words) (now values) .objects) ⌝ }
     requires { ⌜ client < s .clients ⌝ }
     requires { ⌜ object < s .objects ⌝ }

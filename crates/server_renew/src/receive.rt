@@ -4,6 +4,7 @@ ghost use Prim.Native.Nat.{_≤_, _<_};
 ghost use Rattle.protocol.specs.Setup.{inRange};
 ghost use Rattle.protocol.specs.SoundLaws.{Growing};
 ghost use Rattle.protocol.specs.Server.{renewed};
+ghost use Rattle.protocol.specs.Sound.{clockLimit};
 ghost use Rattle.state_words.specs.View.{tablesOf, recordsOf};
 use crate::answer::renew_by;
 use protocol::setup::Setup;
@@ -24,7 +25,7 @@ pub fn receive_renew(
     held: u32,
 )
     requires { ⌜ inRange s ≡ true ⌝ }
-    requires { ⌜ tablesOf (now words) (now values) .clock ≤ 2147483647 ⌝ }
+    requires { ⌜ tablesOf (now words) (now values) .clock ≤ clockLimit ⌝ }
     requires { ⌜ Growing s (tablesOf (now words) (now values) .objects) ⌝ }
     requires { ⌜ client < s .clients ⌝ }
     requires { ⌜ object < s .objects ⌝ }

@@ -8,6 +8,8 @@ ghost use Rattle.protocol.specs.Setup.{inRange};
 ghost use Rattle.protocol.specs.Tables.{versionAt};
 ghost use Rattle.protocol.specs.Writes.{invalidation};
 ghost use Rattle.protocol.specs.Server.{offering, payloadFor, granting};
+ghost use Rattle.protocol.specs.Sound.{clockLimit};
+ghost use Rattle.setup.specs.Limits.{largest};
 ghost use Rattle.state_words.specs.View.{tablesOf, numbersOf};
 use lease_tests::place;
 use protocol::message::Kind;
@@ -40,7 +42,7 @@ pub fn resending(s: Setup, words: &Words, client: usize, object: usize) -> Messa
     requires { ⌜ inRange s ≡ true ⌝ }
     requires { ⌜ client < 16 ⌝ }
     requires { ⌜ object < s .objects ⌝ }
-    requires { ⌜ versionAt (numbersOf (now words)) object < 4294967295 ⌝ }
+    requires { ⌜ versionAt (numbersOf (now words)) object < largest ⌝ }
     ensures { λ r. ⌜ r ≡ invalidation s (numbersOf (now (words .entry))) object client ⌝ }
 {
     let volume = place::volume_of(s, object);
@@ -76,7 +78,7 @@ pub fn granting<'a>(
     held: u32,
 ) -> Message
     requires { ⌜ inRange s ≡ true ⌝ }
-    requires { ⌜ tablesOf (now words) (now values) .clock ≤ 2147483647 ⌝ }
+    requires { ⌜ tablesOf (now words) (now values) .clock ≤ clockLimit ⌝ }
     requires { ⌜ client < 16 ⌝ }
     requires { ⌜ object < s .objects ⌝ }
     ensures { λ r. ⌜ r ≡ granting s (tablesOf (now (words .entry)) (now (values .entry))) client object number held ⌝ }

@@ -7,6 +7,7 @@ ghost use Rattle.protocol.specs.Server.{waitedIn, lowestWaited};
 ghost use Rattle.state_words.specs.View.{numbersOf};
 use lease_tests::place;
 use protocol::setup::Setup;
+use state_words::OBJECTS;
 use state_words::Words;
 use state_words::server;
 
@@ -18,7 +19,7 @@ fn waited_in(s: Setup, words: &Words, client: usize, volume: usize, object: usiz
     ensures { λ r. ⌜ r ≡ waitedIn s (numbersOf (now (words .entry))) client volume object ⌝ }
 {
     let own = place::volume_of(s, object);
-    let i = client * 32 + object;
+    let i = client * OBJECTS + object;
     (own == volume) & ((words[server::STANDING + object] != 0) & (words[server::WAITING + i] != 0))
 }
 

@@ -9,6 +9,8 @@ ghost use Rattle.protocol.specs.Tables.{byVolume, byObject};
 ghost use Rattle.state_words.specs.Fields.{WORDS, at, UNREACHABLE, WAITING};
 ghost use Rattle.server_waiting.specs.Waiting.{waitingFor, waitingIn, waitsIn};
 use lease_tests::time;
+use state_words::OBJECTS;
+use state_words::VOLUMES;
 use state_words::Words;
 use state_words::network;
 use state_words::pass;
@@ -23,7 +25,7 @@ pub fn clear_object(words: &mut Words, field: usize, object: usize, n: usize)
 {
     let mut client = 0;
     while client < n {
-        words[field + (client * 32 + object)] = 0;
+        words[field + (client * OBJECTS + object)] = 0;
         client += 1;
     }
 }
@@ -37,8 +39,8 @@ pub fn mark_waiting(words: &mut Words, volume: usize, object: usize, n: usize)
 {
     let mut client = 0;
     while client < n {
-        let i = server::WAITING + (client * 32 + object);
-        let j = server::UNREACHABLE + (client * 8 + volume);
+        let i = server::WAITING + (client * OBJECTS + object);
+        let j = server::UNREACHABLE + (client * VOLUMES + volume);
         let yes = words[i] != 0;
         pass::put_if(&mut *words, yes, j, 1);
         client += 1;
@@ -57,7 +59,7 @@ pub fn next_waiting(words: &Words, object: usize, from: usize, n: usize) -> usiz
         if n <= client {
             break client;
         }
-        let i = server::WAITING + (client * 32 + object);
+        let i = server::WAITING + (client * OBJECTS + object);
         if words[i] != 0 {
             break client;
         }
@@ -83,8 +85,8 @@ pub fn await_clients(words: &mut Words, volume: usize, object: usize, n: usize)
 {
     let mut client = 0;
     while client < n {
-        let i = client * 32 + object;
-        let j = client * 8 + volume;
+        let i = client * OBJECTS + object;
+        let j = client * VOLUMES + volume;
         let yes = time::waits(
             words[network::CLOCK],
             words[server::LEASE + i],

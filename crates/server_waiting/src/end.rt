@@ -4,6 +4,8 @@ ghost use Prim.Native.Nat.{_≤_, _<_};
 ghost use Rattle.laws.specs.Greatest.{greatest};
 ghost use Rattle.server_waiting.specs.Waiting.{waitingFor, waitingIn, leasedIn};
 use lease_tests::time;
+use state_words::OBJECTS;
+use state_words::VOLUMES;
 use state_words::Words;
 use state_words::server;
 
@@ -17,8 +19,8 @@ pub fn latest_end(words: &Words, volume: usize, object: usize, least: u32, n: us
     let mut end = least;
     let mut client = 0;
     while client < n {
-        let i = client * 32 + object;
-        let j = client * 8 + volume;
+        let i = client * OBJECTS + object;
+        let j = client * VOLUMES + volume;
         end = time::outlast(
             end,
             words[server::WAITING + i] != 0,

@@ -3,8 +3,10 @@ ghost use mathlib.Core.Path.{_≡_};
 ghost use mathlib.Core.Bool.{true};
 ghost use Prim.Native.Nat.{_≤_, _<_};
 ghost use Rattle.protocol.specs.Setup.{inRange};
+ghost use Rattle.protocol.specs.Sound.{clockLimit};
 ghost use Rattle.protocol.specs.Tables.{versionAt};
 ghost use Rattle.protocol.specs.Writes.{begun, writeStaged, settled};
+ghost use Rattle.setup.specs.Limits.{largest};
 ghost use Rattle.state_words.specs.View.{tablesOf, recordsOf};
 use crate::invalidates::notify;
 use lease_tests::place;
@@ -22,7 +24,7 @@ use state_words::server;
 // dashes, ..".
 fn begin(s: Setup, words: &mut Words, values: &mut Values, object: usize, value: u64)
     requires { ⌜ inRange s ≡ true ⌝ }
-    requires { ⌜ tablesOf (now words) (now values) .clock ≤ 2147483647 ⌝ }
+    requires { ⌜ tablesOf (now words) (now values) .clock ≤ clockLimit ⌝ }
     requires { ⌜ object < s .objects ⌝ }
     ensures { λ _. ⌜ tablesOf (now (words .exit)) (now (values .exit)) ≡ begun s (tablesOf (now (words .entry)) (now (values .entry))) object value ⌝ }
     ensures { λ _. ⌜ recordsOf (now (words .exit)) (now (values .exit)) ≡ recordsOf (now (words .entry)) (now (values .entry)) ⌝ }
@@ -48,9 +50,9 @@ pub fn accept_write(
     value: u64,
 ) -> u32
     requires { ⌜ inRange s ≡ true ⌝ }
-    requires { ⌜ tablesOf (now words) (now values) .clock ≤ 2147483647 ⌝ }
+    requires { ⌜ tablesOf (now words) (now values) .clock ≤ clockLimit ⌝ }
     requires { ⌜ object < s .objects ⌝ }
-    requires { ⌜ versionAt (tablesOf (now words) (now values)) object < 4294967295 ⌝ }
+    requires { ⌜ versionAt (tablesOf (now words) (now values)) object < largest ⌝ }
     ensures { λ r. ⌜ record { count = r; tables = tablesOf (now (words .exit)) (now (values .exit)) } ≡ settled s (writeStaged s (tablesOf (now (words .entry)) (now (values .entry))) object value) ⌝ }
     ensures { λ _. ⌜ recordsOf (now (words .exit)) (now (values .exit)) ≡ recordsOf (now (words .entry)) (now (values .entry)) ⌝ }
 {

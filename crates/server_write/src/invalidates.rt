@@ -7,6 +7,7 @@ ghost use Rattle.protocol.specs.Tables.{versionAt, withQueue};
 ghost use Rattle.protocol.specs.Writes.{notified};
 ghost use Rattle.state_words.specs.View.{tablesOf, recordsOf};
 ghost use Rattle.server_write.specs.Invalidates.{invalidated};
+ghost use Rattle.setup.specs.Limits.{largest};
 use lease_tests::place;
 use network_send::push;
 use protocol::message::Kind;
@@ -58,7 +59,7 @@ fn invalidate(
 pub fn notify(s: Setup, words: &mut Words, values: &mut Values, object: usize)
     requires { ⌜ inRange s ≡ true ⌝ }
     requires { ⌜ object < s .objects ⌝ }
-    requires { ⌜ versionAt (tablesOf (now words) (now values)) object < 4294967295 ⌝ }
+    requires { ⌜ versionAt (tablesOf (now words) (now values)) object < largest ⌝ }
     ensures { λ _. ⌜ tablesOf (now (words .exit)) (now (values .exit)) ≡ withQueue (tablesOf (now (words .entry)) (now (values .entry))) (notified s (tablesOf (now (words .entry)) (now (values .entry))) object) ⌝ }
     ensures { λ _. ⌜ recordsOf (now (words .exit)) (now (values .exit)) ≡ recordsOf (now (words .entry)) (now (values .entry)) ⌝ }
 {

@@ -1,5 +1,6 @@
 // Checks that a setup is in range, and makes fresh records (01, "Tables").
 pub mod fresh;
+pub mod limits;
 
 ghost use Prim.Native.Nat.{_<_};
 ghost use lib.Dec.{ltb, eqb};

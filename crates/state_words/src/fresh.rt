@@ -4,7 +4,9 @@ ghost use mathlib.Core.Path.{_≡_};
 ghost use Rattle.protocol.specs.Setup.{inRange};
 ghost use Rattle.protocol.specs.Tables.{freshTables};
 ghost use Rattle.state_words.specs.View.{tablesOf, recordsOf, freshRecords};
+use crate::VALUES;
 use crate::Values;
+use crate::WORDS;
 use crate::Words;
 use crate::client;
 use crate::pass;
@@ -16,8 +18,8 @@ pub fn fresh(words: &mut Words, values: &mut Values)
     ensures { λ _. ⌜ tablesOf (now (words .exit)) (now (values .exit)) ≡ freshTables ⌝ }
     ensures { λ _. ⌜ recordsOf (now (words .exit)) (now (values .exit)) ≡ freshRecords ⌝ }
 {
-    *words = [0; 3498];
-    *values = [0; 640];
+    *words = [0; WORDS];
+    *values = [0; VALUES];
     pass::fill(&mut *words, server::VOLUME_EPOCH, 8, 1);
     pass::fill(&mut *words, server::VERSION, 32, 1);
     pass::fill(&mut *words, client::REQUEST_NEXT, 16, 1);

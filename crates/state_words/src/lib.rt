@@ -5,6 +5,12 @@ pub mod network;
 pub mod pass;
 pub mod server;
 
+// the stride of a field with one word for each client and volume
+pub const VOLUMES: usize = 8;
+
+// the stride of a field with one word for each client and object
+pub const OBJECTS: usize = 32;
+
 // the words hold all 32-bit numbers and all flags
 pub const WORDS: usize = 3498;
 

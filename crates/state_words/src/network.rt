@@ -9,3 +9,6 @@ pub const MESSAGES: usize = 2;
 
 // in the values: one per message
 pub const MESSAGE_VALUE: usize = 0;
+
+// the number of words in a row
+pub const ROW: usize = 9;

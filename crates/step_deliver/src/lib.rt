@@ -3,7 +3,7 @@ ghost use mathlib.Core.Bool.{true};
 ghost use mathlib.Core.Path.{_≡_};
 ghost use Prim.Native.Nat.{_≤_, _<_};
 ghost use Rattle.protocol.specs.Setup.{inRange};
-ghost use Rattle.protocol.specs.Sound.{kindSound, tablesSound};
+ghost use Rattle.protocol.specs.Sound.{clockLimit, kindSound, tablesSound};
 ghost use Rattle.protocol.specs.SoundLaws.{Growing};
 ghost use Rattle.protocol.specs.Decide.{byClient, answered, deliverDecided};
 ghost use Rattle.state_words.specs.View.{tablesOf, recordsOf};
@@ -31,7 +31,7 @@ use step_verdict::Verdict;
 // Receives RENEW, ACK and DROPPED at the server. Returns the number of writes completed.
 fn by_server(s: Setup, words: &mut Words, values: &mut Values, client: usize, k: Kind) -> u32
     requires { ⌜ inRange s ≡ true ⌝ }
-    requires { ⌜ tablesOf (now words) (now values) .clock ≤ 2147483647 ⌝ }
+    requires { ⌜ tablesOf (now words) (now values) .clock ≤ clockLimit ⌝ }
     requires { ⌜ Growing s (tablesOf (now words) (now values) .objects) ⌝ }
     requires { ⌜ client < s .clients ⌝ }
     requires { ⌜ kindSound s k ≡ true ⌝ }

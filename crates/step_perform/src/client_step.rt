@@ -55,7 +55,7 @@ pub fn of_client(
     ensures { λ g. ⌜ answered g (tablesOf (now (words .exit)) (now (values .exit))) Done ≡ performed s (tablesOf (now (words .entry)) (now (values .entry))) c r step ⌝ }
     ensures { λ _. ⌜ recordsOf (now (words .exit)) (now (values .exit)) ≡ recordsOf (now (words .entry)) (now (values .entry)) ⌝ }
 {
-    if step.kind == 3 {
+    if step.kind == known_kinds::ASK {
         client_steps::ask(s, words, values, c, r, step.client, step.object);
         return asking(step.object);
     }

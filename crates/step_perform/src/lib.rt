@@ -43,13 +43,13 @@ pub fn perform(
     ensures { λ v. ⌜ answered (v .change) (tablesOf (now (words .exit)) (now (values .exit))) (v .answer) ≡ performed s (tablesOf (now (words .entry)) (now (values .entry))) c r step ⌝ }
     ensures { λ _. ⌜ recordsOf (now (words .exit)) (now (values .exit)) ≡ recordsOf (now (words .entry)) (now (values .entry)) ⌝ }
 {
-    if step.kind == 2 {
+    if step.kind == known_kinds::READ {
         return read(s, &*words, c, step);
     }
     if known_kinds::uses_client(step) {
         return step_verdict::changing(crate::client_step::of_client(s, words, values, c, r, step));
     }
-    if step.kind == 5 {
+    if step.kind == known_kinds::DELIVER {
         return step_deliver::deliver(s, words, values, c, r, step.place as usize);
     }
     step_verdict::counting(crate::other_step::of_no_client(s, words, values, step))

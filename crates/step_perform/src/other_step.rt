@@ -28,13 +28,19 @@ pub fn of_no_client(s: Setup, words: &mut Words, values: &mut Values, step: Step
 {
     let kind = step.kind;
     match kind {
-        1 => settle::pass_time(s, words, values, step.clock),
-        4 => server_write::accept::accept_write(s, words, values, step.object as usize, step.value),
-        6 => {
+        known_kinds::CLOCK => settle::pass_time(s, words, values, step.clock),
+        known_kinds::WRITE => server_write::accept::accept_write(
+            s,
+            words,
+            values,
+            step.object as usize,
+            step.value,
+        ),
+        known_kinds::LOSE => {
             remove(words, values, step.place as usize);
             0
         }
-        7 => {
+        known_kinds::DOUBLE => {
             double(words, values, step.place as usize);
             0
         }

@@ -61,7 +61,7 @@ fn target_at(s: Setup, client: u8, object: u8) -> Target
 pub fn target<'a>(s: Setup, words: &'a Words, values: &'a Values, step: Step) -> Target
     ensures { λ r. ⌜ r ≡ target s (tablesOf (now (words .entry)) (now (values .entry))) step ⌝ }
 {
-    if step.kind == 5 {
+    if step.kind == known_kinds::DELIVER {
         let m = list::message_at(words, values, step.place as usize);
         let k = m.kind;
         return target_at(s, m.client, object_of(k));

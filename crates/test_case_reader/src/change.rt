@@ -121,7 +121,12 @@ fn put_message(words: &mut Words, field: u64, place: usize, number: u64) {
         if 41 <= field {
             let offset = (field - 41) as usize;
             if offset < 9 {
-                put(words, network::MESSAGES, place * 9 + offset, number);
+                put(
+                    words,
+                    network::MESSAGES,
+                    place * network::ROW + offset,
+                    number,
+                );
             }
         }
     }
