@@ -25,22 +25,22 @@ use state_words::Values;
 use state_words::Words;
 
 // Returns the copy that the step can touch.
-pub fn copy_of<'a>(s: Setup, words: &'a Words, values: &'a Values, at: Target) -> Copy
-    requires { ⌜ inRange s ≡ true ⌝ }
-    ensures { λ r. ⌜ r ≡ getD (worldOf s (now (words .entry)) (now (values .entry)) .copies) (at .copy) noCopy ⌝ }
+pub fn copy_of<'a>(setup: Setup, words: &'a Words, values: &'a Values, at: Target) -> Copy
+    requires { ⌜ inRange setup ≡ true ⌝ }
+    ensures { λ r. ⌜ r ≡ getD (worldOf setup (now (words .entry)) (now (values .entry)) .copies) (at .copy) noCopy ⌝ }
 {
-    if at.copy < s.clients as usize * s.objects as usize {
+    if at.copy < setup.clients as usize * setup.objects as usize {
         return copies::copy_at(words, values, at.copy);
     }
     copy::none()
 }
 
 // Returns the request that the step can touch. Only the contract needs the values.
-pub fn request_of<'a>(s: Setup, words: &'a Words, values: &'a Values, at: Target) -> Request
-    requires { ⌜ inRange s ≡ true ⌝ }
-    ensures { λ r. ⌜ r ≡ getD (worldOf s (now (words .entry)) (now (values .entry)) .requests) (at .client) noRequest ⌝ }
+pub fn request_of<'a>(setup: Setup, words: &'a Words, values: &'a Values, at: Target) -> Request
+    requires { ⌜ inRange setup ≡ true ⌝ }
+    ensures { λ r. ⌜ r ≡ getD (worldOf setup (now (words .entry)) (now (values .entry)) .requests) (at .client) noRequest ⌝ }
 {
-    if at.client < s.clients as usize {
+    if at.client < setup.clients as usize {
         return requests::request_at(words, at.client);
     }
     Request {
@@ -52,67 +52,67 @@ pub fn request_of<'a>(s: Setup, words: &'a Words, values: &'a Values, at: Target
 }
 
 // Stores a copy if its place is within the setup.
-fn put_copy(s: Setup, words: &mut Words, values: &mut Values, place: usize, c: Copy)
-    requires { ⌜ inRange s ≡ true ⌝ }
-    ensures { λ _. ⌜ worldOf s (now (words .exit)) (now (values .exit)) ≡ copyPut (worldOf s (now (words .entry)) (now (values .entry))) place c ⌝ }
+fn put_copy(setup: Setup, words: &mut Words, values: &mut Values, place: usize, c: Copy)
+    requires { ⌜ inRange setup ≡ true ⌝ }
+    ensures { λ _. ⌜ worldOf setup (now (words .exit)) (now (values .exit)) ≡ copyPut (worldOf setup (now (words .entry)) (now (values .entry))) place c ⌝ }
 {
-    if place < s.clients as usize * s.objects as usize {
+    if place < setup.clients as usize * setup.objects as usize {
         copies::put_copy(&mut *words, &mut *values, place, c);
         return;
     }
 }
 
 // Applies a change to one copy. Most steps keep it; then nothing is read or stored.
-fn change_copy(s: Setup, words: &mut Words, values: &mut Values, place: usize, u: CopyChange)
-    requires { ⌜ inRange s ≡ true ⌝ }
-    ensures { λ _. ⌜ worldOf s (now (words .exit)) (now (values .exit)) ≡ copyChanged (worldOf s (now (words .entry)) (now (values .entry))) place u ⌝ }
+fn change_copy(setup: Setup, words: &mut Words, values: &mut Values, place: usize, u: CopyChange)
+    requires { ⌜ inRange setup ≡ true ⌝ }
+    ensures { λ _. ⌜ worldOf setup (now (words .exit)) (now (values .exit)) ≡ copyChanged (worldOf setup (now (words .entry)) (now (values .entry))) place u ⌝ }
 {
     match u {
         CopyChange::Keep => {}
-        CopyChange::Fill(c) => put_copy(s, &mut *words, &mut *values, place, c),
-        CopyChange::Erase => put_copy(s, &mut *words, &mut *values, place, copy::none()),
+        CopyChange::Fill(c) => put_copy(setup, &mut *words, &mut *values, place, c),
+        CopyChange::Erase => put_copy(setup, &mut *words, &mut *values, place, copy::none()),
     }
 }
 
 // Sweeps all copies of a client if the setup has that client.
-fn sweep_client(s: Setup, words: &mut Words, values: &mut Values, at: Target, g: Sweep)
-    requires { ⌜ inRange s ≡ true ⌝ }
-    requires { ⌜ at .first ≡ at .client * s .objects ⌝ }
-    ensures { λ _. ⌜ worldOf s (now (words .exit)) (now (values .exit)) ≡ sweptOf s g (at .first) (s .objects) (worldOf s (now (words .entry)) (now (values .entry))) ⌝ }
+fn sweep_client(setup: Setup, words: &mut Words, values: &mut Values, at: Target, g: Sweep)
+    requires { ⌜ inRange setup ≡ true ⌝ }
+    requires { ⌜ at .first ≡ at .client * setup .objects ⌝ }
+    ensures { λ _. ⌜ worldOf setup (now (words .exit)) (now (values .exit)) ≡ sweptOf setup g (at .first) (setup .objects) (worldOf setup (now (words .entry)) (now (values .entry))) ⌝ }
 {
-    if at.client < s.clients as usize {
+    if at.client < setup.clients as usize {
         copies::sweep(
-            s,
+            setup,
             &mut *words,
             &mut *values,
             g,
             at.first,
-            s.objects as usize,
+            setup.objects as usize,
         );
         return;
     }
 }
 
 // Sweeps a client's copies, or skips the pass if they are kept.
-fn sweep(s: Setup, words: &mut Words, values: &mut Values, at: Target, g: Sweep)
-    requires { ⌜ inRange s ≡ true ⌝ }
-    requires { ⌜ at .first ≡ at .client * s .objects ⌝ }
-    ensures { λ _. ⌜ worldOf s (now (words .exit)) (now (values .exit)) ≡ sweptOf s g (at .first) (sweeps g (s .objects)) (worldOf s (now (words .entry)) (now (values .entry))) ⌝ }
+fn sweep(setup: Setup, words: &mut Words, values: &mut Values, at: Target, g: Sweep)
+    requires { ⌜ inRange setup ≡ true ⌝ }
+    requires { ⌜ at .first ≡ at .client * setup .objects ⌝ }
+    ensures { λ _. ⌜ worldOf setup (now (words .exit)) (now (values .exit)) ≡ sweptOf setup g (at .first) (sweeps g (setup .objects)) (worldOf setup (now (words .entry)) (now (values .entry))) ⌝ }
 {
     match g {
         Sweep::Keep => {}
-        Sweep::Expire(_) => sweep_client(s, &mut *words, &mut *values, at, g),
-        Sweep::Erase => sweep_client(s, &mut *words, &mut *values, at, g),
+        Sweep::Expire(_) => sweep_client(setup, &mut *words, &mut *values, at, g),
+        Sweep::Erase => sweep_client(setup, &mut *words, &mut *values, at, g),
     }
 }
 
 // Applies a turn to a client's request if the setup has that client. Only the contract needs the values.
-fn turn_client(s: Setup, words: &mut Words, values: &Values, client: usize, u: Turn)
-    requires { ⌜ inRange s ≡ true ⌝ }
-    requires { ⌜ CanTurn (getD (worldOf s (now words) (now values) .requests) client noRequest) u ⌝ }
-    ensures { λ _. ⌜ worldOf s (now (words .exit)) (now (values .entry)) ≡ requestTurned (worldOf s (now (words .entry)) (now (values .entry))) client u ⌝ }
+fn turn_client(setup: Setup, words: &mut Words, values: &Values, client: usize, u: Turn)
+    requires { ⌜ inRange setup ≡ true ⌝ }
+    requires { ⌜ CanTurn (getD (worldOf setup (now words) (now values) .requests) client noRequest) u ⌝ }
+    ensures { λ _. ⌜ worldOf setup (now (words .exit)) (now (values .entry)) ≡ requestTurned (worldOf setup (now (words .entry)) (now (values .entry))) client u ⌝ }
 {
-    if client < s.clients as usize {
+    if client < setup.clients as usize {
         let r = requests::request_at(&*words, client);
         let turned = request::turn(r, u);
         requests::put_request(&mut *words, client, turned);
@@ -121,29 +121,29 @@ fn turn_client(s: Setup, words: &mut Words, values: &Values, client: usize, u: T
 }
 
 // Applies a turn to a client's request, or skips the store if it is kept.
-fn turn(s: Setup, words: &mut Words, values: &Values, client: usize, u: Turn)
-    requires { ⌜ inRange s ≡ true ⌝ }
-    requires { ⌜ CanTurn (getD (worldOf s (now words) (now values) .requests) client noRequest) u ⌝ }
-    ensures { λ _. ⌜ worldOf s (now (words .exit)) (now (values .entry)) ≡ requestTurned (worldOf s (now (words .entry)) (now (values .entry))) client u ⌝ }
+fn turn(setup: Setup, words: &mut Words, values: &Values, client: usize, u: Turn)
+    requires { ⌜ inRange setup ≡ true ⌝ }
+    requires { ⌜ CanTurn (getD (worldOf setup (now words) (now values) .requests) client noRequest) u ⌝ }
+    ensures { λ _. ⌜ worldOf setup (now (words .exit)) (now (values .entry)) ≡ requestTurned (worldOf setup (now (words .entry)) (now (values .entry))) client u ⌝ }
 {
     match u {
         Turn::Keep => {}
-        Turn::Take(_) => turn_client(s, &mut *words, values, client, u),
-        Turn::End => turn_client(s, &mut *words, values, client, u),
+        Turn::Take(_) => turn_client(setup, &mut *words, values, client, u),
+        Turn::End => turn_client(setup, &mut *words, values, client, u),
     }
 }
 
 // Applies a change to the records of the target's client.
-pub fn change(s: Setup, words: &mut Words, values: &mut Values, at: Target, g: Change)
-    requires { ⌜ inRange s ≡ true ⌝ }
-    requires { ⌜ at .first ≡ at .client * s .objects ⌝ }
-    requires { ⌜ CanTurn (getD (worldOf s (now words) (now values) .requests) (at .client) noRequest) (g .request) ⌝ }
-    ensures { λ _. ⌜ worldOf s (now (words .exit)) (now (values .exit)) ≡ changedAt s (worldOf s (now (words .entry)) (now (values .entry))) at g ⌝ }
+pub fn change(setup: Setup, words: &mut Words, values: &mut Values, at: Target, g: Change)
+    requires { ⌜ inRange setup ≡ true ⌝ }
+    requires { ⌜ at .first ≡ at .client * setup .objects ⌝ }
+    requires { ⌜ CanTurn (getD (worldOf setup (now words) (now values) .requests) (at .client) noRequest) (g .request) ⌝ }
+    ensures { λ _. ⌜ worldOf setup (now (words .exit)) (now (values .exit)) ≡ changedAt setup (worldOf setup (now (words .entry)) (now (values .entry))) at g ⌝ }
 {
     let copy = g.copy;
     let all = g.sweep;
     let request = g.request;
-    change_copy(s, &mut *words, &mut *values, at.copy, copy);
-    sweep(s, &mut *words, &mut *values, at, all);
-    turn(s, &mut *words, &*values, at.client, request);
+    change_copy(setup, &mut *words, &mut *values, at.copy, copy);
+    sweep(setup, &mut *words, &mut *values, at, all);
+    turn(setup, &mut *words, &*values, at.client, request);
 }

@@ -79,23 +79,23 @@ pub fn change(c: Copy, u: CopyChange) -> Copy
 }
 
 // Returns the object's volume, or 0 if there is no slot for it.
-fn volume_of(s: Setup, o: usize) -> u8
-    ensures { λ r. ⌜ r ≡ volumeOf s o ⌝ }
+fn volume_of(setup: Setup, o: usize) -> u8
+    ensures { λ r. ⌜ r ≡ volumeOf setup o ⌝ }
 {
     if o < 32 {
-        return s.volume[o];
+        return setup.volume[o];
     }
     0
 }
 
 // Returns a client's copy of an object after a sweep. `Expire`, for an OFFER, keeps version and value.
-pub fn sweep(s: Setup, g: Sweep, c: Copy, object: usize) -> Copy
-    ensures { λ r. ⌜ r ≡ swept s g c object ⌝ }
+pub fn sweep(setup: Setup, g: Sweep, c: Copy, object: usize) -> Copy
+    ensures { λ r. ⌜ r ≡ swept setup g c object ⌝ }
 {
     match g {
         Sweep::Keep => c,
         Sweep::Expire(v) => {
-            if volume_of(s, object) == v {
+            if volume_of(setup, object) == v {
                 return Copy {
                     version: c.version,
                     value: c.value,

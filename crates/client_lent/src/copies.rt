@@ -57,10 +57,10 @@ pub fn change(copies: &mut [Copy], i: usize, u: CopyChange)
 }
 
 // Answers question 1 for the copies: there is one per client and object, and every expiry is in range.
-pub fn sound(copies: &[Copy], s: Setup) -> bool
-    ensures { λ r. ⌜ r ≡ copiesSound s (now (copies .entry)) ⌝ }
+pub fn sound(copies: &[Copy], setup: Setup) -> bool
+    ensures { λ r. ⌜ r ≡ copiesSound setup (now (copies .entry)) ⌝ }
 {
-    let mut ok = as_many(s, copies.len());
+    let mut ok = as_many(setup, copies.len());
     let mut k = 0;
     while k < copies.len() {
         ok = still_sound(ok, copies[k]);

@@ -45,13 +45,13 @@ pub fn end_request(r: &mut Request)
 }
 
 // Answers question 1 for the requests: there is one per client, next numbers are at least 1, and the object of a standing request exists.
-pub fn sound(requests: &[Request], s: Setup) -> bool
-    ensures { λ b. ⌜ b ≡ requestsSound s (now (requests .entry)) ⌝ }
+pub fn sound(requests: &[Request], setup: Setup) -> bool
+    ensures { λ b. ⌜ b ≡ requestsSound setup (now (requests .entry)) ⌝ }
 {
-    let mut ok = as_many(s, requests.len());
+    let mut ok = as_many(setup, requests.len());
     let mut k = 0;
     while k < requests.len() {
-        ok = still_sound(ok, requests[k], s);
+        ok = still_sound(ok, requests[k], setup);
         k += 1;
     }
     ok

@@ -9,14 +9,14 @@ use protocol::setup::Setup;
 use protocol::step::Sweep;
 
 // Sweeps one client's copies, which begin at `first`: sets the expiries of one volume's objects to 0, or erases all copies.
-pub fn sweep(copies: &mut [Copy], s: Setup, g: Sweep, first: usize)
-    ensures { λ _. ⌜ now (copies .exit) ≡ client.sweptAll s g first (now (copies .entry)) ⌝ }
+pub fn sweep(copies: &mut [Copy], setup: Setup, g: Sweep, first: usize)
+    ensures { λ _. ⌜ now (copies .exit) ≡ client.sweptAll setup g first (now (copies .entry)) ⌝ }
 {
-    let to = stop_at(s, g, first, copies.len());
+    let to = stop_at(setup, g, first, copies.len());
     let mut k = first;
     while k < to {
         let c = look(&*copies, k);
-        let f = swept_at(s, g, c, k, first);
+        let f = swept_at(setup, g, c, k, first);
         store(&mut *copies, k, f);
         k += 1;
     }

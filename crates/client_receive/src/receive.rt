@@ -36,7 +36,7 @@ pub struct Terms {
 
 // GRANT: "needs the standing number, else nothing", and then "store its fields, epoch too, and end the request".
 pub fn grant(
-    s: Setup,
+    setup: Setup,
     words: &mut Words,
     values: &Values,
     c: Copy,
@@ -45,14 +45,14 @@ pub fn grant(
     object: u8,
     g: Terms,
 ) -> Change
-    requires { ⌜ inRange s ≡ true ⌝ }
-    requires { ⌜ client < s .clients ⌝ }
-    requires { ⌜ object < s .objects ⌝ }
-    ensures { λ u. ⌜ byClient u (tablesOf (now (words .exit)) (now (values .entry))) ≡ grantHeard s (tablesOf (now (words .entry)) (now (values .entry))) c r client object g ⌝ }
+    requires { ⌜ inRange setup ≡ true ⌝ }
+    requires { ⌜ client < setup .clients ⌝ }
+    requires { ⌜ object < setup .objects ⌝ }
+    ensures { λ u. ⌜ byClient u (tablesOf (now (words .exit)) (now (values .entry))) ≡ grantHeard setup (tablesOf (now (words .entry)) (now (values .entry))) c r client object g ⌝ }
     ensures { λ _. ⌜ recordsOf (now (words .exit)) (now (values .entry)) ≡ recordsOf (now (words .entry)) (now (values .entry)) ⌝ }
 {
     if request::stands(r, g.number) {
-        let volume = place::volume_of(s, object as usize);
+        let volume = place::volume_of(setup, object as usize);
         view::put(
             &mut *words,
             client as usize,

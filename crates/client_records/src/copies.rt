@@ -37,16 +37,16 @@ pub fn put_copy(words: &mut Words, values: &mut Values, place: usize, c: Copy)
 }
 
 // Sweeps n copies, beginning at `first`.
-pub fn sweep(s: Setup, words: &mut Words, values: &mut Values, g: Sweep, first: usize, n: usize)
+pub fn sweep(setup: Setup, words: &mut Words, values: &mut Values, g: Sweep, first: usize, n: usize)
     requires { ⌜ first + n ≤ 512 ⌝ }
     ensures { λ _. ⌜ tablesOf (now (words .exit)) (now (values .exit)) ≡ tablesOf (now (words .entry)) (now (values .entry)) ⌝ }
-    ensures { λ _. ⌜ recordsOf (now (words .exit)) (now (values .exit)) ≡ sweptOver s g first n (recordsOf (now (words .entry)) (now (values .entry))) ⌝ }
+    ensures { λ _. ⌜ recordsOf (now (words .exit)) (now (values .exit)) ≡ sweptOver setup g first n (recordsOf (now (words .entry)) (now (values .entry))) ⌝ }
 {
     let end = first + n;
     let mut place = first;
     while place < end {
         let c = copy_at(&*words, &*values, place);
-        let swept = copy::sweep(s, g, c, place - first);
+        let swept = copy::sweep(setup, g, c, place - first);
         put_copy(&mut *words, &mut *values, place, swept);
         place += 1;
     }

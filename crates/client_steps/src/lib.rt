@@ -22,13 +22,13 @@ use state_words::network;
 use state_words::pass;
 
 // Step 2: "shown with its value; else "ask first"". Changes no table and no record.
-pub fn read(s: Setup, words: &Words, c: Copy, client: u8, object: u8) -> Answer
-    requires { ⌜ inRange s ≡ true ⌝ }
-    requires { ⌜ client < s .clients ⌝ }
-    requires { ⌜ object < s .objects ⌝ }
-    ensures { λ a. ⌜ a ≡ readDecided s (numbersOf (now (words .entry))) c client object .outcome .answer ⌝ }
+pub fn read(setup: Setup, words: &Words, c: Copy, client: u8, object: u8) -> Answer
+    requires { ⌜ inRange setup ≡ true ⌝ }
+    requires { ⌜ client < setup .clients ⌝ }
+    requires { ⌜ object < setup .objects ⌝ }
+    ensures { λ a. ⌜ a ≡ readDecided setup (numbersOf (now (words .entry))) c client object .outcome .answer ⌝ }
 {
-    let volume = place::volume_of(s, object as usize);
+    let volume = place::volume_of(setup, object as usize);
     let clock = words[network::CLOCK];
     let expiry = words[client::VIEW_EXPIRY + (client as usize * VOLUMES + volume)];
     if copy::showable(clock, expiry, c) {
@@ -39,7 +39,7 @@ pub fn read(s: Setup, words: &Words, c: Copy, client: u8, object: u8) -> Answer
 
 // Step 3: "send RENEW with number, known epoch and held version". `client_cache::request::number` takes the number.
 pub fn ask(
-    s: Setup,
+    setup: Setup,
     words: &mut Words,
     values: &mut Values,
     c: Copy,
@@ -47,13 +47,13 @@ pub fn ask(
     client: u8,
     object: u8,
 )
-    requires { ⌜ inRange s ≡ true ⌝ }
-    requires { ⌜ client < s .clients ⌝ }
-    requires { ⌜ object < s .objects ⌝ }
-    ensures { λ _. ⌜ tablesOf (now (words .exit)) (now (values .exit)) ≡ askDecided s (tablesOf (now (words .entry)) (now (values .entry))) c r client object .outcome .tables ⌝ }
+    requires { ⌜ inRange setup ≡ true ⌝ }
+    requires { ⌜ client < setup .clients ⌝ }
+    requires { ⌜ object < setup .objects ⌝ }
+    ensures { λ _. ⌜ tablesOf (now (words .exit)) (now (values .exit)) ≡ askDecided setup (tablesOf (now (words .entry)) (now (values .entry))) c r client object .outcome .tables ⌝ }
     ensures { λ _. ⌜ recordsOf (now (words .exit)) (now (values .exit)) ≡ recordsOf (now (words .entry)) (now (values .entry)) ⌝ }
 {
-    let volume = place::volume_of(s, object as usize);
+    let volume = place::volume_of(setup, object as usize);
     let epoch = words[client::VIEW_EPOCH + (client as usize * VOLUMES + volume)];
     let kind = Kind::Renew {
         object,
@@ -65,13 +65,13 @@ pub fn ask(
 }
 
 // Step 9: "only its next request number remains". Clears what the client knows of each volume. Only the contract needs the values.
-pub fn restart(s: Setup, words: &mut Words, values: &Values, client: u8)
-    requires { ⌜ inRange s ≡ true ⌝ }
-    requires { ⌜ client < s .clients ⌝ }
-    ensures { λ _. ⌜ tablesOf (now (words .exit)) (now (values .entry)) ≡ restartDecided s (tablesOf (now (words .entry)) (now (values .entry))) client .outcome .tables ⌝ }
+pub fn restart(setup: Setup, words: &mut Words, values: &Values, client: u8)
+    requires { ⌜ inRange setup ≡ true ⌝ }
+    requires { ⌜ client < setup .clients ⌝ }
+    ensures { λ _. ⌜ tablesOf (now (words .exit)) (now (values .entry)) ≡ restartDecided setup (tablesOf (now (words .entry)) (now (values .entry))) client .outcome .tables ⌝ }
     ensures { λ _. ⌜ recordsOf (now (words .exit)) (now (values .entry)) ≡ recordsOf (now (words .entry)) (now (values .entry)) ⌝ }
 {
-    let n = s.volumes as usize;
+    let n = setup.volumes as usize;
     let first = client as usize * 8;
     pass::fill(&mut *words, client::VIEW_EPOCH + first, n, 0);
     pass::fill(&mut *words, client::VIEW_EXPIRY + first, n, 0);

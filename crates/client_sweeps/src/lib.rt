@@ -18,11 +18,11 @@ fn less(a: usize, b: usize) -> usize
 }
 
 // Returns the swept copy at place k of a list in which the client's copies begin at `first`.
-pub fn swept_at(s: Setup, g: Sweep, c: Copy, k: usize, first: usize) -> Copy
-    ensures { λ r. ⌜ r ≡ client.swept s g c (k - first) ⌝ }
+pub fn swept_at(setup: Setup, g: Sweep, c: Copy, k: usize, first: usize) -> Copy
+    ensures { λ r. ⌜ r ≡ client.swept setup g c (k - first) ⌝ }
 {
     let o = less(k, first);
-    client_cache::copy::sweep(s, g, c, o)
+    client_cache::copy::sweep(setup, g, c, o)
 }
 
 // Returns the number of copies that a sweep visits.
@@ -50,9 +50,9 @@ fn stop(first: usize, n: usize, len: usize) -> usize
 }
 
 // Returns where a sweep stops in a list of length `len`.
-pub fn stop_at(s: Setup, g: Sweep, first: usize, len: usize) -> usize
-    ensures { λ r. ⌜ r ≡ stopOf first (client.sweeps g (s .objects)) len ⌝ }
+pub fn stop_at(setup: Setup, g: Sweep, first: usize, len: usize) -> usize
+    ensures { λ r. ⌜ r ≡ stopOf first (client.sweeps g (setup .objects)) len ⌝ }
 {
-    let n = sweeps(g, s.objects);
+    let n = sweeps(g, setup.objects);
     stop(first, n, len)
 }

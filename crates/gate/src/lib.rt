@@ -14,18 +14,18 @@ pub mod steps;
 // Returns the number of the first of the six questions whose answer is "no", or 0 if the step is accepted. Takes any input; `records` says whether all
 // client records are sound.
 pub fn refusal(
-    s: Setup,
+    setup: Setup,
     words: &Words,
     values: &Values,
     records: bool,
     request: Request,
     step: Step,
 ) -> u8
-    ensures { λ r. ⌜ r ≡ refusal s (tablesOf (now (words .entry)) (now (values .entry))) records request step ⌝ }
+    ensures { λ r. ⌜ r ≡ refusal setup (tablesOf (now (words .entry)) (now (values .entry))) records request step ⌝ }
 {
-    if setup::in_range(s) {
-        let whole = records & tables_sound(s, words, values);
-        let next = steps::refusal_of_step(s, words, values, request, step);
+    if setup::in_range(setup) {
+        let whole = records & tables_sound(setup, words, values);
+        let next = steps::refusal_of_step(setup, words, values, request, step);
         return steps::or_refuse(whole, 1, next);
     }
     1

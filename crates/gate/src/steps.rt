@@ -21,15 +21,21 @@ pub fn or_refuse(ok: bool, number: u8, next: u8) -> u8
 }
 
 // Returns the number of the first "no" to questions 2 ("Is the kind 1 to 9?") to 6, or 0. Only the contract needs `values`: it is about whole tables.
-pub fn refusal_of_step(s: Setup, words: &Words, values: &Values, request: Request, step: Step) -> u8
-    requires { ⌜ inRange s ≡ true ⌝ }
-    ensures { λ r. ⌜ r ≡ refusalOfStep s (tablesOf (now (words .entry)) (now (values .entry))) request step ⌝ }
+pub fn refusal_of_step(
+    setup: Setup,
+    words: &Words,
+    values: &Values,
+    request: Request,
+    step: Step,
+) -> u8
+    requires { ⌜ inRange setup ≡ true ⌝ }
+    ensures { λ r. ⌜ r ≡ refusalOfStep setup (tablesOf (now (words .entry)) (now (values .entry))) request step ⌝ }
 {
     let known = known_kinds::known(step);
-    let exists = gate_questions::exists(s, words, step);
+    let exists = gate_questions::exists(setup, words, step);
     let timely = gate_questions::timely(words, step);
     let vacant = gate_questions::vacant(words, step);
-    let growable = gate_questions::growth::growable(s, words, request, step);
+    let growable = gate_questions::growth::growable(setup, words, request, step);
     let sixth = or_refuse(growable, 6, 0);
     let fifth = or_refuse(vacant, 5, sixth);
     let fourth = or_refuse(timely, 4, fifth);

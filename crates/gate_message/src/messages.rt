@@ -6,8 +6,8 @@ use protocol::setup::Setup;
 use setup::limits;
 
 // Returns whether the fields of this kind are sound: "named items existing", and a GRANT's expiries in range.
-fn kind_sound(s: Setup, kind: Kind) -> bool
-    ensures { λ r. ⌜ r ≡ kindSound s kind ⌝ }
+fn kind_sound(setup: Setup, kind: Kind) -> bool
+    ensures { λ r. ⌜ r ≡ kindSound setup kind ⌝ }
 {
     match kind {
         Kind::Renew {
@@ -15,7 +15,7 @@ fn kind_sound(s: Setup, kind: Kind) -> bool
             number: _,
             epoch: _,
             version: _,
-        } => (object as u32) < s.objects,
+        } => (object as u32) < setup.objects,
         Kind::Grant {
             object,
             number: _,
@@ -24,37 +24,37 @@ fn kind_sound(s: Setup, kind: Kind) -> bool
             version: _,
             object_expiry,
             payload: _,
-        } => ((object as u32) < s.objects)
+        } => ((object as u32) < setup.objects)
             & (volume_expiry <= limits::LAST_END)
             & (object_expiry <= limits::LAST_END),
         Kind::Invalidate {
             object,
             epoch: _,
             version: _,
-        } => (object as u32) < s.objects,
+        } => (object as u32) < setup.objects,
         Kind::Ack {
             object,
             epoch: _,
             version: _,
-        } => (object as u32) < s.objects,
+        } => (object as u32) < setup.objects,
         Kind::Offer {
             volume,
             number: _,
             epoch: _,
-        } => (volume as u32) < s.volumes,
+        } => (volume as u32) < setup.volumes,
         Kind::Dropped {
             volume,
             number: _,
             epoch: _,
-        } => (volume as u32) < s.volumes,
+        } => (volume as u32) < setup.volumes,
     }
 }
 
 // Returns whether the message's client exists and the fields of its kind are sound.
-pub fn message_sound(s: Setup, message: Message) -> bool
-    ensures { λ r. ⌜ r ≡ messageSound s message ⌝ }
+pub fn message_sound(setup: Setup, message: Message) -> bool
+    ensures { λ r. ⌜ r ≡ messageSound setup message ⌝ }
 {
     let kind = message.kind;
-    let named = (message.client as u32) < s.clients;
-    named & kind_sound(s, kind)
+    let named = (message.client as u32) < setup.clients;
+    named & kind_sound(setup, kind)
 }

@@ -43,12 +43,12 @@ fn epochs_grow(words: &Words, n: usize) -> bool
 }
 
 // Answers question 6: a write increases a version, a server restart every epoch, an ask the client's next request number.
-pub fn growable(s: Setup, words: &Words, request: Request, step: Step) -> bool
-    requires { ⌜ inRange s ≡ true ⌝ }
-    ensures { λ r. ⌜ r ≡ growable s (numbersOf (now (words .entry))) request step ⌝ }
+pub fn growable(setup: Setup, words: &Words, request: Request, step: Step) -> bool
+    requires { ⌜ inRange setup ≡ true ⌝ }
+    ensures { λ r. ⌜ r ≡ growable setup (numbersOf (now (words .entry))) request step ⌝ }
 {
     let version = version_grows(words, step);
-    let epochs = epochs_grow(words, s.volumes as usize);
+    let epochs = epochs_grow(words, setup.volumes as usize);
     version
         & ((step.kind != known_kinds::RESTART_SERVER) | epochs)
         & ((step.kind != known_kinds::ASK) | (request.next < limits::LARGEST))

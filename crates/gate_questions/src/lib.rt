@@ -12,11 +12,11 @@ use state_words::network;
 use state_words::server;
 
 // Answers question 3: "Do the dash, object and place it uses exist?"
-pub fn exists(s: Setup, words: &Words, step: Step) -> bool
-    ensures { λ r. ⌜ r ≡ exists s (numbersOf (now (words .entry))) step ⌝ }
+pub fn exists(setup: Setup, words: &Words, step: Step) -> bool
+    ensures { λ r. ⌜ r ≡ exists setup (numbersOf (now (words .entry))) step ⌝ }
 {
-    (!known_kinds::uses_client(step) | ((step.client as u32) < s.clients))
-        & (!known_kinds::uses_object(step) | ((step.object as u32) < s.objects))
+    (!known_kinds::uses_client(step) | ((step.client as u32) < setup.clients))
+        & (!known_kinds::uses_object(step) | ((step.object as u32) < setup.objects))
         & (!known_kinds::uses_place(step) | ((step.place as u32) < words[network::LENGTH]))
 }
 

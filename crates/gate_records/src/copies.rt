@@ -15,11 +15,11 @@ pub fn copy_sound(copy: Copy) -> bool
 }
 
 // Returns whether there is one copy for each client and object: "dash by dash in object order; another length is unsound".
-pub fn as_many(s: Setup, len: usize) -> bool
-    ensures { λ r. ⌜ r ≡ eqb len (s .clients * s .objects) ⌝ }
+pub fn as_many(setup: Setup, len: usize) -> bool
+    ensures { λ r. ⌜ r ≡ eqb len (setup .clients * setup .objects) ⌝ }
 {
-    let clients = s.clients as usize;
-    let objects = s.objects as usize;
+    let clients = setup.clients as usize;
+    let objects = setup.objects as usize;
     len == clients * objects
 }
 

@@ -9,8 +9,8 @@ use state_words::Words;
 use state_words::network;
 
 // Returns whether the message list is sound: "at most 64 messages", each of them sound.
-pub fn queue_sound(s: Setup, words: &Words, values: &Values) -> bool
-    ensures { λ r. ⌜ r ≡ queueSound s (tablesOf (now (words .entry)) (now (values .entry)) .queue) ⌝ }
+pub fn queue_sound(setup: Setup, words: &Words, values: &Values) -> bool
+    ensures { λ r. ⌜ r ≡ queueSound setup (tablesOf (now (words .entry)) (now (values .entry)) .queue) ⌝ }
 {
     let length = words[network::LENGTH];
     if 64 < length {
@@ -21,7 +21,7 @@ pub fn queue_sound(s: Setup, words: &Words, values: &Values) -> bool
     let mut i = 0;
     while i < n {
         let message = list::message_at(words, values, i);
-        ok = ok & message_sound(s, message);
+        ok = ok & message_sound(setup, message);
         i += 1;
     }
     ok

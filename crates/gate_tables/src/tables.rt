@@ -87,44 +87,44 @@ fn holders_fit(words: &Words, client: usize, n: usize) -> bool
 }
 
 // Returns whether the volume leases of all clients are in range.
-fn all_sessions_fit(s: Setup, words: &Words) -> bool
-    requires { ⌜ inRange s ≡ true ⌝ }
-    ensures { λ r. ⌜ r ≡ allFrom (sessionsSound s (numbersOf (now (words .entry)))) 0 (s .clients) ⌝ }
+fn all_sessions_fit(setup: Setup, words: &Words) -> bool
+    requires { ⌜ inRange setup ≡ true ⌝ }
+    ensures { λ r. ⌜ r ≡ allFrom (sessionsSound setup (numbersOf (now (words .entry)))) 0 (setup .clients) ⌝ }
 {
-    let clients = s.clients as usize;
+    let clients = setup.clients as usize;
     let mut ok = true;
     let mut client = 0;
     while client < clients {
-        ok = ok & sessions_fit(words, client, s.volumes as usize);
+        ok = ok & sessions_fit(words, client, setup.volumes as usize);
         client += 1;
     }
     ok
 }
 
 // Returns whether the object leases of all clients are in range.
-fn all_holders_fit(s: Setup, words: &Words) -> bool
-    requires { ⌜ inRange s ≡ true ⌝ }
-    ensures { λ r. ⌜ r ≡ allFrom (holdersSound s (numbersOf (now (words .entry)))) 0 (s .clients) ⌝ }
+fn all_holders_fit(setup: Setup, words: &Words) -> bool
+    requires { ⌜ inRange setup ≡ true ⌝ }
+    ensures { λ r. ⌜ r ≡ allFrom (holdersSound setup (numbersOf (now (words .entry)))) 0 (setup .clients) ⌝ }
 {
-    let clients = s.clients as usize;
+    let clients = setup.clients as usize;
     let mut ok = true;
     let mut client = 0;
     while client < clients {
-        ok = ok & holders_fit(words, client, s.objects as usize);
+        ok = ok & holders_fit(words, client, setup.objects as usize);
         client += 1;
     }
     ok
 }
 
 // Answers question 1 for the tables and the message list. The setup and the client records are checked elsewhere.
-pub fn tables_sound(s: Setup, words: &Words, values: &Values) -> bool
-    requires { ⌜ inRange s ≡ true ⌝ }
-    ensures { λ r. ⌜ r ≡ tablesSound s (tablesOf (now (words .entry)) (now (values .entry))) ⌝ }
+pub fn tables_sound(setup: Setup, words: &Words, values: &Values) -> bool
+    requires { ⌜ inRange setup ≡ true ⌝ }
+    ensures { λ r. ⌜ r ≡ tablesSound setup (tablesOf (now (words .entry)) (now (values .entry))) ⌝ }
 {
-    let volumes = volumes_fit(words, s.volumes as usize);
-    let objects = objects_fit(words, s.objects as usize);
-    let sessions = all_sessions_fit(s, words);
-    let holders = all_holders_fit(s, words);
-    let queue = messages::queue_sound(s, words, values);
+    let volumes = volumes_fit(words, setup.volumes as usize);
+    let objects = objects_fit(words, setup.objects as usize);
+    let sessions = all_sessions_fit(setup, words);
+    let holders = all_holders_fit(setup, words);
+    let queue = messages::queue_sound(setup, words, values);
     (words[network::CLOCK] <= limits::LAST_CLOCK) & volumes & objects & sessions & holders & queue
 }

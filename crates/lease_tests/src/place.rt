@@ -7,10 +7,10 @@ ghost use Rattle.lease_tests.specs.Parts.{Placed};
 use protocol::setup::Setup;
 
 // Returns the object's volume, with the bounds that accesses to the tables need.
-pub fn volume_of(s: Setup, object: usize) -> usize
-    requires { ⌜ inRange s ≡ true ⌝ }
-    requires { ⌜ object < s .objects ⌝ }
-    ensures { λ r. ⌜ Placed s object r ⌝ }
+pub fn volume_of(setup: Setup, object: usize) -> usize
+    requires { ⌜ inRange setup ≡ true ⌝ }
+    requires { ⌜ object < setup .objects ⌝ }
+    ensures { λ r. ⌜ Placed setup object r ⌝ }
 {
-    s.volume[object] as usize
+    setup.volume[object] as usize
 }

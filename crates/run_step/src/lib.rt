@@ -15,20 +15,20 @@ use step_perform::perform;
 use step_target::target;
 
 // Performs one step on a sound world. Returns the answer.
-pub fn advance(s: Setup, words: &mut Words, values: &mut Values, step: Step) -> Answer
-    requires { ⌜ inRange s ≡ true ⌝ }
-    requires { ⌜ SoundWorld s (worldOf s (now words) (now values)) ⌝ }
-    ensures { λ a. ⌜ a ≡ answerOf s (worldOf s (now (words .entry)) (now (values .entry))) step ⌝ }
-    ensures { λ _. ⌜ worldOf s (now (words .exit)) (now (values .exit)) ≡ stepped s (worldOf s (now (words .entry)) (now (values .entry))) step ⌝ }
+pub fn advance(setup: Setup, words: &mut Words, values: &mut Values, step: Step) -> Answer
+    requires { ⌜ inRange setup ≡ true ⌝ }
+    requires { ⌜ SoundWorld setup (worldOf setup (now words) (now values)) ⌝ }
+    ensures { λ a. ⌜ a ≡ answerOf setup (worldOf setup (now (words .entry)) (now (values .entry))) step ⌝ }
+    ensures { λ _. ⌜ worldOf setup (now (words .exit)) (now (values .exit)) ≡ stepped setup (worldOf setup (now (words .entry)) (now (values .entry))) step ⌝ }
 {
-    let at = target(s, &*words, &*values, step);
-    let c = client_apply::copy_of(s, &*words, &*values, at);
-    let r = client_apply::request_of(s, &*words, &*values, at);
-    let refusal = gate::steps::refusal_of_step(s, &*words, &*values, r, step);
+    let at = target(setup, &*words, &*values, step);
+    let c = client_apply::copy_of(setup, &*words, &*values, at);
+    let r = client_apply::request_of(setup, &*words, &*values, at);
+    let refusal = gate::steps::refusal_of_step(setup, &*words, &*values, r, step);
     if refusal == 0 {
-        let verdict = perform(s, &mut *words, &mut *values, c, r, step);
+        let verdict = perform(setup, &mut *words, &mut *values, c, r, step);
         let g = verdict.change;
-        client_apply::change(s, &mut *words, &mut *values, at, g);
+        client_apply::change(setup, &mut *words, &mut *values, at, g);
         return verdict.answer;
     }
     Answer::Refused(refusal)

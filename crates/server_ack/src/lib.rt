@@ -15,13 +15,13 @@ use state_words::Words;
 use state_words::server;
 
 // Returns whether the ACK counts: it "needs a standing write, its epoch and its new version".
-fn ack_taken(s: Setup, words: &Words, object: usize, epoch: u32, version: u32) -> bool
-    requires { ⌜ inRange s ≡ true ⌝ }
-    requires { ⌜ Growing s (numbersOf (now words) .objects) ⌝ }
-    requires { ⌜ object < s .objects ⌝ }
-    ensures { λ r. ⌜ r ≡ ackTaken s (numbersOf (now (words .entry))) object epoch version ⌝ }
+fn ack_taken(setup: Setup, words: &Words, object: usize, epoch: u32, version: u32) -> bool
+    requires { ⌜ inRange setup ≡ true ⌝ }
+    requires { ⌜ Growing setup (numbersOf (now words) .objects) ⌝ }
+    requires { ⌜ object < setup .objects ⌝ }
+    ensures { λ r. ⌜ r ≡ ackTaken setup (numbersOf (now (words .entry))) object epoch version ⌝ }
 {
-    let volume = place::volume_of(s, object);
+    let volume = place::volume_of(setup, object);
     if words[server::STANDING + object] != 0 {
         let same = epoch == words[server::VOLUME_EPOCH + volume];
         return same & (version == words[server::VERSION + object] + 1);
@@ -32,7 +32,7 @@ fn ack_taken(s: Setup, words: &Words, object: usize, epoch: u32, version: u32) -
 // Receives a client's ACK for an object: "Clear that dash's object lease and its waiting; complete if none waits and the clock is at or past guard."
 // An ACK that does not count changes nothing. Returns the number of writes completed.
 pub fn receive_ack(
-    s: Setup,
+    setup: Setup,
     words: &mut Words,
     values: &mut Values,
     client: usize,
@@ -40,17 +40,17 @@ pub fn receive_ack(
     epoch: u32,
     version: u32,
 ) -> u32
-    requires { ⌜ inRange s ≡ true ⌝ }
-    requires { ⌜ Growing s (tablesOf (now words) (now values) .objects) ⌝ }
-    requires { ⌜ client < s .clients ⌝ }
-    requires { ⌜ object < s .objects ⌝ }
-    ensures { λ r. ⌜ record { count = r; tables = tablesOf (now (words .exit)) (now (values .exit)) } ≡ settled s (ackStaged s (tablesOf (now (words .entry)) (now (values .entry))) client object epoch version) ⌝ }
+    requires { ⌜ inRange setup ≡ true ⌝ }
+    requires { ⌜ Growing setup (tablesOf (now words) (now values) .objects) ⌝ }
+    requires { ⌜ client < setup .clients ⌝ }
+    requires { ⌜ object < setup .objects ⌝ }
+    ensures { λ r. ⌜ record { count = r; tables = tablesOf (now (words .exit)) (now (values .exit)) } ≡ settled setup (ackStaged setup (tablesOf (now (words .entry)) (now (values .entry))) client object epoch version) ⌝ }
     ensures { λ _. ⌜ recordsOf (now (words .exit)) (now (values .exit)) ≡ recordsOf (now (words .entry)) (now (values .entry)) ⌝ }
 {
-    if ack_taken(s, &*words, object, epoch, version) {
+    if ack_taken(setup, &*words, object, epoch, version) {
         words[server::LEASE + (client * OBJECTS + object)] = 0;
         words[server::WAITING + (client * OBJECTS + object)] = 0;
-        return server_complete::completion::settle_one(s, &mut *words, &mut *values, object);
+        return server_complete::completion::settle_one(setup, &mut *words, &mut *values, object);
     }
     0
 }

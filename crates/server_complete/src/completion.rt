@@ -31,15 +31,15 @@ fn post(words: &mut Words, values: &mut Values, object: usize)
 
 // Completes the object's write: "Completing stores the value, adds 1 to the version, marks still waiting dashes unreachable, clears every dash's server
 // lease on that object and ends the standing write."
-pub fn complete(s: Setup, words: &mut Words, values: &mut Values, object: usize)
-    requires { ⌜ inRange s ≡ true ⌝ }
-    requires { ⌜ object < s .objects ⌝ }
+pub fn complete(setup: Setup, words: &mut Words, values: &mut Values, object: usize)
+    requires { ⌜ inRange setup ≡ true ⌝ }
+    requires { ⌜ object < setup .objects ⌝ }
     requires { ⌜ versionAt (tablesOf (now words) (now values)) object < largest ⌝ }
-    ensures { λ _. ⌜ tablesOf (now (words .exit)) (now (values .exit)) ≡ completed s (tablesOf (now (words .entry)) (now (values .entry))) object ⌝ }
+    ensures { λ _. ⌜ tablesOf (now (words .exit)) (now (values .exit)) ≡ completed setup (tablesOf (now (words .entry)) (now (values .entry))) object ⌝ }
     ensures { λ _. ⌜ recordsOf (now (words .exit)) (now (values .exit)) ≡ recordsOf (now (words .entry)) (now (values .entry)) ⌝ }
 {
-    let volume = place::volume_of(s, object);
-    let n = s.clients as usize;
+    let volume = place::volume_of(setup, object);
+    let n = setup.clients as usize;
     clients::mark_waiting(&mut *words, volume, object, n);
     clients::clear_object(&mut *words, server::LEASE, object, n);
     clients::clear_object(&mut *words, server::WAITING, object, n);
@@ -48,15 +48,15 @@ pub fn complete(s: Setup, words: &mut Words, values: &mut Values, object: usize)
 
 // Completes the object's write, if it is ready, after a write or an ACK: "complete if none waits and the clock is at or past guard".
 // Returns the number of writes completed.
-pub fn settle_one(s: Setup, words: &mut Words, values: &mut Values, object: usize) -> u32
-    requires { ⌜ inRange s ≡ true ⌝ }
-    requires { ⌜ object < s .objects ⌝ }
+pub fn settle_one(setup: Setup, words: &mut Words, values: &mut Values, object: usize) -> u32
+    requires { ⌜ inRange setup ≡ true ⌝ }
+    requires { ⌜ object < setup .objects ⌝ }
     requires { ⌜ versionAt (tablesOf (now words) (now values)) object < largest ⌝ }
-    ensures { λ r. ⌜ record { count = r; tables = tablesOf (now (words .exit)) (now (values .exit)) } ≡ settled s (oneStaged s (tablesOf (now (words .entry)) (now (values .entry))) object) ⌝ }
+    ensures { λ r. ⌜ record { count = r; tables = tablesOf (now (words .exit)) (now (values .exit)) } ≡ settled setup (oneStaged setup (tablesOf (now (words .entry)) (now (values .entry))) object) ⌝ }
     ensures { λ _. ⌜ recordsOf (now (words .exit)) (now (values .exit)) ≡ recordsOf (now (words .entry)) (now (values .entry)) ⌝ }
 {
-    if server_due::ready(s, &*words, object) {
-        complete(s, &mut *words, &mut *values, object);
+    if server_due::ready(setup, &*words, object) {
+        complete(setup, &mut *words, &mut *values, object);
         return 1;
     }
     0

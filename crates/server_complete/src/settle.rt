@@ -16,21 +16,21 @@ use state_words::network;
 use state_words::pass;
 
 // Completes the writes that the trigger selects: "In object order, complete each standing write". Returns how many completed.
-pub fn settle(s: Setup, trigger: Trigger, words: &mut Words, values: &mut Values) -> u32
-    requires { ⌜ inRange s ≡ true ⌝ }
-    requires { ⌜ Growing s (tablesOf (now words) (now values) .objects) ⌝ }
-    ensures { λ r. ⌜ record { count = r; tables = tablesOf (now (words .exit)) (now (values .exit)) } ≡ settled s (triggerStaged s trigger (tablesOf (now (words .entry)) (now (values .entry)))) ⌝ }
+pub fn settle(setup: Setup, trigger: Trigger, words: &mut Words, values: &mut Values) -> u32
+    requires { ⌜ inRange setup ≡ true ⌝ }
+    requires { ⌜ Growing setup (tablesOf (now words) (now values) .objects) ⌝ }
+    ensures { λ r. ⌜ record { count = r; tables = tablesOf (now (words .exit)) (now (values .exit)) } ≡ settled setup (triggerStaged setup trigger (tablesOf (now (words .entry)) (now (values .entry)))) ⌝ }
     ensures { λ _. ⌜ recordsOf (now (words .exit)) (now (values .exit)) ≡ recordsOf (now (words .entry)) (now (values .entry)) ⌝ }
 {
-    let n = s.objects as usize;
+    let n = setup.objects as usize;
     let mut count: u32 = 0;
     let mut from = 0;
     loop {
-        let object = next_triggered(s, trigger, &*words, from);
+        let object = next_triggered(setup, trigger, &*words, from);
         if n <= object {
             break;
         }
-        complete(s, &mut *words, &mut *values, object);
+        complete(setup, &mut *words, &mut *values, object);
         count += 1;
         from = object + 1;
     }
@@ -38,13 +38,13 @@ pub fn settle(s: Setup, trigger: Trigger, words: &mut Words, values: &mut Values
 }
 
 // Sets the clock and completes the writes that are then due (step 1). Returns how many completed.
-pub fn pass_time(s: Setup, words: &mut Words, values: &mut Values, clock: u32) -> u32
-    requires { ⌜ inRange s ≡ true ⌝ }
-    requires { ⌜ Growing s (tablesOf (now words) (now values) .objects) ⌝ }
-    ensures { λ r. ⌜ record { count = r; tables = tablesOf (now (words .exit)) (now (values .exit)) } ≡ settled s (clockStaged s (tablesOf (now (words .entry)) (now (values .entry))) clock) ⌝ }
+pub fn pass_time(setup: Setup, words: &mut Words, values: &mut Values, clock: u32) -> u32
+    requires { ⌜ inRange setup ≡ true ⌝ }
+    requires { ⌜ Growing setup (tablesOf (now words) (now values) .objects) ⌝ }
+    ensures { λ r. ⌜ record { count = r; tables = tablesOf (now (words .exit)) (now (values .exit)) } ≡ settled setup (clockStaged setup (tablesOf (now (words .entry)) (now (values .entry))) clock) ⌝ }
     ensures { λ _. ⌜ recordsOf (now (words .exit)) (now (values .exit)) ≡ recordsOf (now (words .entry)) (now (values .entry)) ⌝ }
 {
     pass::sized(&*words);
     words[network::CLOCK] = clock;
-    settle(s, Trigger::Clock, &mut *words, &mut *values)
+    settle(setup, Trigger::Clock, &mut *words, &mut *values)
 }

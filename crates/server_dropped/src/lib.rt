@@ -22,16 +22,16 @@ use state_words::pass;
 use state_words::server;
 
 // Zeroes one field of the client for each object of the volume; `field` is where the field starts.
-fn clear_in_volume(s: Setup, words: &mut Words, field: usize, client: usize, volume: usize)
-    requires { ⌜ inRange s ≡ true ⌝ }
+fn clear_in_volume(setup: Setup, words: &mut Words, field: usize, client: usize, volume: usize)
+    requires { ⌜ inRange setup ≡ true ⌝ }
     requires { ⌜ field + 512 ≤ WORDS ⌝ }
-    requires { ⌜ client < s .clients ⌝ }
-    ensures { λ _. ⌜ now (words .exit) ≡ storeEach (ofVolume s volume) (λ (o : ℕ). field + byObject client o) (λ (o : ℕ). 0) (now (words .entry)) (s .objects) ⌝ }
+    requires { ⌜ client < setup .clients ⌝ }
+    ensures { λ _. ⌜ now (words .exit) ≡ storeEach (ofVolume setup volume) (λ (o : ℕ). field + byObject client o) (λ (o : ℕ). 0) (now (words .entry)) (setup .objects) ⌝ }
 {
-    let n = s.objects as usize;
+    let n = setup.objects as usize;
     let mut object = 0;
     while object < n {
-        let own = place::volume_of(s, object);
+        let own = place::volume_of(setup, object);
         pass::put_if(
             &mut *words,
             own == volume,
@@ -55,7 +55,7 @@ fn drop_taken(words: &Words, client: usize, volume: usize, number: u32, epoch: u
 // Receives a client's DROPPED for a volume: "Clear the dash's leases in the volume, mark, offer and waiting there; then, in object order, complete each
 // standing write of the volume on ACK's condition." A DROPPED that does not count changes nothing. Returns the number of writes completed.
 pub fn receive_dropped(
-    s: Setup,
+    setup: Setup,
     words: &mut Words,
     values: &mut Values,
     client: usize,
@@ -63,20 +63,20 @@ pub fn receive_dropped(
     number: u32,
     epoch: u32,
 ) -> u32
-    requires { ⌜ inRange s ≡ true ⌝ }
-    requires { ⌜ Growing s (tablesOf (now words) (now values) .objects) ⌝ }
-    requires { ⌜ client < s .clients ⌝ }
-    requires { ⌜ volume < s .volumes ⌝ }
-    ensures { λ r. ⌜ record { count = r; tables = tablesOf (now (words .exit)) (now (values .exit)) } ≡ settled s (dropStaged s (tablesOf (now (words .entry)) (now (values .entry))) client volume number epoch) ⌝ }
+    requires { ⌜ inRange setup ≡ true ⌝ }
+    requires { ⌜ Growing setup (tablesOf (now words) (now values) .objects) ⌝ }
+    requires { ⌜ client < setup .clients ⌝ }
+    requires { ⌜ volume < setup .volumes ⌝ }
+    ensures { λ r. ⌜ record { count = r; tables = tablesOf (now (words .exit)) (now (values .exit)) } ≡ settled setup (dropStaged setup (tablesOf (now (words .entry)) (now (values .entry))) client volume number epoch) ⌝ }
     ensures { λ _. ⌜ recordsOf (now (words .exit)) (now (values .exit)) ≡ recordsOf (now (words .entry)) (now (values .entry)) ⌝ }
 {
     if drop_taken(&*words, client, volume, number, epoch) {
         words[server::SESSION_EXPIRY + (client * VOLUMES + volume)] = 0;
         words[server::UNREACHABLE + (client * VOLUMES + volume)] = 0;
         words[server::OFFER + (client * VOLUMES + volume)] = 0;
-        clear_in_volume(s, &mut *words, server::LEASE, client, volume);
-        clear_in_volume(s, &mut *words, server::WAITING, client, volume);
-        return settle::settle(s, Trigger::Volume(volume), &mut *words, &mut *values);
+        clear_in_volume(setup, &mut *words, server::LEASE, client, volume);
+        clear_in_volume(setup, &mut *words, server::WAITING, client, volume);
+        return settle::settle(setup, Trigger::Volume(volume), &mut *words, &mut *values);
     }
     0
 }

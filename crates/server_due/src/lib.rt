@@ -22,14 +22,14 @@ pub enum Trigger {
 }
 
 // Returns whether the object has a standing write that is ready: "none waits and the clock is at or past guard".
-pub fn ready(s: Setup, words: &Words, object: usize) -> bool
-    requires { ⌜ inRange s ≡ true ⌝ }
-    requires { ⌜ object < s .objects ⌝ }
-    ensures { λ r. ⌜ r ≡ ready s (numbersOf (now (words .entry))) object ⌝ }
+pub fn ready(setup: Setup, words: &Words, object: usize) -> bool
+    requires { ⌜ inRange setup ≡ true ⌝ }
+    requires { ⌜ object < setup .objects ⌝ }
+    ensures { λ r. ⌜ r ≡ ready setup (numbersOf (now (words .entry))) object ⌝ }
 {
-    let volume = place::volume_of(s, object);
+    let volume = place::volume_of(setup, object);
     if words[server::STANDING + object] != 0 {
-        let any = clients::waited(words, object, s.clients as usize);
+        let any = clients::waited(words, object, setup.clients as usize);
         let late = time::guard_passed(words[network::CLOCK], words[server::GUARD + volume]);
         return !any & late;
     }
@@ -37,12 +37,12 @@ pub fn ready(s: Setup, words: &Words, object: usize) -> bool
 }
 
 // Returns whether the object has a standing write that is due: "no waiting dash and clock at or past guard, or whose latest end is below the clock".
-pub fn due(s: Setup, words: &Words, object: usize) -> bool
-    requires { ⌜ inRange s ≡ true ⌝ }
-    requires { ⌜ object < s .objects ⌝ }
-    ensures { λ r. ⌜ r ≡ due s (numbersOf (now (words .entry))) object ⌝ }
+pub fn due(setup: Setup, words: &Words, object: usize) -> bool
+    requires { ⌜ inRange setup ≡ true ⌝ }
+    requires { ⌜ object < setup .objects ⌝ }
+    ensures { λ r. ⌜ r ≡ due setup (numbersOf (now (words .entry))) object ⌝ }
 {
-    if ready(s, words, object) {
+    if ready(setup, words, object) {
         return true;
     }
     let over = time::end_over(words[network::CLOCK], words[server::END + object]);
@@ -50,16 +50,16 @@ pub fn due(s: Setup, words: &Words, object: usize) -> bool
 }
 
 // Returns whether the trigger completes the object's write.
-pub fn triggered(s: Setup, trigger: Trigger, words: &Words, object: usize) -> bool
-    requires { ⌜ inRange s ≡ true ⌝ }
-    requires { ⌜ object < s .objects ⌝ }
-    ensures { λ r. ⌜ r ≡ triggered s trigger (numbersOf (now (words .entry))) object ⌝ }
+pub fn triggered(setup: Setup, trigger: Trigger, words: &Words, object: usize) -> bool
+    requires { ⌜ inRange setup ≡ true ⌝ }
+    requires { ⌜ object < setup .objects ⌝ }
+    ensures { λ r. ⌜ r ≡ triggered setup trigger (numbersOf (now (words .entry))) object ⌝ }
 {
     match trigger {
-        Trigger::Clock => due(s, words, object),
+        Trigger::Clock => due(setup, words, object),
         Trigger::Volume(volume) => {
-            if place::volume_of(s, object) == volume {
-                return ready(s, words, object);
+            if place::volume_of(setup, object) == volume {
+                return ready(setup, words, object);
             }
             false
         }
@@ -67,18 +67,18 @@ pub fn triggered(s: Setup, trigger: Trigger, words: &Words, object: usize) -> bo
 }
 
 // Returns the first object from `from` on whose write the trigger completes, or the number of objects if there is none.
-pub fn next_triggered(s: Setup, trigger: Trigger, words: &Words, from: usize) -> usize
-    requires { ⌜ inRange s ≡ true ⌝ }
-    requires { ⌜ from ≤ s .objects ⌝ }
-    ensures { λ r. ⌜ Found (triggered s trigger (numbersOf (now (words .entry)))) from (s .objects) r ⌝ }
+pub fn next_triggered(setup: Setup, trigger: Trigger, words: &Words, from: usize) -> usize
+    requires { ⌜ inRange setup ≡ true ⌝ }
+    requires { ⌜ from ≤ setup .objects ⌝ }
+    ensures { λ r. ⌜ Found (triggered setup trigger (numbersOf (now (words .entry)))) from (setup .objects) r ⌝ }
 {
-    let n = s.objects as usize;
+    let n = setup.objects as usize;
     let mut object = from;
     loop {
         if n <= object {
             break object;
         }
-        if triggered(s, trigger, words, object) {
+        if triggered(setup, trigger, words, object) {
             break object;
         }
         object += 1;

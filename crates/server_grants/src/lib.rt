@@ -31,7 +31,7 @@ pub fn offer(words: &mut Words, values: &mut Values, client: usize, volume: usiz
 
 // Renews both leases and answers with a GRANT: "volume expiry and VE := clock + tv, object expiry and OE := clock + t, send GRANT".
 pub fn grant(
-    s: Setup,
+    setup: Setup,
     words: &mut Words,
     values: &mut Values,
     client: usize,
@@ -39,17 +39,17 @@ pub fn grant(
     number: u32,
     held: u32,
 )
-    requires { ⌜ inRange s ≡ true ⌝ }
+    requires { ⌜ inRange setup ≡ true ⌝ }
     requires { ⌜ tablesOf (now words) (now values) .clock ≤ clockLimit ⌝ }
     requires { ⌜ client < 16 ⌝ }
-    requires { ⌜ object < s .objects ⌝ }
-    ensures { λ _. ⌜ tablesOf (now (words .exit)) (now (values .exit)) ≡ granted s (tablesOf (now (words .entry)) (now (values .entry))) client object number held ⌝ }
+    requires { ⌜ object < setup .objects ⌝ }
+    ensures { λ _. ⌜ tablesOf (now (words .exit)) (now (values .exit)) ≡ granted setup (tablesOf (now (words .entry)) (now (values .entry))) client object number held ⌝ }
     ensures { λ _. ⌜ recordsOf (now (words .exit)) (now (values .exit)) ≡ recordsOf (now (words .entry)) (now (values .entry)) ⌝ }
 {
-    let volume = place::volume_of(s, object);
-    let message = server_replies::granting(s, &*words, &*values, client, object, number, held);
-    let volume_expiry = words[network::CLOCK] + s.tv;
-    let object_expiry = words[network::CLOCK] + s.t;
+    let volume = place::volume_of(setup, object);
+    let message = server_replies::granting(setup, &*words, &*values, client, object, number, held);
+    let volume_expiry = words[network::CLOCK] + setup.tv;
+    let object_expiry = words[network::CLOCK] + setup.t;
     words[server::VOLUME_EXPIRY + volume] = volume_expiry;
     words[server::SESSION_EXPIRY + (client * VOLUMES + volume)] = volume_expiry;
     words[server::OBJECT_EXPIRY + object] = object_expiry;

@@ -30,7 +30,7 @@ fn must_drop(words: &Words, client: usize, volume: usize, epoch: u32) -> bool
 
 // Answers a RENEW whose number is new: "take the first rule that fits".
 pub fn renew_by(
-    s: Setup,
+    setup: Setup,
     words: &mut Words,
     values: &mut Values,
     client: usize,
@@ -39,27 +39,35 @@ pub fn renew_by(
     epoch: u32,
     held: u32,
 )
-    requires { ⌜ inRange s ≡ true ⌝ }
+    requires { ⌜ inRange setup ≡ true ⌝ }
     requires { ⌜ tablesOf (now words) (now values) .clock ≤ clockLimit ⌝ }
-    requires { ⌜ Growing s (tablesOf (now words) (now values) .objects) ⌝ }
-    requires { ⌜ client < s .clients ⌝ }
-    requires { ⌜ object < s .objects ⌝ }
-    ensures { λ _. ⌜ tablesOf (now (words .exit)) (now (values .exit)) ≡ renewedBy s (tablesOf (now (words .entry)) (now (values .entry))) client object number epoch held ⌝ }
+    requires { ⌜ Growing setup (tablesOf (now words) (now values) .objects) ⌝ }
+    requires { ⌜ client < setup .clients ⌝ }
+    requires { ⌜ object < setup .objects ⌝ }
+    ensures { λ _. ⌜ tablesOf (now (words .exit)) (now (values .exit)) ≡ renewedBy setup (tablesOf (now (words .entry)) (now (values .entry))) client object number epoch held ⌝ }
     ensures { λ _. ⌜ recordsOf (now (words .exit)) (now (values .exit)) ≡ recordsOf (now (words .entry)) (now (values .entry)) ⌝ }
 {
-    let volume = place::volume_of(s, object);
+    let volume = place::volume_of(setup, object);
     if must_drop(&*words, client, volume, epoch) {
         offer(&mut *words, &mut *values, client, volume, number);
         return;
     }
-    let low = lowest::lowest_waited(s, &*words, client, volume);
-    if low < s.objects as usize {
-        let message = server_replies::resending(s, &*words, client, low);
+    let low = lowest::lowest_waited(setup, &*words, client, volume);
+    if low < setup.objects as usize {
+        let message = server_replies::resending(setup, &*words, client, low);
         push(&mut *words, &mut *values, message);
         return;
     }
     if words[server::STANDING + object] != 0 {
         return;
     }
-    grant(s, &mut *words, &mut *values, client, object, number, held);
+    grant(
+        setup,
+        &mut *words,
+        &mut *values,
+        client,
+        object,
+        number,
+        held,
+    );
 }

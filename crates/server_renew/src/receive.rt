@@ -15,7 +15,7 @@ use state_words::server;
 // Receives a client's RENEW for an object. `epoch` is the one that the client knows, `held` the version that it holds. A number that is not above the
 // highest seen is ignored, so a doubled RENEW does nothing.
 pub fn receive_renew(
-    s: Setup,
+    setup: Setup,
     words: &mut Words,
     values: &mut Values,
     client: usize,
@@ -24,12 +24,12 @@ pub fn receive_renew(
     epoch: u32,
     held: u32,
 )
-    requires { ⌜ inRange s ≡ true ⌝ }
+    requires { ⌜ inRange setup ≡ true ⌝ }
     requires { ⌜ tablesOf (now words) (now values) .clock ≤ clockLimit ⌝ }
-    requires { ⌜ Growing s (tablesOf (now words) (now values) .objects) ⌝ }
-    requires { ⌜ client < s .clients ⌝ }
-    requires { ⌜ object < s .objects ⌝ }
-    ensures { λ _. ⌜ tablesOf (now (words .exit)) (now (values .exit)) ≡ renewed s (tablesOf (now (words .entry)) (now (values .entry))) client object number epoch held ⌝ }
+    requires { ⌜ Growing setup (tablesOf (now words) (now values) .objects) ⌝ }
+    requires { ⌜ client < setup .clients ⌝ }
+    requires { ⌜ object < setup .objects ⌝ }
+    ensures { λ _. ⌜ tablesOf (now (words .exit)) (now (values .exit)) ≡ renewed setup (tablesOf (now (words .entry)) (now (values .entry))) client object number epoch held ⌝ }
     ensures { λ _. ⌜ recordsOf (now (words .exit)) (now (values .exit)) ≡ recordsOf (now (words .entry)) (now (values .entry)) ⌝ }
 {
     if number <= words[server::SEEN + client] {
@@ -37,7 +37,7 @@ pub fn receive_renew(
     }
     words[server::SEEN + client] = number;
     renew_by(
-        s,
+        setup,
         &mut *words,
         &mut *values,
         client,

@@ -38,14 +38,14 @@ pub fn offering(words: &Words, client: usize, volume: usize, number: u32) -> Mes
 }
 
 // Returns the INVALIDATE for the standing write of an object, with its epoch and new version: "resend INVALIDATE".
-pub fn resending(s: Setup, words: &Words, client: usize, object: usize) -> Message
-    requires { ⌜ inRange s ≡ true ⌝ }
+pub fn resending(setup: Setup, words: &Words, client: usize, object: usize) -> Message
+    requires { ⌜ inRange setup ≡ true ⌝ }
     requires { ⌜ client < 16 ⌝ }
-    requires { ⌜ object < s .objects ⌝ }
+    requires { ⌜ object < setup .objects ⌝ }
     requires { ⌜ versionAt (numbersOf (now words)) object < largest ⌝ }
-    ensures { λ r. ⌜ r ≡ invalidation s (numbersOf (now (words .entry))) object client ⌝ }
+    ensures { λ r. ⌜ r ≡ invalidation setup (numbersOf (now (words .entry))) object client ⌝ }
 {
-    let volume = place::volume_of(s, object);
+    let volume = place::volume_of(setup, object);
     Message {
         client: client as u8,
         kind: Kind::Invalidate {
@@ -69,7 +69,7 @@ fn payload<'a>(words: &'a Words, values: &'a Values, object: usize, held: u32) -
 
 // Returns the GRANT, with the new expiry of each lease: "send GRANT".
 pub fn granting<'a>(
-    s: Setup,
+    setup: Setup,
     words: &'a Words,
     values: &'a Values,
     client: usize,
@@ -77,23 +77,23 @@ pub fn granting<'a>(
     number: u32,
     held: u32,
 ) -> Message
-    requires { ⌜ inRange s ≡ true ⌝ }
+    requires { ⌜ inRange setup ≡ true ⌝ }
     requires { ⌜ tablesOf (now words) (now values) .clock ≤ clockLimit ⌝ }
     requires { ⌜ client < 16 ⌝ }
-    requires { ⌜ object < s .objects ⌝ }
-    ensures { λ r. ⌜ r ≡ granting s (tablesOf (now (words .entry)) (now (values .entry))) client object number held ⌝ }
+    requires { ⌜ object < setup .objects ⌝ }
+    ensures { λ r. ⌜ r ≡ granting setup (tablesOf (now (words .entry)) (now (values .entry))) client object number held ⌝ }
 {
-    let volume = place::volume_of(s, object);
+    let volume = place::volume_of(setup, object);
     let payload = payload(words, values, object, held);
     Message {
         client: client as u8,
         kind: Kind::Grant {
             object: object as u8,
             number,
-            volume_expiry: words[network::CLOCK] + s.tv,
+            volume_expiry: words[network::CLOCK] + setup.tv,
             epoch: words[server::VOLUME_EPOCH + volume],
             version: words[server::VERSION + object],
-            object_expiry: words[network::CLOCK] + s.t,
+            object_expiry: words[network::CLOCK] + setup.t,
             payload,
         },
     }

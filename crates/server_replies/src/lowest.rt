@@ -12,30 +12,30 @@ use state_words::Words;
 use state_words::server;
 
 // Returns whether the object is in the volume and its standing write waits for the client.
-fn waited_in(s: Setup, words: &Words, client: usize, volume: usize, object: usize) -> bool
-    requires { ⌜ inRange s ≡ true ⌝ }
-    requires { ⌜ client < s .clients ⌝ }
-    requires { ⌜ object < s .objects ⌝ }
-    ensures { λ r. ⌜ r ≡ waitedIn s (numbersOf (now (words .entry))) client volume object ⌝ }
+fn waited_in(setup: Setup, words: &Words, client: usize, volume: usize, object: usize) -> bool
+    requires { ⌜ inRange setup ≡ true ⌝ }
+    requires { ⌜ client < setup .clients ⌝ }
+    requires { ⌜ object < setup .objects ⌝ }
+    ensures { λ r. ⌜ r ≡ waitedIn setup (numbersOf (now (words .entry))) client volume object ⌝ }
 {
-    let own = place::volume_of(s, object);
+    let own = place::volume_of(setup, object);
     let i = client * OBJECTS + object;
     (own == volume) & ((words[server::STANDING + object] != 0) & (words[server::WAITING + i] != 0))
 }
 
 // Returns the first object of the volume whose standing write waits for the client, or the number of objects if there is none.
-pub fn lowest_waited(s: Setup, words: &Words, client: usize, volume: usize) -> usize
-    requires { ⌜ inRange s ≡ true ⌝ }
-    requires { ⌜ client < s .clients ⌝ }
-    ensures { λ r. ⌜ r ≡ lowestWaited s (numbersOf (now (words .entry))) client volume ⌝ }
+pub fn lowest_waited(setup: Setup, words: &Words, client: usize, volume: usize) -> usize
+    requires { ⌜ inRange setup ≡ true ⌝ }
+    requires { ⌜ client < setup .clients ⌝ }
+    ensures { λ r. ⌜ r ≡ lowestWaited setup (numbersOf (now (words .entry))) client volume ⌝ }
 {
-    let n = s.objects as usize;
+    let n = setup.objects as usize;
     let mut object = 0;
     loop {
         if n <= object {
             break object;
         }
-        if waited_in(s, words, client, volume, object) {
+        if waited_in(setup, words, client, volume, object) {
             break object;
         }
         object += 1;

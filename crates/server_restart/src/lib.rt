@@ -68,15 +68,15 @@ fn clear_holders(words: &mut Words)
 }
 
 // Restarts the server, step 8: "values, versions, VE remain; every epoch grows by 1; guard becomes VE; its other fields become fresh. Messages remain."
-pub fn restart(s: Setup, words: &mut Words, values: &mut Values)
-    requires { ⌜ inRange s ≡ true ⌝ }
-    requires { ⌜ EpochsGrow (s .volumes) (tablesOf (now words) (now values)) ⌝ }
-    ensures { λ _. ⌜ tablesOf (now (words .exit)) (now (values .exit)) ≡ serverRestarted s (tablesOf (now (words .entry)) (now (values .entry))) ⌝ }
+pub fn restart(setup: Setup, words: &mut Words, values: &mut Values)
+    requires { ⌜ inRange setup ≡ true ⌝ }
+    requires { ⌜ EpochsGrow (setup .volumes) (tablesOf (now words) (now values)) ⌝ }
+    ensures { λ _. ⌜ tablesOf (now (words .exit)) (now (values .exit)) ≡ serverRestarted setup (tablesOf (now (words .entry)) (now (values .entry))) ⌝ }
     ensures { λ _. ⌜ recordsOf (now (words .exit)) (now (values .exit)) ≡ recordsOf (now (words .entry)) (now (values .entry)) ⌝ }
 {
     pass::sized(&*words);
     pass::sized_values(&*values);
-    grow_epochs(&mut *words, s.volumes as usize);
+    grow_epochs(&mut *words, setup.volumes as usize);
     guard_expiries(&mut *words);
     clear_sessions(&mut *words);
     clear_objects(&mut *words);

@@ -22,18 +22,21 @@ use state_words::server;
 
 // Opens the write of `value`: stores which clients it waits for and its latest end (02, A3), "the greatest of clock + m, guard, and, over the waiting
 // dashes, ..".
-fn begin(s: Setup, words: &mut Words, values: &mut Values, object: usize, value: u64)
-    requires { ⌜ inRange s ≡ true ⌝ }
+fn begin(setup: Setup, words: &mut Words, values: &mut Values, object: usize, value: u64)
+    requires { ⌜ inRange setup ≡ true ⌝ }
     requires { ⌜ tablesOf (now words) (now values) .clock ≤ clockLimit ⌝ }
-    requires { ⌜ object < s .objects ⌝ }
-    ensures { λ _. ⌜ tablesOf (now (words .exit)) (now (values .exit)) ≡ begun s (tablesOf (now (words .entry)) (now (values .entry))) object value ⌝ }
+    requires { ⌜ object < setup .objects ⌝ }
+    ensures { λ _. ⌜ tablesOf (now (words .exit)) (now (values .exit)) ≡ begun setup (tablesOf (now (words .entry)) (now (values .entry))) object value ⌝ }
     ensures { λ _. ⌜ recordsOf (now (words .exit)) (now (values .exit)) ≡ recordsOf (now (words .entry)) (now (values .entry)) ⌝ }
 {
-    let volume = place::volume_of(s, object);
-    let n = s.clients as usize;
+    let volume = place::volume_of(setup, object);
+    let n = setup.clients as usize;
     pass::sized(&*words);
     clients::await_clients(&mut *words, volume, object, n);
-    let least = time::larger(words[network::CLOCK] + s.m, words[server::GUARD + volume]);
+    let least = time::larger(
+        words[network::CLOCK] + setup.m,
+        words[server::GUARD + volume],
+    );
     let end = latest_end(words, volume, object, least, n);
     words[server::STANDING + object] = 1;
     words[server::END + object] = end;
@@ -43,20 +46,20 @@ fn begin(s: Setup, words: &mut Words, values: &mut Values, object: usize, value:
 // Accepts a write (step 4): opens it, sends each INVALIDATE and completes it "if none waits and the clock is at or past guard". Returns the number of
 // writes completed.
 pub fn accept_write(
-    s: Setup,
+    setup: Setup,
     words: &mut Words,
     values: &mut Values,
     object: usize,
     value: u64,
 ) -> u32
-    requires { ⌜ inRange s ≡ true ⌝ }
+    requires { ⌜ inRange setup ≡ true ⌝ }
     requires { ⌜ tablesOf (now words) (now values) .clock ≤ clockLimit ⌝ }
-    requires { ⌜ object < s .objects ⌝ }
+    requires { ⌜ object < setup .objects ⌝ }
     requires { ⌜ versionAt (tablesOf (now words) (now values)) object < largest ⌝ }
-    ensures { λ r. ⌜ record { count = r; tables = tablesOf (now (words .exit)) (now (values .exit)) } ≡ settled s (writeStaged s (tablesOf (now (words .entry)) (now (values .entry))) object value) ⌝ }
+    ensures { λ r. ⌜ record { count = r; tables = tablesOf (now (words .exit)) (now (values .exit)) } ≡ settled setup (writeStaged setup (tablesOf (now (words .entry)) (now (values .entry))) object value) ⌝ }
     ensures { λ _. ⌜ recordsOf (now (words .exit)) (now (values .exit)) ≡ recordsOf (now (words .entry)) (now (values .entry)) ⌝ }
 {
-    begin(s, &mut *words, &mut *values, object, value);
-    notify(s, &mut *words, &mut *values, object);
-    server_complete::completion::settle_one(s, &mut *words, &mut *values, object)
+    begin(setup, &mut *words, &mut *values, object, value);
+    notify(setup, &mut *words, &mut *values, object);
+    server_complete::completion::settle_one(setup, &mut *words, &mut *values, object)
 }

@@ -56,14 +56,14 @@ fn invalidate(
 }
 
 // Sends an INVALIDATE to each client that the object's write waits for. The new version is the one that the write will have once complete.
-pub fn notify(s: Setup, words: &mut Words, values: &mut Values, object: usize)
-    requires { ⌜ inRange s ≡ true ⌝ }
-    requires { ⌜ object < s .objects ⌝ }
+pub fn notify(setup: Setup, words: &mut Words, values: &mut Values, object: usize)
+    requires { ⌜ inRange setup ≡ true ⌝ }
+    requires { ⌜ object < setup .objects ⌝ }
     requires { ⌜ versionAt (tablesOf (now words) (now values)) object < largest ⌝ }
-    ensures { λ _. ⌜ tablesOf (now (words .exit)) (now (values .exit)) ≡ withQueue (tablesOf (now (words .entry)) (now (values .entry))) (notified s (tablesOf (now (words .entry)) (now (values .entry))) object) ⌝ }
+    ensures { λ _. ⌜ tablesOf (now (words .exit)) (now (values .exit)) ≡ withQueue (tablesOf (now (words .entry)) (now (values .entry))) (notified setup (tablesOf (now (words .entry)) (now (values .entry))) object) ⌝ }
     ensures { λ _. ⌜ recordsOf (now (words .exit)) (now (values .exit)) ≡ recordsOf (now (words .entry)) (now (values .entry)) ⌝ }
 {
-    let volume = place::volume_of(s, object);
+    let volume = place::volume_of(setup, object);
     let epoch = words[server::VOLUME_EPOCH + volume];
     let version = words[server::VERSION + object] + 1;
     invalidate(
@@ -72,6 +72,6 @@ pub fn notify(s: Setup, words: &mut Words, values: &mut Values, object: usize)
         object,
         epoch,
         version,
-        s.clients as usize,
+        setup.clients as usize,
     );
 }

@@ -27,23 +27,28 @@ fn volume_fits(o: usize, v: u8, objects: u32, volumes: u32) -> bool
 }
 
 // Checks all 32 slots.
-fn volumes_fit(s: Setup) -> bool
-    ensures { λ r. ⌜ r ≡ allFrom (volumeFits s) 0 32 ⌝ }
+fn volumes_fit(setup: Setup) -> bool
+    ensures { λ r. ⌜ r ≡ allFrom (volumeFits setup) 0 32 ⌝ }
 {
     let mut ok = true;
     let mut o = 0;
     while o < 32 {
-        ok = ok & volume_fits(o, s.volume[o], s.objects, s.volumes);
+        ok = ok & volume_fits(o, setup.volume[o], setup.objects, setup.volumes);
         o += 1;
     }
     ok
 }
 
 // Returns whether the setup is in range. Accepts any input.
-pub fn in_range(s: Setup) -> bool
-    ensures { λ r. ⌜ r ≡ inRange s ⌝ }
+pub fn in_range(setup: Setup) -> bool
+    ensures { λ r. ⌜ r ≡ inRange setup ⌝ }
 {
-    let counts = between(1, 16, s.clients) & between(1, 8, s.volumes) & between(1, 32, s.objects);
-    let ticks = counts & between(1, 3600, s.tv) & between(1, 1000000, s.t) & between(1, 60, s.m);
-    ticks & volumes_fit(s)
+    let counts = between(1, 16, setup.clients)
+        & between(1, 8, setup.volumes)
+        & between(1, 32, setup.objects);
+    let ticks = counts
+        & between(1, 3600, setup.tv)
+        & between(1, 1000000, setup.t)
+        & between(1, 60, setup.m);
+    ticks & volumes_fit(setup)
 }

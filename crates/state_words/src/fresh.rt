@@ -26,12 +26,12 @@ pub fn fresh(words: &mut Words, values: &mut Values)
 }
 
 // Writes the fresh state and returns 0 if the setup is in range; otherwise changes nothing and returns 7.
-pub fn fresh_for(s: Setup, words: &mut Words, values: &mut Values) -> u8
-    ensures refusal { λ r. ⌜ r ≡ cond (inRange s) 0 7 ⌝ }
-    ensures accepts { λ _. ⌜ (inRange s ≡ true → (tablesOf (now (words .exit)) (now (values .exit)) ≡ freshTables) × (recordsOf (now (words .exit)) (now (values .exit)) ≡ freshRecords)) ⌝ }
-    ensures refuses { λ _. ⌜ (inRange s ≡ false → (now (words .exit) ≡ now (words .entry)) × (now (values .exit) ≡ now (values .entry))) ⌝ }
+pub fn fresh_for(setup: Setup, words: &mut Words, values: &mut Values) -> u8
+    ensures refusal { λ r. ⌜ r ≡ cond (inRange setup) 0 7 ⌝ }
+    ensures accepts { λ _. ⌜ (inRange setup ≡ true → (tablesOf (now (words .exit)) (now (values .exit)) ≡ freshTables) × (recordsOf (now (words .exit)) (now (values .exit)) ≡ freshRecords)) ⌝ }
+    ensures refuses { λ _. ⌜ (inRange setup ≡ false → (now (words .exit) ≡ now (words .entry)) × (now (values .exit) ≡ now (values .entry))) ⌝ }
 {
-    if setup::in_range(s) {
+    if setup::in_range(setup) {
         fresh(&mut *words, &mut *values);
         return 0;
     }

@@ -15,7 +15,7 @@ use step_verdict::Verdict;
 // Decides one step on any input; `records` says whether all lent records are sound. A refused step changes nothing; no step changes the client records
 // in the words.
 pub fn decide(
-    s: Setup,
+    setup: Setup,
     words: &mut Words,
     values: &mut Values,
     records: bool,
@@ -23,13 +23,13 @@ pub fn decide(
     r: Request,
     step: Step,
 ) -> Verdict
-    ensures { λ v. ⌜ answered (v .change) (tablesOf (now (words .exit)) (now (values .exit))) (v .answer) ≡ decided s (tablesOf (now (words .entry)) (now (values .entry))) records c r step ⌝ }
+    ensures { λ v. ⌜ answered (v .change) (tablesOf (now (words .exit)) (now (values .exit))) (v .answer) ≡ decided setup (tablesOf (now (words .entry)) (now (values .entry))) records c r step ⌝ }
     ensures { λ v. ⌜ (answerNumber (v .answer) ≡ 4 → (now (words .exit) ≡ now (words .entry)) × (now (values .exit) ≡ now (values .entry))) ⌝ }
     ensures { λ _. ⌜ recordsOf (now (words .exit)) (now (values .exit)) ≡ recordsOf (now (words .entry)) (now (values .entry)) ⌝ }
 {
-    let no = gate::refusal(s, &*words, &*values, records, r, step);
+    let no = gate::refusal(setup, &*words, &*values, records, r, step);
     if no == 0 {
-        return step_perform::perform(s, &mut *words, &mut *values, c, r, step);
+        return step_perform::perform(setup, &mut *words, &mut *values, c, r, step);
     }
     Verdict {
         change: client_cache::copy::kept(),

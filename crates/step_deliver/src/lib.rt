@@ -29,13 +29,13 @@ use state_words::Words;
 use step_verdict::Verdict;
 
 // Receives RENEW, ACK and DROPPED at the server. Returns the number of writes completed.
-fn by_server(s: Setup, words: &mut Words, values: &mut Values, client: usize, k: Kind) -> u32
-    requires { ⌜ inRange s ≡ true ⌝ }
+fn by_server(setup: Setup, words: &mut Words, values: &mut Values, client: usize, k: Kind) -> u32
+    requires { ⌜ inRange setup ≡ true ⌝ }
     requires { ⌜ tablesOf (now words) (now values) .clock ≤ clockLimit ⌝ }
-    requires { ⌜ Growing s (tablesOf (now words) (now values) .objects) ⌝ }
-    requires { ⌜ client < s .clients ⌝ }
-    requires { ⌜ kindSound s k ≡ true ⌝ }
-    ensures { λ n. ⌜ record { count = n; tables = tablesOf (now (words .exit)) (now (values .exit)) } ≡ served s (tablesOf (now (words .entry)) (now (values .entry))) client k ⌝ }
+    requires { ⌜ Growing setup (tablesOf (now words) (now values) .objects) ⌝ }
+    requires { ⌜ client < setup .clients ⌝ }
+    requires { ⌜ kindSound setup k ≡ true ⌝ }
+    ensures { λ n. ⌜ record { count = n; tables = tablesOf (now (words .exit)) (now (values .exit)) } ≡ served setup (tablesOf (now (words .entry)) (now (values .entry))) client k ⌝ }
     ensures { λ _. ⌜ recordsOf (now (words .exit)) (now (values .exit)) ≡ recordsOf (now (words .entry)) (now (values .entry)) ⌝ }
 {
     match k {
@@ -46,26 +46,34 @@ fn by_server(s: Setup, words: &mut Words, values: &mut Values, client: usize, k:
             version,
         } => {
             let o = object as usize;
-            receive_renew(s, words, values, client, o, number, epoch, version);
+            receive_renew(setup, words, values, client, o, number, epoch, version);
             0
         }
         Kind::Ack {
             object,
             epoch,
             version,
-        } => receive_ack(s, words, values, client, object as usize, epoch, version),
+        } => receive_ack(
+            setup,
+            words,
+            values,
+            client,
+            object as usize,
+            epoch,
+            version,
+        ),
         Kind::Dropped {
             volume,
             number,
             epoch,
-        } => receive_dropped(s, words, values, client, volume as usize, number, epoch),
+        } => receive_dropped(setup, words, values, client, volume as usize, number, epoch),
         _ => 0,
     }
 }
 
 // Receives GRANT, INVALIDATE and OFFER at the client. Returns the change to its records.
 fn by_client(
-    s: Setup,
+    setup: Setup,
     words: &mut Words,
     values: &mut Values,
     c: Copy,
@@ -73,10 +81,10 @@ fn by_client(
     client: u8,
     k: Kind,
 ) -> Change
-    requires { ⌜ inRange s ≡ true ⌝ }
-    requires { ⌜ client < s .clients ⌝ }
-    requires { ⌜ kindSound s k ≡ true ⌝ }
-    ensures { λ g. ⌜ byClient g (tablesOf (now (words .exit)) (now (values .exit))) ≡ heard s (tablesOf (now (words .entry)) (now (values .entry))) c r client k ⌝ }
+    requires { ⌜ inRange setup ≡ true ⌝ }
+    requires { ⌜ client < setup .clients ⌝ }
+    requires { ⌜ kindSound setup k ≡ true ⌝ }
+    ensures { λ g. ⌜ byClient g (tablesOf (now (words .exit)) (now (values .exit))) ≡ heard setup (tablesOf (now (words .entry)) (now (values .entry))) c r client k ⌝ }
     ensures { λ _. ⌜ recordsOf (now (words .exit)) (now (values .exit)) ≡ recordsOf (now (words .entry)) (now (values .entry)) ⌝ }
 {
     match k {
@@ -97,7 +105,7 @@ fn by_client(
                 object_expiry,
                 payload,
             };
-            grant(s, words, &*values, c, r, client, object, g)
+            grant(setup, words, &*values, c, r, client, object, g)
         }
         Kind::Invalidate {
             object,
@@ -115,24 +123,24 @@ fn by_client(
 
 // Removes the message at `place` and delivers it. Returns the answer and the change to the client's records.
 pub fn deliver(
-    s: Setup,
+    setup: Setup,
     words: &mut Words,
     values: &mut Values,
     c: Copy,
     r: Request,
     place: usize,
 ) -> Verdict
-    requires { ⌜ inRange s ≡ true ⌝ }
-    requires { ⌜ tablesSound s (tablesOf (now words) (now values)) ≡ true ⌝ }
+    requires { ⌜ inRange setup ≡ true ⌝ }
+    requires { ⌜ tablesSound setup (tablesOf (now words) (now values)) ≡ true ⌝ }
     requires { ⌜ place < tablesOf (now words) (now values) .queue .len ⌝ }
-    ensures { λ v. ⌜ answered (v .change) (tablesOf (now (words .exit)) (now (values .exit))) (v .answer) ≡ deliverDecided s (tablesOf (now (words .entry)) (now (values .entry))) c r place ⌝ }
+    ensures { λ v. ⌜ answered (v .change) (tablesOf (now (words .exit)) (now (values .exit))) (v .answer) ≡ deliverDecided setup (tablesOf (now (words .entry)) (now (values .entry))) c r place ⌝ }
     ensures { λ _. ⌜ recordsOf (now (words .exit)) (now (values .exit)) ≡ recordsOf (now (words .entry)) (now (values .entry)) ⌝ }
 {
     let m = list::live_message(&*words, &*values, place);
     remove(&mut *words, &mut *values, place);
     let k = m.kind;
-    let count = by_server(s, &mut *words, &mut *values, m.client as usize, k);
-    let change = by_client(s, &mut *words, &mut *values, c, r, m.client, k);
+    let count = by_server(setup, &mut *words, &mut *values, m.client as usize, k);
+    let change = by_client(setup, &mut *words, &mut *values, c, r, m.client, k);
     Verdict {
         change,
         answer: Answer::Delivered(m, count),

@@ -41,24 +41,24 @@ fn restarting() -> Change
 
 // Performs the step in the words. Returns the change to the client's records.
 pub fn of_client(
-    s: Setup,
+    setup: Setup,
     words: &mut Words,
     values: &mut Values,
     c: Copy,
     r: Request,
     step: Step,
 ) -> Change
-    requires { ⌜ inRange s ≡ true ⌝ }
-    requires { ⌜ refusalOfStep s (tablesOf (now words) (now values)) r step ≡ 0 ⌝ }
+    requires { ⌜ inRange setup ≡ true ⌝ }
+    requires { ⌜ refusalOfStep setup (tablesOf (now words) (now values)) r step ≡ 0 ⌝ }
     requires { ⌜ usesClient step ≡ true ⌝ }
     requires { ⌜ (step .kind ≡ 2 → ⊥) ⌝ }
-    ensures { λ g. ⌜ answered g (tablesOf (now (words .exit)) (now (values .exit))) Done ≡ performed s (tablesOf (now (words .entry)) (now (values .entry))) c r step ⌝ }
+    ensures { λ g. ⌜ answered g (tablesOf (now (words .exit)) (now (values .exit))) Done ≡ performed setup (tablesOf (now (words .entry)) (now (values .entry))) c r step ⌝ }
     ensures { λ _. ⌜ recordsOf (now (words .exit)) (now (values .exit)) ≡ recordsOf (now (words .entry)) (now (values .entry)) ⌝ }
 {
     if step.kind == known_kinds::ASK {
-        client_steps::ask(s, words, values, c, r, step.client, step.object);
+        client_steps::ask(setup, words, values, c, r, step.client, step.object);
         return asking(step.object);
     }
-    client_steps::restart(s, words, &*values, step.client);
+    client_steps::restart(setup, words, &*values, step.client);
     restarting()
 }

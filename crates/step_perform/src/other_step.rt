@@ -17,20 +17,20 @@ use state_words::Values;
 use state_words::Words;
 
 // Performs the step. Needs no client records. Returns the number of writes completed.
-pub fn of_no_client(s: Setup, words: &mut Words, values: &mut Values, step: Step) -> u32
-    requires { ⌜ inRange s ≡ true ⌝ }
-    requires { ⌜ tablesSound s (tablesOf (now words) (now values)) ≡ true ⌝ }
-    requires { ⌜ ((r : Request) → refusalOfStep s (tablesOf (now words) (now values)) r step ≡ 0) ⌝ }
+pub fn of_no_client(setup: Setup, words: &mut Words, values: &mut Values, step: Step) -> u32
+    requires { ⌜ inRange setup ≡ true ⌝ }
+    requires { ⌜ tablesSound setup (tablesOf (now words) (now values)) ≡ true ⌝ }
+    requires { ⌜ ((r : Request) → refusalOfStep setup (tablesOf (now words) (now values)) r step ≡ 0) ⌝ }
     requires { ⌜ usesClient step ≡ false ⌝ }
     requires { ⌜ (step .kind ≡ 5 → ⊥) ⌝ }
-    ensures { λ n. ⌜ ((c : Copy) (r : Request) → counting (record { count = n; tables = tablesOf (now (words .exit)) (now (values .exit)) }) ≡ performed s (tablesOf (now (words .entry)) (now (values .entry))) c r step) ⌝ }
+    ensures { λ n. ⌜ ((c : Copy) (r : Request) → counting (record { count = n; tables = tablesOf (now (words .exit)) (now (values .exit)) }) ≡ performed setup (tablesOf (now (words .entry)) (now (values .entry))) c r step) ⌝ }
     ensures { λ _. ⌜ recordsOf (now (words .exit)) (now (values .exit)) ≡ recordsOf (now (words .entry)) (now (values .entry)) ⌝ }
 {
     let kind = step.kind;
     match kind {
-        known_kinds::CLOCK => settle::pass_time(s, words, values, step.clock),
+        known_kinds::CLOCK => settle::pass_time(setup, words, values, step.clock),
         known_kinds::WRITE => server_write::accept::accept_write(
-            s,
+            setup,
             words,
             values,
             step.object as usize,
@@ -45,7 +45,7 @@ pub fn of_no_client(s: Setup, words: &mut Words, values: &mut Values, step: Step
             0
         }
         _ => {
-            server_restart::restart(s, words, values);
+            server_restart::restart(setup, words, values);
             0
         }
     }

@@ -46,10 +46,10 @@ fn object_of(k: Kind) -> u8
 }
 
 // Returns the places of a client's records and of its copy of an object.
-fn target_at(s: Setup, client: u8, object: u8) -> Target
-    ensures { λ r. ⌜ r ≡ targetAt s client object ⌝ }
+fn target_at(setup: Setup, client: u8, object: u8) -> Target
+    ensures { λ r. ⌜ r ≡ targetAt setup client object ⌝ }
 {
-    let first = client as usize * s.objects as usize;
+    let first = client as usize * setup.objects as usize;
     Target {
         client: client as usize,
         copy: first + object as usize,
@@ -58,13 +58,13 @@ fn target_at(s: Setup, client: u8, object: u8) -> Target
 }
 
 // Returns the places of the records that the step names, or that the message it delivers is about. Accepts any input.
-pub fn target<'a>(s: Setup, words: &'a Words, values: &'a Values, step: Step) -> Target
-    ensures { λ r. ⌜ r ≡ target s (tablesOf (now (words .entry)) (now (values .entry))) step ⌝ }
+pub fn target<'a>(setup: Setup, words: &'a Words, values: &'a Values, step: Step) -> Target
+    ensures { λ r. ⌜ r ≡ target setup (tablesOf (now (words .entry)) (now (values .entry))) step ⌝ }
 {
     if step.kind == known_kinds::DELIVER {
         let m = list::message_at(words, values, step.place as usize);
         let k = m.kind;
-        return target_at(s, m.client, object_of(k));
+        return target_at(setup, m.client, object_of(k));
     }
-    target_at(s, step.client, step.object)
+    target_at(setup, step.client, step.object)
 }

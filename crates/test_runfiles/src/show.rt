@@ -6,15 +6,15 @@ use test_printing::last;
 use test_printing::number;
 use test_printing::step;
 
-fn setup(s: Setup) {
-    number(s.clients as u64);
-    number(s.volumes as u64);
-    number(s.objects as u64);
-    number(s.tv as u64);
-    number(s.t as u64);
-    number(s.m as u64);
-    number(s.volume[0] as u64);
-    number(s.volume[31] as u64);
+fn setup(setup: Setup) {
+    number(setup.clients as u64);
+    number(setup.volumes as u64);
+    number(setup.objects as u64);
+    number(setup.tv as u64);
+    number(setup.t as u64);
+    number(setup.m as u64);
+    number(setup.volume[0] as u64);
+    number(setup.volume[31] as u64);
 }
 
 // Returns the bytes from `from` up to `to`, or none if the file does not have them.

@@ -18,13 +18,13 @@ copy-at-requires : tie.Need-copy-at-requires
 copy-at-requires c κs = copy-there _ (c .before .before .before .before .pre) _ (c .if1 .taken)
 
 returns : tie.Need-returns
-returns c = copy-inside (c .before .before .before .before .before .args .s) _ _ _ _ (c .before .if1 .taken) (c .copy-at .ensures)
+returns c = copy-inside (c .before .before .before .before .before .args .setup) _ _ _ _ (c .before .if1 .taken) (c .copy-at .ensures)
 
 none-requires : tie.Need-none-requires
 none-requires c κs = search needs
 
 returns-2 : tie.Need-returns-2
-returns-2 c = copy-past (c .before .before .before .before .before .args .s) _ _ _ _ (c .before .if1 .left) (c .none .ensures)
+returns-2 c = copy-past (c .before .before .before .before .before .args .setup) _ _ _ _ (c .before .if1 .left) (c .none .ensures)
 
 pub copy-of-spec : {M : Type 1} → statement M
 copy-of-spec =

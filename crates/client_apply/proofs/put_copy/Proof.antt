@@ -18,10 +18,10 @@ put-copy-requires : tie.Need-put-copy-requires
 put-copy-requires c κs = copy-there _ (c .before .before .before .before .before .pre) _ (c .before .before .if1 .taken)
 
 returns : tie.Need-returns
-returns c = put-inside (c .before .before .before .before .before .before .args .s) _ _ _ _ _ _ (c .before .before .before .if1 .taken) (c .put-copy .ensures)
+returns c = put-inside (c .before .before .before .before .before .before .args .setup) _ _ _ _ _ _ (c .before .before .before .if1 .taken) (c .put-copy .ensures)
 
 returns-2 : tie.Need-returns-2
-returns-2 c = put-past (c .before .before .before .args .s) _ _ _ _ (c .if1 .left)
+returns-2 c = put-past (c .before .before .before .args .setup) _ _ _ _ (c .if1 .left)
 
 pub put-copy-spec : {M : Type 1} → statement M
 put-copy-spec =

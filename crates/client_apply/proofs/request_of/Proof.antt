@@ -10,10 +10,10 @@ request-at-requires : tie.Need-request-at-requires
 request-at-requires c κs = client-there _ (c .before .before .before .pre) _ (c .if1 .taken)
 
 returns : tie.Need-returns
-returns c = request-inside (c .before .before .before .before .args .s) _ _ _ _ (c .before .if1 .taken) (c .request-at .ensures)
+returns c = request-inside (c .before .before .before .before .args .setup) _ _ _ _ (c .before .if1 .taken) (c .request-at .ensures)
 
 returns-2 : tie.Need-returns-2
-returns-2 c = request-past (c .before .before .before .args .s) _ _ _ (c .if1 .left)
+returns-2 c = request-past (c .before .before .before .args .setup) _ _ _ (c .if1 .left)
 
 pub request-of-spec : {M : Type 1} → statement M
 request-of-spec = tie.close (tie.spec cast-if1 request-at-requires returns returns-2)

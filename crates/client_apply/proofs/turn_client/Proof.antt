@@ -10,16 +10,16 @@ request-at-requires : tie.Need-request-at-requires
 request-at-requires c κs = client-there _ (c .before .before .before .pre .0) _ (c .before .if1 .taken)
 
 turn-requires : tie.Need-turn-requires
-turn-requires c κs = can-turn (c .before .before .before .before .args .s) _ (c .before .before .before .before .args .values .now) _ (c .before .before .before .before .args .u) _ (c .before .before .if1 .taken) (c .request-at .ensures) (c .before .before .before .before .pre .1)
+turn-requires c κs = can-turn (c .before .before .before .before .args .setup) _ (c .before .before .before .before .args .values .now) _ (c .before .before .before .before .args .u) _ (c .before .before .if1 .taken) (c .request-at .ensures) (c .before .before .before .before .pre .1)
 
 put-request-requires : tie.Need-put-request-requires
 put-request-requires c κs = client-there _ (c .before .before .before .before .before .before .pre .0) _ (c .before .before .before .before .if1 .taken)
 
 returns : tie.Need-returns
-returns c = turn-inside (c .before .before .before .before .before .before .before .args .s) _ _ _ (c .before .before .before .before .before .before .before .args .u) _ _ _ (client-there _ (c .before .before .before .before .before .before .before .pre .0) _ (c .before .before .before .before .before .if1 .taken)) (c .before .before .before .before .before .if1 .taken) (c .before .before .before .request-at .ensures) (c .before .before .turn .ensures) (c .put-request .ensures)
+returns c = turn-inside (c .before .before .before .before .before .before .before .args .setup) _ _ _ (c .before .before .before .before .before .before .before .args .u) _ _ _ (client-there _ (c .before .before .before .before .before .before .before .pre .0) _ (c .before .before .before .before .before .if1 .taken)) (c .before .before .before .before .before .if1 .taken) (c .before .before .before .request-at .ensures) (c .before .before .turn .ensures) (c .put-request .ensures)
 
 returns-2 : tie.Need-returns-2
-returns-2 c = turn-past (c .before .before .args .s) _ _ _ (c .before .before .args .u) (c .if1 .left)
+returns-2 c = turn-past (c .before .before .args .setup) _ _ _ (c .before .before .args .u) (c .if1 .left)
 
 pub turn-client-spec : {M : Type 1} → statement M
 turn-client-spec =

@@ -39,7 +39,7 @@ element-write-words-2 : tie.Need-element-write-words-2
 element-write-words-2 c = omega (arith, c .before .before .before .pre .1 .1 .0, c .before .before .before .pre .1 .1 .1, ranges _ (c .before .before .before .pre .0) .clients .1, ranges _ (c .before .before .before .pre .0) .objects .1)
 
 settle-one-requires : tie.Need-settle-one-requires
-settle-one-requires c κs = let a = c .before .before .before .before .before in (a .pre .0, (a .pre .1 .1 .1, rw (ack-keeps (a .args .s) (a .args .words .now) (a .args .values .now) (a .args .client) (a .args .object) _ _ _ (c .before .before .before .ack-taken .ensures) (omega (arith, c .before .before .before .before .before .pre .1 .1 .0, ranges _ (c .before .before .before .before .before .pre .0) .clients .1)) (omega (arith, c .before .before .before .before .before .pre .1 .1 .1, ranges _ (c .before .before .before .before .before .pre .0) .objects .1))) (ack-version (a .args .s) (a .args .words .now) (a .args .values .now) (a .args .client) (a .args .object) _ _ _ (c .before .before .before .ack-taken .ensures) (a .pre .1 .0) (a .pre .1 .1 .1) (c .before .before .if1 .taken))))
+settle-one-requires c κs = let a = c .before .before .before .before .before in (a .pre .0, (a .pre .1 .1 .1, rw (ack-keeps (a .args .setup) (a .args .words .now) (a .args .values .now) (a .args .client) (a .args .object) _ _ _ (c .before .before .before .ack-taken .ensures) (omega (arith, c .before .before .before .before .before .pre .1 .1 .0, ranges _ (c .before .before .before .before .before .pre .0) .clients .1)) (omega (arith, c .before .before .before .before .before .pre .1 .1 .1, ranges _ (c .before .before .before .before .before .pre .0) .objects .1))) (ack-version (a .args .setup) (a .args .words .now) (a .args .values .now) (a .args .client) (a .args .object) _ _ _ (c .before .before .before .ack-taken .ensures) (a .pre .1 .0) (a .pre .1 .1 .1) (c .before .before .if1 .taken))))
 
 returns : tie.Need-returns
 returns c = ack-yes _ _ _ _ _ _ _ _ (c .before .before .before .before .ack-taken .ensures) (omega (arith, c .before .before .before .before .before .before .pre .1 .1 .0, ranges _ (c .before .before .before .before .before .before .pre .0) .clients .1)) (omega (arith, c .before .before .before .before .before .before .pre .1 .1 .1, ranges _ (c .before .before .before .before .before .before .pre .0) .objects .1)) _ _ _ (c .before .before .before .if1 .taken) (c .settle-one .ensures)

@@ -33,7 +33,7 @@ fill-values-requires : tie.Need-fill-values-requires
 fill-values-requires c κs = search needs
 
 returns : tie.Need-returns
-returns c = let a = c .before .before .before .before .before .before .before .before .before .before .before .before .before .before .before .before .before .before .before in restarts (a .args .s) _ _ _ _ _ _ _ _ _ (c .before .before .before .before .before .before .before .before .before .before .before .before .before .before .before .before .before .sized-arg2 .given .0) (c .before .before .before .before .before .before .before .before .before .before .before .before .before .before .sized-values-arg2 .given .0) refl (ranges _ (a .pre .0) .volumes .1) (c .before .before .before .before .before .before .before .before .before .before .grow-epochs .ensures) (c .before .before .before .before .before .before .before .before .guard-expiries .ensures) (c .before .before .before .before .before .before .clear-sessions .ensures) (c .before .before .before .before .clear-objects .ensures) (c .before .before .clear-holders .ensures) (c .fill-values .ensures)
+returns c = let a = c .before .before .before .before .before .before .before .before .before .before .before .before .before .before .before .before .before .before .before in restarts (a .args .setup) _ _ _ _ _ _ _ _ _ (c .before .before .before .before .before .before .before .before .before .before .before .before .before .before .before .before .before .sized-arg2 .given .0) (c .before .before .before .before .before .before .before .before .before .before .before .before .before .before .sized-values-arg2 .given .0) refl (ranges _ (a .pre .0) .volumes .1) (c .before .before .before .before .before .before .before .before .before .before .grow-epochs .ensures) (c .before .before .before .before .before .before .before .before .guard-expiries .ensures) (c .before .before .before .before .before .before .clear-sessions .ensures) (c .before .before .before .before .clear-objects .ensures) (c .before .before .clear-holders .ensures) (c .fill-values .ensures)
 
 pub restart-spec : {M : Type 1} → statement M
 restart-spec =

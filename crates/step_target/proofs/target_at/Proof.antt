@@ -7,10 +7,10 @@ cast-first : tie.Need-cast-first
 cast-first c = search needs
 
 mul-first : tie.Need-mul-first
-mul-first c = let k = byte-times (c .before .args .client) (c .before .args .s .objects) (search needs) (search needs) in search needs
+mul-first c = let k = byte-times (c .before .args .client) (c .before .args .setup .objects) (search needs) (search needs) in search needs
 
 add-t7 : tie.Need-add-t7
-add-t7 c = let k = byte-times (c .before .args .client) (c .before .args .s .objects) (search needs) (search needs) in search needs
+add-t7 c = let k = byte-times (c .before .args .client) (c .before .args .setup .objects) (search needs) (search needs) in search needs
 
 returns : tie.Need-returns
 returns c = search needs
