@@ -1,6 +1,10 @@
--- Whether every element of a lent slice passes a test, and whether there are as many as a setup wants: the function's MIR, its contract, and that the one meets the other, over the element's type. A turn of the loop reads one element and calls the covered function `#still` on it.
---     D, L, plains, copies   the element's type and its laws.        d   what is read past the end.        want, test   how many there are to be, and the test of one
---     takes   whether `#still` is handed the setup too.        met, hears   its theorem at what it is handed, and what its contract says, E
+-- The law of a function that tells whether every element of a lent slice passes a test, and whether there are as many as a setup wants: its MIR, its
+-- contract, and that the one meets the other, over the element's type. A turn of the loop reads one element and calls the covered function `#still` on it.
+--     D, L, plains, copies   the element's type and its laws
+--     d   what is read past the end
+--     want, test   the number of elements wanted, and the test of one
+--     takes   whether `#still` is handed the setup too
+--     met, hears   its theorem at what it is handed, and what its contract says, E
 -- Assumes `Given`.
 use mathlib.Core.Path.{_≡_, refl, sym, ap, _∙_}
 use Prim.Native.Nat.{ℕ, zero, suc, _+_, _<_, _≤_, _^_}
