@@ -1,5 +1,7 @@
--- One element of a lent slice is read, or where there is no such place a blank one is built: the function's MIR, its contract, and that the one meets the other, over the element's type.
---     D, L, plains, copies   the element's type and its laws.        d, ops, vs   the blank element, the operands that build it and their machine values
+-- The law of a function that reads one element of a lent slice, or builds a blank one where there is no such place: its MIR, its contract, and that the
+-- one meets the other, over the element's type.
+--     D, L, plains, copies   the element's type and its laws
+--     d, ops, vs   the blank element, the operands that build it and their machine values
 -- Assumes `Given`.
 use mathlib.Core.Path.{_≡_, refl, sym}
 use Prim.Native.Nat.{ℕ, _<_, _≤_, _^_, _*_}
