@@ -20,8 +20,9 @@ pub enum Encoded {
 fn accept(f: Fields) -> Decoded
     ensures { λ r. ⌜ r ≡ accepted f ⌝ }
 {
+    let message = message_fields::message_in(f);
     if message_fields::sound(f) {
-        return Decoded::Accepted(message_fields::message_in(f));
+        return Decoded::Accepted(message);
     }
     Decoded::Refused
 }
