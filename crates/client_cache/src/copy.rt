@@ -2,7 +2,7 @@ ghost use mathlib.Core.Path.{_≡_};
 ghost use Rattle.protocol.specs.Leases.{clientAlive};
 ghost use Rattle.protocol.specs.Setup.{volumeOf};
 ghost use Rattle.protocol.specs.Tables.{noCopy};
-ghost use Rattle.protocol.specs.Client.{payloadOr, grantStored, changed, swept};
+ghost use Rattle.protocol.specs.Client.{payloadOr, grantStored, swept};
 ghost use Rattle.protocol.specs.Decide.{kept};
 ghost use Rattle.client_cache.specs.Shown.{shownAt};
 use protocol::message::Payload;
@@ -64,17 +64,6 @@ pub fn none() -> Copy
         version: 0,
         value: 0,
         expiry: 0,
-    }
-}
-
-// Returns the copy after a change.
-pub fn change(c: Copy, u: CopyChange) -> Copy
-    ensures { λ r. ⌜ r ≡ changed c u ⌝ }
-{
-    match u {
-        CopyChange::Keep => c,
-        CopyChange::Fill(f) => f,
-        CopyChange::Erase => none(),
     }
 }
 
