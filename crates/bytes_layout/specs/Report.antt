@@ -36,6 +36,7 @@ pub record Reports (refusal : ℕ) (b before after : List ℕ) (r : Report) : Ty
   pub answer : r ≡ reportOf refusal (length b)
   pub number : reportNumber r ≡ refusal
   pub long : reportLength r ≡ length (unlessRefused refusal b)
+  -- "Output bytes past it stay."
   pub bytes : after ≡ sets before 0 (unlessRefused refusal b)
 
 module _ (refusal : ℕ) (b before : List ℕ) where

@@ -20,6 +20,7 @@ fn low_byte(number: u32) -> u8
     (number % 256) as u8
 }
 
+// Returns the "little endian" number of 4 bytes at `at`.
 pub fn read_u32(bytes: &[u8], at: usize) -> u32
     requires { ⌜ at + 4 ≤ length (now bytes) ⌝ }
     ensures { λ r. ⌜ r ≡ numberAt (now (bytes .entry)) at 4 ⌝ }
@@ -27,6 +28,7 @@ pub fn read_u32(bytes: &[u8], at: usize) -> u32
     join(bytes[at], bytes[at + 1], bytes[at + 2], bytes[at + 3])
 }
 
+// Returns the "little endian" number of 8 bytes at `at`.
 pub fn read_u64(bytes: &[u8], at: usize) -> u64
     requires { ⌜ at + 8 ≤ length (now bytes) ⌝ }
     ensures { λ r. ⌜ r ≡ numberAt (now (bytes .entry)) at 8 ⌝ }
@@ -44,6 +46,7 @@ pub fn write_four(out: &mut [u8], at: usize, a: u8, b: u8, c: u8, d: u8)
     out[at + 3] = d;
 }
 
+// Writes a number in 4 bytes from `at` on, "little endian".
 pub fn write_u32(out: &mut [u8], at: usize, number: u32)
     requires { ⌜ at + 4 ≤ length (now out) ⌝ }
     ensures { λ _. ⌜ Stored (now (out .entry)) (now (out .exit)) at (bytesOf 4 number) ⌝ }
@@ -58,6 +61,7 @@ pub fn write_u32(out: &mut [u8], at: usize, number: u32)
     );
 }
 
+// Writes a number in 8 bytes from `at` on, "little endian".
 pub fn write_u64(out: &mut [u8], at: usize, number: u64)
     requires { ⌜ at + 8 ≤ length (now out) ⌝ }
     ensures { λ _. ⌜ Stored (now (out .entry)) (now (out .exit)) at (bytesOf 8 number) ⌝ }

@@ -39,7 +39,7 @@ fn payload_or(held: u64, payload: Payload) -> u64
     }
 }
 
-// Returns the change that a GRANT makes: "store its fields .. and end the request".
+// Returns the change that a GRANT makes: "store its fields .. and end the request". 02, A4: "A GRANT without a value now always stores its other fields".
 pub fn store_grant(c: Copy, version: u32, expiry: u32, payload: Payload) -> Change
     ensures { λ g. ⌜ g ≡ grantStored c version expiry payload ⌝ }
 {
@@ -56,7 +56,7 @@ pub fn store_grant(c: Copy, version: u32, expiry: u32, payload: Payload) -> Chan
     }
 }
 
-// Returns an erased copy: "erase the copy (version, value and expiry 0)".
+// Returns an erased copy: "erase the copy (version, value and expiry 0)"; "version (0 is no copy)".
 pub fn none() -> Copy
     ensures { λ r. ⌜ r ≡ noCopy ⌝ }
 {
@@ -77,7 +77,7 @@ fn volume_of(setup: Setup, o: usize) -> u8
     0
 }
 
-// Returns a client's copy of an object after a sweep. `Expire`, for an OFFER, keeps version and value.
+// Returns a client's copy of an object after a sweep. `Expire`, for an OFFER, keeps version and value: "all its object expiries to 0".
 pub fn sweep(setup: Setup, g: Sweep, c: Copy, object: usize) -> Copy
     ensures { λ r. ⌜ r ≡ swept setup g c object ⌝ }
 {

@@ -10,7 +10,7 @@ use protocol::records::Copy;
 use protocol::setup::Setup;
 use protocol::step::CopyChange;
 
-// Returns the copy at index i; indices past the end read as no copy.
+// Returns the copy at index i of "a lent list of records, all dashes' in one"; indices past the end read as no copy.
 pub fn look(copies: &[Copy], i: usize) -> Copy
     ensures { λ r. ⌜ r ≡ getD (now (copies .entry)) i noCopy ⌝ }
 {
@@ -56,7 +56,7 @@ pub fn change(copies: &mut [Copy], i: usize, u: CopyChange)
     }
 }
 
-// Answers question 1 for the copies: there is one per client and object, and every expiry is in range.
+// Answers question 1 for the copies: there is one per client and object ("another length is unsound"), and every expiry is in range.
 pub fn sound(copies: &[Copy], setup: Setup) -> bool
     ensures { λ r. ⌜ r ≡ copiesSound setup (now (copies .entry)) ⌝ }
 {

@@ -27,7 +27,7 @@ pub fn look(requests: &[Request], i: usize) -> Request
     }
 }
 
-// Takes the next number for a request for the object, which becomes the standing request. Returns the number.
+// Takes the next number for a request for the object, which becomes the standing request: "one record, lent and updated". Returns the number.
 pub fn take_number(r: &mut Request, object: u8) -> u32
     requires { ⌜ now r .next < largest ⌝ }
     ensures { λ n. ⌜ (n ≡ now (r .entry) .next) × (now (r .exit) ≡ numbered (now (r .entry)) object) ⌝ }
@@ -37,14 +37,15 @@ pub fn take_number(r: &mut Request, object: u8) -> u32
     n.number
 }
 
-// Ends the standing request.
+// Ends the standing request of the record: "one record, lent and updated".
 pub fn end_request(r: &mut Request)
     ensures { λ _. ⌜ now (r .exit) ≡ ended (now (r .entry)) ⌝ }
 {
     *r = end(*r);
 }
 
-// Answers question 1 for the requests: there is one per client, next numbers are at least 1, and the object of a standing request exists.
+// Answers question 1 for the requests: there is one per client ("another length is unsound"), next numbers are at least 1, and the object of a standing
+// request exists.
 pub fn sound(requests: &[Request], setup: Setup) -> bool
     ensures { λ b. ⌜ b ≡ requestsSound setup (now (requests .entry)) ⌝ }
 {

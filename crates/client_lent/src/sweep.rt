@@ -8,7 +8,8 @@ use protocol::records::Copy;
 use protocol::setup::Setup;
 use protocol::step::Sweep;
 
-// Sweeps one client's copies, which begin at `first`: sets the expiries of one volume's objects to 0, or erases all copies.
+// Sweeps one client's copies, which begin at `first`: sets a volume's "object expiries to 0", or erases all copies, since after a restart "only its next
+// request number remains".
 pub fn sweep(copies: &mut [Copy], setup: Setup, g: Sweep, first: usize)
     ensures { λ _. ⌜ now (copies .exit) ≡ client.sweptAll setup g first (now (copies .entry)) ⌝ }
 {

@@ -23,7 +23,7 @@ pub fn apply(r: &mut Request, u: Turn)
     }
 }
 
-// Applies a turn to the request of client i, or does nothing if i is past the end.
+// Applies a turn to the request of client i ("one record, lent and updated"), or does nothing if i is past the end.
 pub fn update(requests: &mut [Request], i: usize, u: Turn)
     requires { ⌜ CanTurn (getD (now requests) i noRequest) u ⌝ }
     ensures { λ _. ⌜ now (requests .exit) ≡ set (now (requests .entry)) i (turned (getD (now (requests .entry)) i noRequest) u) ⌝ }

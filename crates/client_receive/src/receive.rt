@@ -92,7 +92,8 @@ pub fn invalidate(
     }
 }
 
-// OFFER: "Take its epoch, set that volume's expiry and all its object expiries to 0, end the request, send DROPPED with that number and epoch."
+// OFFER: "needs the standing number, else nothing. Take its epoch, set that volume's expiry and all its object expiries to 0, end the request,
+// send DROPPED with that number and epoch."
 pub fn offer(
     words: &mut Words,
     values: &mut Values,

@@ -7,7 +7,7 @@ use state_words::VOLUMES;
 use state_words::Words;
 use state_words::client;
 
-// Stores the volume's epoch and the expiry of the client's volume lease.
+// Stores the volume's epoch and the expiry of the client's volume lease: "store its fields, epoch too".
 pub fn put(words: &mut Words, client: usize, volume: usize, epoch: u32, expiry: u32)
     requires { ⌜ client < 16 ⌝ }
     requires { ⌜ volume < 8 ⌝ }

@@ -36,7 +36,8 @@ pub fn put_copy(words: &mut Words, values: &mut Values, place: usize, c: Copy)
     words[fields::COPY_EXPIRY + place] = c.expiry;
 }
 
-// Sweeps n copies, beginning at `first`.
+// Sweeps n copies, beginning at `first`: sets a volume's "object expiries to 0", or erases all, since after a restart "only its next request number
+// remains".
 pub fn sweep(setup: Setup, words: &mut Words, values: &mut Values, g: Sweep, first: usize, n: usize)
     requires { ⌜ first + n ≤ 512 ⌝ }
     ensures { λ _. ⌜ tablesOf (now (words .exit)) (now (values .exit)) ≡ tablesOf (now (words .entry)) (now (values .entry)) ⌝ }

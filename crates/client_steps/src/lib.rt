@@ -37,7 +37,8 @@ pub fn read(setup: Setup, words: &Words, c: Copy, client: u8, object: u8) -> Ans
     Answer::AskFirst
 }
 
-// Step 3: "send RENEW with number, known epoch and held version". `client_cache::request::number` takes the number.
+// Step 3: "send RENEW with number, known epoch and held version"; "RENEW's epoch is the known one, its version the held one".
+// `client_cache::request::number` takes the number.
 pub fn ask(
     setup: Setup,
     words: &mut Words,

@@ -22,7 +22,8 @@ pub fn encode(head: &[u8; 4], numbers: &[u32; 5], value: u64, out: &mut [u8]) ->
     8
 }
 
-// Stores the ten fields of a frame's message, in the frame's order. Returns 8 for bytes that are not a frame or room for fewer than ten numbers.
+// Stores the ten fields of a frame's message, in the frame's order. Returns 8 for bytes that are not a frame or room for fewer than ten numbers: "a lent
+// output long enough? 8."
 pub fn decode(frame: &[u8], fields: &mut [u64]) -> u8
     ensures { λ r. ⌜ DecodesFields (now (frame .entry)) (now (fields .entry)) (now (fields .exit)) r ⌝ }
 {

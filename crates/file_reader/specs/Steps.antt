@@ -18,6 +18,7 @@ unfoldable pub stepsFrom : List ℕ → ℕ → ℕ → List Step
 stepsFrom l p zero = []
 stepsFrom l p (suc n) = stepIn l p ∷ stepsFrom l (p + 16) n
 
+-- The steps of a file: "up to 4,000 steps of 16 bytes".
 unfoldable pub stepsOf : List ℕ → List Step
 stepsOf l = stepsFrom l (firstPlace l) (countOf l)
 

@@ -25,7 +25,7 @@ fn refused() -> Contents
     }
 }
 
-// Returns the contents of a file. Takes any bytes.
+// Returns the contents of a file, and 9 for one that is not a "Run file shaped as above, its setup in range". Takes any bytes.
 pub fn read(file: &[u8]) -> Contents
     ensures { λ r. ⌜ r ≡ contentsOf (now (file .entry)) ⌝ }
 {
@@ -41,7 +41,7 @@ pub fn read(file: &[u8]) -> Contents
     refused()
 }
 
-// Returns the note, which is the part of the file before the setup; empty for a refused file.
+// Returns the note, "a rider's note of any length", "as that part of the caller's file" that comes before the setup; empty for a refused file.
 pub fn note(file: &[u8]) -> &[u8]
     ensures { λ r. ⌜ now r ≡ noteOf (now (file .entry)) ⌝ }
 {
@@ -52,8 +52,8 @@ pub fn note(file: &[u8]) -> &[u8]
     &file[..0]
 }
 
-// Returns the step whose record begins at `place`: `first` for the first step, 16 more for each one after. Returns the step of zeros if the file has no
-// record there.
+// Returns the step whose record begins at `place`, the "running place" of "steps of 16 bytes": `first` for the first step, 16 more for each one after.
+// Returns the step of zeros if the file has no record there.
 pub fn step_at(file: &[u8], place: usize) -> Step
     ensures { λ r. ⌜ r ≡ stepAt (now (file .entry)) place ⌝ }
 {

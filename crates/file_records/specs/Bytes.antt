@@ -32,7 +32,7 @@ steps-more (x ∷ xs) y = rw (steps-more xs y) (sym (append-assoc (stepBytes x) 
 unfoldable pub trailerBytes : ℕ → List ℕ
 trailerBytes n = bytesOf 4 n ++ bytesOf 4 (56 + 16 * n)
 
--- The whole file.
+-- The whole file: "a rider's note of any length, setup .., up to 4,000 steps .., trailer of 8".
 unfoldable pub fileBytes : List ℕ → Setup → List Step → List ℕ
 fileBytes note s xs = note ++ (setupBytes s ++ (stepsBytes xs ++ trailerBytes (length xs)))
 

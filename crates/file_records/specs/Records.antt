@@ -6,7 +6,7 @@ use Rattle.bytes_layout.specs.Number.{bytesAt, numberAt}
 use Rattle.protocol.specs.declared.setup.Setup.{Setup}
 use Rattle.protocol.specs.declared.step.Step.{Step}
 
--- "setup (48 bytes: dash, volume and object counts, a 0, tv, t, m, 32 volume bytes)"
+-- "setup (48 bytes: dash, volume and object counts, a 0, tv, t, m, 32 volume bytes ..)"
 unfoldable pub setupIn : List ℕ → ℕ → Setup
 setupIn l p = record {
   clients = getD l p 0;
@@ -18,7 +18,7 @@ setupIn l p = record {
   volume = bytesAt l (p + 16) 32;
 }
 
--- "steps of 16 bytes (kind, dash, object, place; clock in 4; value in 8)"
+-- "steps of 16 bytes (kind, dash, object, place; clock in 4; value in 8 ..)"
 unfoldable pub stepIn : List ℕ → ℕ → Step
 stepIn l p = record {
   kind = getD l p 0;

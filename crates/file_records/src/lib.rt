@@ -30,7 +30,8 @@ fn volumes_in(file: &[u8], at: usize) -> [u8; 32]
     volumes
 }
 
-// Returns the setup whose 48 bytes begin at `at`. Callers check the byte after the counts, which must be 0.
+// Returns the "setup (48 bytes: dash, volume and object counts, a 0, tv, t, m, 32 volume bytes ..)" that begins at `at`. Callers check the byte after the
+// counts, which must be 0.
 pub fn setup_in(file: &[u8], at: usize) -> Setup
     requires { ⌜ at + 48 ≤ length (now file) ⌝ }
     ensures { λ r. ⌜ r ≡ setupIn (now (file .entry)) at ⌝ }
@@ -46,7 +47,7 @@ pub fn setup_in(file: &[u8], at: usize) -> Setup
     }
 }
 
-// Returns the step whose 16 bytes begin at `at`.
+// Returns the step whose "16 bytes (kind, dash, object, place; clock in 4; value in 8 ..)" begin at `at`.
 pub fn step_in(file: &[u8], at: usize) -> Step
     requires { ⌜ at + 16 ≤ length (now file) ⌝ }
     ensures { λ r. ⌜ r ≡ stepIn (now (file .entry)) at ⌝ }

@@ -11,14 +11,15 @@ use Rattle.protocol.specs.Setup.{between, inRange}
 use Rattle.protocol.specs.Gate.{isClock, isWrite, usesClient, usesObject, usesPlace, known}
 use Rattle.file_records.specs.Records.{setupIn, stepIn}
 
--- "trailer of 8: step count, then the distance from the file's end back to the setup"
+-- "trailer of 8: step count"
 abbrev pub countOf : List ℕ → ℕ
 countOf l = numberAt l (length l - 8) 4
 
+-- "the distance from the file's end back to the setup"
 abbrev pub distanceOf : List ℕ → ℕ
 distanceOf l = numberAt l (length l - 4) 4
 
--- Where the setup begins, where the first step record does, and where record k does.
+-- Where the setup begins, after "a rider's note of any length"; where the first step record does, and where record k does.
 abbrev pub setupPlace : List ℕ → ℕ
 setupPlace l = length l - distanceOf l
 
@@ -28,7 +29,7 @@ firstPlace l = setupPlace l + 48
 abbrev pub placeOf : ℕ → ℕ → ℕ
 placeOf first k = first + 16 * k
 
--- The byte after a setup's counts, which must be 0.
+-- The byte after a setup's counts, which must be 0: "dash, volume and object counts, a 0".
 abbrev pub reserved : List ℕ → ℕ → ℕ
 reserved l p = getD l (p + 3) 0
 
@@ -56,7 +57,7 @@ trailerFits n count distance = leb count 4000 && eqb distance (56 + 16 * count) 
 unfoldable pub measured : List ℕ → Bool
 measured l = between 56 65536 (length l) && trailerFits (length l) (countOf l) (distanceOf l)
 
--- The byte after the counts is 0, the setup is in range, and all steps fit.
+-- The byte after the counts is 0 ("dash, volume and object counts, a 0"), the setup is in range, and all steps fit.
 unfoldable pub contentsFit : List ℕ → Bool
 contentsFit l = eqb (reserved l (setupPlace l)) 0 && inRange (setupIn l (setupPlace l)) && stepsFit l (firstPlace l) (countOf l)
 

@@ -5,7 +5,7 @@ ghost use Rattle.file_shape.specs.Shape.{countOf, setupPlace, firstPlace
 ghost use Rattle.file_shape.specs.Parts.{Parts};
 use protocol::step::Step;
 
-// Returns whether every field that the step's kind does not use is 0. A step of an unknown kind always fits.
+// Returns whether the step fits: "unused fields 0". "Its shape asks nothing of an unknown kind or of that step's fields."
 pub fn step_fits(step: Step) -> bool
     ensures { λ r. ⌜ r ≡ stepFits step ⌝ }
 {
@@ -17,14 +17,15 @@ pub fn step_fits(step: Step) -> bool
     !known_kinds::known(step) | (client & object & place & clock & value)
 }
 
-// Returns whether the trailer's numbers agree with each other and with a file of n bytes.
+// Returns whether the trailer's numbers agree with each other and with a file of n bytes: "step count, then the distance from the file's end back to the
+// setup, 56 + 16 × count".
 fn trailer_fits(n: usize, count: u32, distance: u32) -> bool
     ensures { λ r. ⌜ r ≡ trailerFits n count distance ⌝ }
 {
     (count <= 4000) & (distance as u64 == 56 + 16 * (count as u64)) & (distance as usize <= n)
 }
 
-// Returns whether the file's length is allowed and agrees with its trailer.
+// Returns whether the file's length is allowed ("A run file, at most 65,536 bytes") and agrees with its trailer.
 fn measured(file: &[u8]) -> bool
     ensures { λ r. ⌜ r ≡ measured (now (file .entry)) ⌝ }
 {
@@ -42,7 +43,7 @@ fn measured(file: &[u8]) -> bool
     )
 }
 
-// Returns the number of steps that the trailer gives.
+// Returns the number of steps that the "trailer of 8: step count, .." gives.
 pub fn count_of(file: &[u8]) -> u32
     requires { ⌜ Parts (now file) ⌝ }
     ensures { λ r. ⌜ r ≡ countOf (now (file .entry)) ⌝ }
@@ -50,7 +51,7 @@ pub fn count_of(file: &[u8]) -> u32
     bytes_layout::read_u32(file, file.len() - 8)
 }
 
-// Returns where the setup begins: the trailer's distance back from the file's end.
+// Returns where the setup begins, after "a rider's note of any length": the trailer's "distance from the file's end back to the setup".
 pub fn setup_place(file: &[u8]) -> usize
     requires { ⌜ Parts (now file) ⌝ }
     ensures { λ r. ⌜ r ≡ setupPlace (now (file .entry)) ⌝ }
@@ -59,7 +60,7 @@ pub fn setup_place(file: &[u8]) -> usize
     n - bytes_layout::read_u32(file, n - 4) as usize
 }
 
-// Returns whether every step record fits. The place advances by 16 after each record.
+// Returns whether every step record fits. The place runs along: "keep a running place and add 16 after each".
 fn steps_fit(file: &[u8]) -> bool
     requires { ⌜ Parts (now file) ⌝ }
     ensures { λ r. ⌜ r ≡ stepsFit (now (file .entry)) (firstPlace (now (file .entry))) (countOf (now (file .entry))) ⌝ }
@@ -76,7 +77,7 @@ fn steps_fit(file: &[u8]) -> bool
     ok
 }
 
-// Returns whether the byte after the counts is 0, the setup is in range and every step record fits.
+// Returns whether the byte after the counts is 0 ("dash, volume and object counts, a 0"), the setup is in range and every step record fits.
 fn contents_fit(file: &[u8]) -> bool
     requires { ⌜ Parts (now file) ⌝ }
     ensures { λ r. ⌜ r ≡ contentsFit (now (file .entry)) ⌝ }
@@ -86,7 +87,7 @@ fn contents_fit(file: &[u8]) -> bool
     head & steps_fit(file)
 }
 
-// Returns whether the bytes are a run file with its setup in range. Takes any bytes.
+// Returns whether the bytes are a run file: "Run file shaped as above, its setup in range? 9." Takes any bytes.
 pub fn well_formed(file: &[u8]) -> bool
     ensures { λ r. ⌜ r ≡ wellFormed (now (file .entry)) ⌝ }
 {

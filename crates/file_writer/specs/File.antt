@@ -27,6 +27,7 @@ sizesFit n count room = leb count 4000 && leb (fileLength n count) 65536 && leb 
 abbrev pub fitsAt : List Step → ℕ → Bool
 fitsAt xs k = stepFits (getD xs k noStep)
 
+-- No "step of a known kind has an unused field not 0".
 unfoldable pub allFit : List Step → Bool
 allFit xs = allFrom (fitsAt xs) 0 (length xs)
 

@@ -35,7 +35,7 @@ pub record Writable (note : List ℕ) (s : Setup) (xs : List Step) : Type 0 wher
   pub volumes : length (s .volume) ≡ 32
   pub widths : All Widths xs
 
--- The reader accepts file l and returns these parts.
+-- What is written is "the file that the reader accepts, whose parts come back the same": the reader accepts file l and returns these parts.
 pub record ReadAs (l n : List ℕ) (s : Setup) (xs : List Step) : Type 0 where
   pub accepted : contentsOf l .refusal ≡ 0
   pub note : noteOf l ≡ n

@@ -16,7 +16,7 @@ use bytes_layout::output::Report;
 use file_records::list::Steps;
 use protocol::setup::Setup;
 
-// Returns whether every step of a known kind has 0 in the fields that it does not use.
+// Returns whether no "step of a known kind has an unused field not 0".
 fn all_fit(steps: Steps) -> bool
     requires { ⌜ steps .len ≤ 4000 ⌝ }
     ensures { λ r. ⌜ r ≡ allFit (held steps) ⌝ }
@@ -31,7 +31,8 @@ fn all_fit(steps: Steps) -> bool
     ok
 }
 
-// Returns whether these steps and a note of this length make a run file of at most `room` bytes.
+// Returns whether these steps and a note of this length make a run file for an output of `room` bytes. They do not "when more than 4,000 steps are
+// wanted, .. the file would pass 65,536 bytes, or the output is too short".
 fn file_fits(note_len: usize, steps: Steps, room: usize) -> bool
     ensures { λ r. ⌜ r ≡ fileFits «note_len» steps room ⌝ }
 {
@@ -81,9 +82,10 @@ fn write_file(note: &[u8], setup: Setup, steps: Steps, out: &mut [u8]) -> usize
     file_records::bytes::write_trailer(out, end, steps.len)
 }
 
-// Writes the run file of a note, a setup and steps at the start of the output. Checks everything before it writes the first byte. Refusals: 7 for a
-// setup out of range; then 10 for more than 4,000 steps, a step of a known kind with a nonzero unused field, a file of more than 65,536 bytes, or an
-// output that is too short. The reader returns the same note, setup and steps from the file.
+// Writes a run file at the start of the output: "it takes note, setup and steps and writes the file that the reader accepts, whose parts come back the
+// same". "Output bytes past it stay." Checks everything before it writes the first byte. Refusals: 7 for a setup out of range; then, "after 01's setup
+// question", 10 for more than 4,000 steps, a step of a known kind with a nonzero unused field, a file of more than 65,536 bytes, or an output that is too
+// short.
 pub fn write(note: &[u8], setup: Setup, steps: Steps, out: &mut [u8]) -> Report
     ensures reports { λ r. ⌜ Reports (writeRefusal (length (now (note .entry))) setup steps (length (now (out .entry)))) (fileBytes (now (note .entry)) setup (held steps)) (now (out .entry)) (now (out .exit)) r ⌝ }
     ensures reads { λ r. ⌜ (reportNumber r ≡ 0 → ReadAs (fileBytes (now (note .entry)) setup (held steps)) (now (note .entry)) setup (held steps)) ⌝ }

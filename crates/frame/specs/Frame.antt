@@ -14,6 +14,7 @@ use Rattle.frame.specs.declared.Decoded.the-variants as decoded
 use Rattle.frame.specs.declared.Encoded.{Encoded}
 use Rattle.frame.specs.declared.Encoded.the-variants as encoded
 
+-- The frame of a message: "A frame is 32 bytes, .. value in 8 bytes."
 abbrev pub frameOf : Message → List ℕ
 frameOf m = laid (fieldsOf m)
 
@@ -25,7 +26,7 @@ accepted f = cond (sound f) (decoded.Accepted (messageIn f)) decoded.Refused
 unfoldable pub isFrame : List ℕ → Bool
 isFrame l = eqb (length l) 32 && sound (fieldsIn l)
 
--- Decodes bytes: accepted if they are a message's frame.
+-- Decodes bytes: accepted if they are a "Frame of 32 bytes, kind, value present and zero fields right".
 unfoldable pub messageOf : List ℕ → Decoded
 messageOf l = cond (eqb (length l) 32) (accepted (fieldsIn l)) decoded.Refused
 

@@ -16,7 +16,8 @@ pub enum Encoded {
     Refused,
 }
 
-// Returns the message with these fields; refuses fields that no message has.
+// Returns the message with these fields, "kind, value present and zero fields right"; refuses fields that no message has. "Dash and object may be any
+// byte here. Fields a kind lacks are 0".
 fn accept(f: Fields) -> Decoded
     ensures { λ r. ⌜ r ≡ accepted f ⌝ }
 {
@@ -27,7 +28,7 @@ fn accept(f: Fields) -> Decoded
     Decoded::Refused
 }
 
-// Returns the message of a frame. Takes any bytes, and refuses those that are not a frame.
+// Returns the message of a frame. Takes any bytes, and refuses those that are not a "Frame of 32 bytes, kind, value present and zero fields right".
 pub fn decode(bytes: &[u8]) -> Decoded
     ensures { λ r. ⌜ Decodes (now (bytes .entry)) r ⌝ }
 {
@@ -37,7 +38,8 @@ pub fn decode(bytes: &[u8]) -> Decoded
     Decoded::Refused
 }
 
-// Writes the message's frame to the first 32 bytes of the output and leaves the rest. Refuses a shorter output without changing it.
+// Writes the message's frame to the first 32 bytes of the output: "Bytes past the frame keep what they held." Refuses a shorter output without changing
+// it: "a lent output long enough? 8."
 pub fn encode(message: Message, out: &mut [u8]) -> Encoded
     ensures { λ r. ⌜ Encodes message (now (out .entry)) (now (out .exit)) r ⌝ }
 {

@@ -6,7 +6,8 @@ ghost use Rattle.bytes_layout.specs.Number.{Stored};
 ghost use Rattle.frame_places.specs.Places.{head, numbers, laid, fieldsIn};
 use message_fields::Fields;
 
-// Returns the fields as they are, without checking that they make a message.
+// Returns the fields as they are, without checking that they make a message: "kind .., dash, object .., value present .., number, volume expiry, epoch,
+// version, object expiry; value in 8 bytes".
 pub fn read(bytes: &[u8]) -> Fields
     requires { ⌜ 32 ≤ length (now bytes) ⌝ }
     ensures { λ r. ⌜ r ≡ fieldsIn (now (bytes .entry)) ⌝ }
@@ -25,7 +26,7 @@ pub fn read(bytes: &[u8]) -> Fields
     }
 }
 
-// Writes kind, client, object and value present.
+// Writes "kind .., dash, object .., value present .., one byte each".
 fn write_head(out: &mut [u8], f: Fields)
     requires { ⌜ 4 ≤ length (now out) ⌝ }
     ensures { λ _. ⌜ Stored (now (out .entry)) (now (out .exit)) 0 (head f) ⌝ }
@@ -33,7 +34,7 @@ fn write_head(out: &mut [u8], f: Fields)
     bytes_layout::write_four(out, 0, f.kind, f.client, f.object, f.present);
 }
 
-// Writes the five numbers of 4 bytes.
+// Writes "number, volume expiry, epoch, version, object expiry", in 4 bytes each.
 fn write_numbers(out: &mut [u8], f: Fields)
     requires { ⌜ 24 ≤ length (now out) ⌝ }
     ensures { λ _. ⌜ Stored (now (out .entry)) (now (out .exit)) 4 (numbers f) ⌝ }
@@ -45,7 +46,7 @@ fn write_numbers(out: &mut [u8], f: Fields)
     bytes_layout::write_u32(out, 20, f.object_expiry);
 }
 
-// Writes all ten fields to the first 32 bytes of the output.
+// Writes all ten fields to the first 32 bytes of the output, the last a "value in 8 bytes".
 pub fn write(out: &mut [u8], f: Fields)
     requires { ⌜ 32 ≤ length (now out) ⌝ }
     ensures { λ _. ⌜ Stored (now (out .entry)) (now (out .exit)) 0 (laid f) ⌝ }

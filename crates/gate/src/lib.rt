@@ -11,8 +11,8 @@ use state_words::Words;
 
 pub mod steps;
 
-// Returns the number of the first of the six questions whose answer is "no", or 0 if the step is accepted. Takes any input; `records` says whether all
-// client records are sound.
+// Returns the number of the first of the six questions whose answer is "no", or 0 if the step is accepted: "Asked in order; the first "no" gives its
+// number". Question 1 is "Are setup and tables sound". Takes any input; `records` says whether all client records are sound.
 pub fn refusal(
     setup: Setup,
     words: &Words,

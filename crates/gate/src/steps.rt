@@ -10,7 +10,7 @@ use protocol::step::Step;
 use state_words::Values;
 use state_words::Words;
 
-// Returns `number` if the answer is "no", else the result of the later questions.
+// Returns `number` if the answer is "no", else the result of the later questions: "the first "no" gives its number".
 pub fn or_refuse(ok: bool, number: u8, next: u8) -> u8
     ensures { λ r. ⌜ r ≡ orRefuse ok number next ⌝ }
 {
@@ -20,7 +20,8 @@ pub fn or_refuse(ok: bool, number: u8, next: u8) -> u8
     number
 }
 
-// Returns the number of the first "no" to questions 2 ("Is the kind 1 to 9?") to 6, or 0. Only the contract needs `values`: it is about whole tables.
+// Returns the number of the first "no" to questions 2 ("Is the kind 1 to 9?") to 6 ("Is the version, every epoch or the next number ..?"), or 0: "the
+// first "no" gives its number". Only the contract needs `values`: it is about whole tables.
 pub fn refusal_of_step(
     setup: Setup,
     words: &Words,

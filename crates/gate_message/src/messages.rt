@@ -5,7 +5,7 @@ use protocol::message::Message;
 use protocol::setup::Setup;
 use setup::limits;
 
-// Returns whether the fields of this kind are sound: "named items existing", and a GRANT's expiries in range.
+// Returns whether the fields of this kind are sound: "named items existing", and a GRANT's "expiries (in messages too)".
 fn kind_sound(setup: Setup, kind: Kind) -> bool
     ensures { λ r. ⌜ r ≡ kindSound setup kind ⌝ }
 {
@@ -50,7 +50,7 @@ fn kind_sound(setup: Setup, kind: Kind) -> bool
     }
 }
 
-// Returns whether the message's client exists and the fields of its kind are sound.
+// Returns whether the message's client exists ("named items existing") and the fields of its kind are sound.
 pub fn message_sound(setup: Setup, message: Message) -> bool
     ensures { λ r. ⌜ r ≡ messageSound setup message ⌝ }
 {

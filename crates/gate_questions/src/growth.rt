@@ -28,7 +28,7 @@ fn version_grows(words: &Words, step: Step) -> bool
     true
 }
 
-// Returns whether the epochs of the first n volumes can all grow: ".. every epoch ..".
+// Returns whether the epochs of the first n volumes can all grow: "Is .. every epoch .. that must grow below 4,294,967,295?"
 fn epochs_grow(words: &Words, n: usize) -> bool
     requires { ⌜ n ≤ 8 ⌝ }
     ensures { λ r. ⌜ r ≡ allFrom (λ (v : ℕ). canGrow (epochAt (numbersOf (now (words .entry))) v)) 0 n ⌝ }

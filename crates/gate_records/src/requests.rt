@@ -5,7 +5,7 @@ ghost use Rattle.protocol.specs.Sound.{requestSound};
 use protocol::records::Request;
 use protocol::setup::Setup;
 
-// Returns whether the request is sound: "next numbers at least 1", and the object of a standing request exists.
+// Returns whether the request is sound: "next numbers at least 1", and the object of a standing request exists ("named items existing").
 pub fn request_sound(setup: Setup, request: Request) -> bool
     ensures { λ r. ⌜ r ≡ requestSound setup request ⌝ }
 {

@@ -17,7 +17,7 @@ use state_words::client;
 use state_words::network;
 use state_words::server;
 
-// Returns whether the first n volumes are sound: "server epochs .. at least 1", VE and guard in range.
+// Returns whether the first n volumes are sound: "server epochs .. at least 1", VE and guard in range ("expiries .., guards .. at most 2,148,483,647").
 fn volumes_fit(words: &Words, n: usize) -> bool
     requires { ⌜ n ≤ 8 ⌝ }
     ensures { λ r. ⌜ r ≡ allFrom (volumeSound (numbersOf (now (words .entry)))) 0 n ⌝ }
@@ -35,8 +35,8 @@ fn volumes_fit(words: &Words, n: usize) -> bool
     ok
 }
 
-// Returns whether the first n objects are sound: versions at least 1, OEs and the latest ends of standing writes in range, and "a version with a
-// standing write below 4,294,967,295".
+// Returns whether the first n objects are sound: "versions .. at least 1", OEs and the latest ends of standing writes in range ("expiries .. and latest
+// ends at most 2,148,483,647"), and "a version with a standing write below 4,294,967,295".
 fn objects_fit(words: &Words, n: usize) -> bool
     requires { ⌜ n ≤ 32 ⌝ }
     ensures { λ r. ⌜ r ≡ allFrom (objectSound (numbersOf (now (words .entry)))) 0 n ⌝ }
@@ -54,7 +54,7 @@ fn objects_fit(words: &Words, n: usize) -> bool
     ok
 }
 
-// Returns whether the expiries of one client's volume leases are in range, both at the server and at the client.
+// Returns whether the expiries of one client's volume leases are in range, both at the server and at the client: "expiries .. at most 2,148,483,647".
 fn sessions_fit(words: &Words, client: usize, n: usize) -> bool
     requires { ⌜ client < 16 ⌝ }
     requires { ⌜ n ≤ 8 ⌝ }
@@ -71,7 +71,7 @@ fn sessions_fit(words: &Words, client: usize, n: usize) -> bool
     ok
 }
 
-// Returns whether the expiries of one client's object leases at the server are in range.
+// Returns whether the expiries of one client's object leases at the server are in range: "expiries .. at most 2,148,483,647".
 fn holders_fit(words: &Words, client: usize, n: usize) -> bool
     requires { ⌜ client < 16 ⌝ }
     requires { ⌜ n ≤ 32 ⌝ }
@@ -116,7 +116,8 @@ fn all_holders_fit(setup: Setup, words: &Words) -> bool
     ok
 }
 
-// Answers question 1 for the tables and the message list. The setup and the client records are checked elsewhere.
+// Answers question 1, "Are setup and tables sound: .. clock at most 2,147,483,647, ..", for the tables and the message list. The setup and the client
+// records are checked elsewhere.
 pub fn tables_sound(setup: Setup, words: &Words, values: &Values) -> bool
     requires { ⌜ inRange setup ≡ true ⌝ }
     ensures { λ r. ⌜ r ≡ tablesSound setup (tablesOf (now (words .entry)) (now (values .entry))) ⌝ }

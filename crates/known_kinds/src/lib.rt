@@ -23,25 +23,28 @@ pub const RESTART_SERVER: u8 = 8;
 
 pub const RESTART_CLIENT: u8 = 9;
 
-// "Is the kind 1 to 9?"
+// Returns whether the kind is known: "Is the kind 1 to 9?" "A step of an unknown kind is a refused one."
 pub fn known(step: Step) -> bool
     ensures { λ r. ⌜ r ≡ known step ⌝ }
 {
     (CLOCK <= step.kind) & (step.kind <= RESTART_CLIENT)
 }
 
+// Returns whether the step names a client: "the dash .. it uses".
 pub fn uses_client(step: Step) -> bool
     ensures { λ r. ⌜ r ≡ usesClient step ⌝ }
 {
     (step.kind == READ) | (step.kind == ASK) | (step.kind == RESTART_CLIENT)
 }
 
+// Returns whether the step names an object: "the .. object .. it uses".
 pub fn uses_object(step: Step) -> bool
     ensures { λ r. ⌜ r ≡ usesObject step ⌝ }
 {
     (step.kind == READ) | (step.kind == ASK) | (step.kind == WRITE)
 }
 
+// Returns whether the step names a place: "the .. place it uses".
 pub fn uses_place(step: Step) -> bool
     ensures { λ r. ⌜ r ≡ usesPlace step ⌝ }
 {

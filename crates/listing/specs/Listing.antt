@@ -24,16 +24,16 @@ line step number value = field step space ++ (field number space ++ field value 
 abbrev pub lineOf : ℕ → Answer → List ℕ
 lineOf step a = line step (answerNumber a) (answerValue a)
 
--- The header: "step answer value" and a newline, in ASCII.
+-- "prints a header": "step answer value" and a newline, in ASCII
 unfoldable pub header : List ℕ
 header = 115 ∷ 116 ∷ 101 ∷ 112 ∷ 32 ∷ 97 ∷ 110 ∷ 115 ∷ 119 ∷ 101 ∷ 114 ∷ 32 ∷ 118 ∷ 97 ∷ 108 ∷ 117 ∷ 101 ∷ 10 ∷ []
 
--- The lines of these answers, the first of which is to step k.
+-- "a line a step": the lines of these answers, the first of which is to step k
 unfoldable pub linesFrom : ℕ → List Answer → List ℕ
 linesFrom k [] = []
 linesFrom k (a ∷ l) = lineOf k a ++ linesFrom (k + 1) l
 
--- The listing of a run with these answers.
+-- "prints a header, then a line a step: step from 1": the listing of a run with these answers
 abbrev pub listingOf : List Answer → List ℕ
 listingOf l = header ++ linesFrom 1 l
 

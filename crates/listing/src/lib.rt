@@ -5,7 +5,7 @@ ghost use Rattle.bytes_layout.specs.Written.{Written};
 ghost use Rattle.listing.specs.Listing.{header, line, lineOf, refusedListing};
 use protocol::step::Answer;
 
-// Writes the header line.
+// Writes the header line: "prints a header".
 pub fn write_header(out: &mut [u8], at: usize) -> usize
     requires { ⌜ at + 18 ≤ length (now out) ⌝ }
     ensures { λ r. ⌜ Written (now (out .entry)) (now (out .exit)) at header r ⌝ }
@@ -23,7 +23,7 @@ pub fn write_numbers(out: &mut [u8], at: usize, step: u64, number: u64, value: u
     listing_decimal::write_field(out, third, value, 10)
 }
 
-// Writes the line of a step and its answer.
+// Writes the line of a step and its answer: "then a line a step".
 pub fn write_line(out: &mut [u8], at: usize, step: u64, answer: Answer) -> usize
     requires { ⌜ at + 63 ≤ length (now out) ⌝ }
     ensures { λ r. ⌜ Written (now (out .entry)) (now (out .exit)) at (lineOf step answer) r ⌝ }

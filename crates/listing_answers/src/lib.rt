@@ -3,7 +3,7 @@ ghost use mathlib.Core.Path.{_≡_};
 ghost use Rattle.protocol.specs.Answers.{doneOrCompleted, answerNumber, answerValue};
 use protocol::step::Answer;
 
-// Returns 0 (done) if no write completed, else 3 (completed).
+// Returns 0 (done) if no write completed, else 3: "at least one write completed, in whichever step".
 fn done_or_completed(n: u32) -> u64
     ensures { λ r. ⌜ r ≡ doneOrCompleted n ⌝ }
 {
@@ -13,7 +13,7 @@ fn done_or_completed(n: u32) -> u64
     3
 }
 
-// Returns the answer's number; a delivery is done or completed.
+// Returns the answer's number: "0 done, 1 shown, 2 ask first, 3 at least one write completed, .. 4 refused".
 pub fn number_of(answer: Answer) -> u64
     ensures { λ r. ⌜ r ≡ answerNumber answer ⌝ }
 {
@@ -27,7 +27,7 @@ pub fn number_of(answer: Answer) -> u64
     }
 }
 
-// Returns the value shown, the number of writes completed or the refusal's number; else 0.
+// Returns the answer's value: "shown value, writes completed or refusal number, else 0".
 pub fn value_of(answer: Answer) -> u64
     ensures { λ r. ⌜ r ≡ answerValue answer ⌝ }
 {

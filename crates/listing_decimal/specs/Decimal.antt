@@ -26,6 +26,7 @@ further (suc most) n = cond (ltb n 10) 0 (suc (further most (n / 10)))
 abbrev pub width : ℕ → ℕ
 width n = suc (further 19 n)
 
+-- The digits of a number: "Numbers are decimal".
 unfoldable pub decimal : ℕ → List ℕ
 decimal n = digits (width n) n
 

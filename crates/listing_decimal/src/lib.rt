@@ -28,7 +28,7 @@ fn digit(number: u64) -> u8
     48 + (number % 10) as u8
 }
 
-// Writes the digits, the last one first.
+// Writes the digits, the last one first: "Numbers are decimal".
 fn write_number(out: &mut [u8], at: usize, number: u64) -> usize
     requires { ⌜ at + 20 ≤ length (now out) ⌝ }
     ensures { λ r. ⌜ Written (now (out .entry)) (now (out .exit)) at (decimal number) r ⌝ }

@@ -14,7 +14,7 @@ abbrev pub row : ℕ → ℕ → ℕ → ℕ → ℕ → ℕ → ℕ → ℕ →
 row k d o p n x e w y v = record { kind = k; client = d; object = o; present = p; number = n; «volume_expiry» = x; epoch = e; version = w; «object_expiry» = y; value = v }
 
 -- "RENEW has object, number, epoch and version; GRANT every field; INVALIDATE and ACK object, epoch and version; OFFER and DROPPED volume, number and
--- epoch. Fields a kind lacks are 0. A GRANT without value has value 0."
+-- epoch." "kind (1 to 6 in the order RENEW, GRANT, INVALIDATE, ACK, OFFER, DROPPED)". "Fields a kind lacks are 0". "A GRANT without value has value 0."
 --   kind client object present number volume-expiry epoch version object-expiry value
 unfoldable pub kindFields : ℕ → Kind → Fields
 kindFields d (Renew o n e w) = row 1 d o 0 n 0 e w 0 0
@@ -28,10 +28,11 @@ kindFields d (Dropped v n e) = row 6 d v 0 n 0 e 0 0 0
 abbrev pub fieldsOf : Message → Fields
 fieldsOf m = kindFields (m .client) (m .kind)
 
--- the message with these fields, ignoring those that its kind lacks
+-- the message with these fields, ignoring those that its kind lacks; "value present (0 or 1)", and "A GRANT without value has value 0"
 abbrev pub payloadIn : Fields → Payload
 payloadIn f = cond (eqb (f .present) 0) Same (Value (f .value))
 
+-- "kind (1 to 6 in the order RENEW, GRANT, INVALIDATE, ACK, OFFER, DROPPED)"
 unfoldable pub kindIn : Fields → Kind
 kindIn f =
     cond (eqb (f .kind) 2) (Grant (f .object) (f .number) (f .«volume_expiry») (f .epoch) (f .version) (f .«object_expiry») (payloadIn f))
@@ -56,6 +57,7 @@ same a b =
     && eqb (a .«object_expiry») (b .«object_expiry»)
     && eqb (a .value) (b .value)
 
--- Fields are sound if the message read from them has exactly these fields. `Questions` spells that out kind by kind, and `Round` shows what follows.
+-- Fields are sound if the message read from them has exactly these fields, so "Fields a kind lacks are 0". `Questions` spells that out kind by
+-- kind, and `Round` shows what follows.
 abbrev pub sound : Fields → Bool
 sound f = same (fieldsOf (messageIn f)) f

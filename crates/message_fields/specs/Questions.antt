@@ -22,7 +22,7 @@ payloadRight f = cond (eqb (f .present) 0) (none (f .value)) (eqb 1 (f .present)
 abbrev pub noLease : Fields → Bool
 noLease f = none (f .present) && none (f .«volume_expiry») && none (f .«object_expiry») && none (f .value)
 
--- the fields that a kind lacks are 0; no other kind is right
+-- "Fields a kind lacks are 0"; no other kind is right. "Dash and object may be any byte here."
 unfoldable pub right : Fields → Bool
 right f =
     cond (eqb (f .kind) 1) (noLease f)

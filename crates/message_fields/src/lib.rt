@@ -41,7 +41,7 @@ fn without_lease(kind: u8, client: u8, object: u8, number: u32, epoch: u32, vers
     }
 }
 
-// Adds a GRANT's own four fields: "A GRANT without value has value 0."
+// Adds a GRANT's own four fields: "value present (0 or 1)", and "A GRANT without value has value 0."
 fn with_lease(f: Fields, volume_expiry: u32, object_expiry: u32, payload: Payload) -> Fields
     ensures { λ r. ⌜ r ≡ kindFields (f .client) (Grant (f .object) (f .number) «volume_expiry» (f .epoch) (f .version) «object_expiry» payload) ⌝ }
 {
@@ -73,6 +73,8 @@ fn with_lease(f: Fields, volume_expiry: u32, object_expiry: u32, payload: Payloa
     }
 }
 
+// Returns the fields of a message by its kind, "1 to 6 in the order RENEW, GRANT, INVALIDATE, ACK, OFFER, DROPPED": "RENEW has object, number, epoch and
+// version; GRANT every field; INVALIDATE and ACK object, epoch and version; OFFER and DROPPED volume, number and epoch."
 fn kind_fields(client: u8, kind: Kind) -> Fields
     ensures { λ r. ⌜ r ≡ kindFields client kind ⌝ }
 {
@@ -125,6 +127,7 @@ pub fn fields_of(message: Message) -> Fields
     kind_fields(message.client, kind)
 }
 
+// Returns a GRANT's value, if there is one: "A GRANT without value has value 0."
 fn payload_in(f: Fields) -> Payload
     ensures { λ r. ⌜ r ≡ payloadIn f ⌝ }
 {
@@ -148,7 +151,8 @@ fn grant_in(f: Fields) -> Kind
     }
 }
 
-// Returns the kind with these fields. Unknown kind numbers read as RENEW; `sound` rejects them.
+// Returns the kind with these fields, "1 to 6 in the order RENEW, GRANT, INVALIDATE, ACK, OFFER, DROPPED". Unknown kind numbers read as RENEW; `sound`
+// rejects them.
 fn kind_in(f: Fields) -> Kind
     ensures { λ r. ⌜ r ≡ kindIn f ⌝ }
 {
@@ -232,7 +236,7 @@ fn no_lease(f: Fields) -> bool
     (0 == f.present) & (0 == f.volume_expiry) & (0 == f.object_expiry) & (0 == f.value)
 }
 
-// Returns whether these are the fields of a message: the kind is known, the fields that it lacks are 0, and a GRANT's value flag is right.
+// Returns whether these are the fields of a message: the kind is known, "Fields a kind lacks are 0", and a GRANT's value flag is right.
 pub fn sound(f: Fields) -> bool
     ensures { λ r. ⌜ r ≡ sound f ⌝ }
 {

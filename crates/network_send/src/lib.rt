@@ -8,7 +8,7 @@ use state_words::Words;
 use state_words::network;
 use state_words::pass;
 
-// Appends a message to the list. "A message sent to a full list is lost."
+// Appends a message to the list, which is "in sending order". "A message sent to a full list is lost."
 pub fn push(words: &mut Words, values: &mut Values, message: Message)
     ensures { λ _. ⌜ tablesOf (now (words .exit)) (now (values .exit)) ≡ sent (tablesOf (now (words .entry)) (now (values .entry))) message ⌝ }
     ensures { λ _. ⌜ recordsOf (now (words .exit)) (now (values .exit)) ≡ recordsOf (now (words .entry)) (now (values .entry)) ⌝ }

@@ -10,7 +10,8 @@ use bytes_layout::output::Report;
 use input::Input;
 use libc::STDOUT_FILENO;
 
-// Writes what the program prints for a file to `out`, and returns its length. The buffer holds any listing, so a refusal means a bad file.
+// Writes what the program prints for a file to `out`, and returns its length. The buffer holds any listing, so a refusal means a bad file: "A refused file
+// prints the header and "0 4 9"."
 fn print(file: &[u8], out: &mut [u8]) -> usize
     requires { ⌜ 112640 ≤ length (now out) ⌝ }
     ensures { λ r. ⌜ Written (now (out .entry)) (now (out .exit)) 0 (printed (now (file .entry))) r ⌝ }
@@ -21,8 +22,9 @@ fn print(file: &[u8], out: &mut [u8]) -> usize
     }
 }
 
-// Reads one byte more than a run file can have, so that an over-long file is refused and not truncated. Prints nothing for a file that could not be
-// read to its end: the listing of a part would pass for that of the whole.
+// Prints a listing: "The program roadrun reads such a file on standard input and prints a header, then a line a step". Reads one byte more than a run file
+// can have, so that an over-long file is refused and not truncated. Prints nothing for a file that could not be read to its end: the listing of a part
+// would pass for that of the whole.
 fn main() {
     let mut file = [0u8; 65537];
     let Input::Read(n) = input::read(&mut file) else {

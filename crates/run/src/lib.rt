@@ -22,8 +22,9 @@ fn print(file: &[u8], c: Contents, out: &mut [u8]) -> usize
     crate::steps::run_steps(file, c, out, at)
 }
 
-// Writes the listing of a run file to the output. Accepts any bytes: refuses with 9 if they are not a run file, and with 8 if the output is too short
-// for the listing. A refusal leaves the output unchanged.
+// Writes the listing of a run file to the output, "a header, then a line a step". Accepts any bytes: refuses with 9 if they are not a run file ("Run file
+// shaped as above, its setup in range? 9"), and with 8 if the output is too short for the listing ("a lent output long enough? 8"). A refusal leaves the
+// output unchanged.
 pub fn list(file: &[u8], out: &mut [u8]) -> Report
     ensures { λ r. ⌜ Reports (listRefusal (now (file .entry)) (length (now (out .entry)))) (fileListing (now (file .entry))) (now (out .entry)) (now (out .exit)) r ⌝ }
 {

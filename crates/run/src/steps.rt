@@ -9,8 +9,9 @@ use file_reader::Contents;
 use state_words::VALUES;
 use state_words::WORDS;
 
-// Runs the steps of an accepted file from fresh words on, and writes one line per step to the output from `at` on, which has room for them. The offset
-// in the file advances by 16 after every step, refused or not. Returns the output offset after the last line.
+// Runs the steps of an accepted file: "The tables start fresh, with no message and no copy. Each step gets tables, messages and lent records as the last
+// one left them". Writes one line per step to the output from `at` on, which has room for them. The place in the file runs along, whether or not a step is
+// refused: "keep a running place and add 16 after each". Returns the output offset after the last line.
 pub fn run_steps(file: &[u8], c: Contents, out: &mut [u8], at: usize) -> usize
     requires { ⌜ c ≡ contentsOf (now file) ⌝ }
     requires { ⌜ c .refusal ≡ 0 ⌝ }

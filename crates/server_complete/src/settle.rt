@@ -37,7 +37,7 @@ pub fn settle(setup: Setup, trigger: Trigger, words: &mut Words, values: &mut Va
     count
 }
 
-// Sets the clock and completes the writes that are then due (step 1). Returns how many completed.
+// Performs step 1, "Clock T: set the clock", and completes the writes that are then due. Returns how many completed.
 pub fn pass_time(setup: Setup, words: &mut Words, values: &mut Values, clock: u32) -> u32
     requires { ⌜ inRange setup ≡ true ⌝ }
     requires { ⌜ Growing setup (tablesOf (now words) (now values) .objects) ⌝ }

@@ -21,7 +21,8 @@ use state_words::Words;
 use state_words::pass;
 use state_words::server;
 
-// Zeroes one field of the client for each object of the volume; `field` is where the field starts.
+// Zeroes one field of the client for each object of the volume: "Clear the dash's leases in the volume, .. and waiting there". `field` is where the field
+// starts.
 fn clear_in_volume(setup: Setup, words: &mut Words, field: usize, client: usize, volume: usize)
     requires { ⌜ inRange setup ≡ true ⌝ }
     requires { ⌜ field + 512 ≤ WORDS ⌝ }

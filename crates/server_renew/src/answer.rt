@@ -28,7 +28,7 @@ fn must_drop(words: &Words, client: usize, volume: usize, epoch: u32) -> bool
         | (words[server::UNREACHABLE + (client * VOLUMES + volume)] != 0)
 }
 
-// Answers a RENEW whose number is new: "take the first rule that fits".
+// Answers a RENEW whose number is new: "take the first rule that fits". Sends nothing where "This object has a standing write".
 pub fn renew_by(
     setup: Setup,
     words: &mut Words,

@@ -12,8 +12,8 @@ use state_words::Values;
 use state_words::Words;
 use state_words::server;
 
-// Receives a client's RENEW for an object. `epoch` is the one that the client knows, `held` the version that it holds. A number that is not above the
-// highest seen is ignored, so a doubled RENEW does nothing.
+// Receives a client's RENEW for an object. `epoch` is the one that the client knows, `held` the version that it holds. "number not above the highest
+// seen: nothing", so a doubled RENEW does nothing. "Otherwise note it, then take the first rule that fits."
 pub fn receive_renew(
     setup: Setup,
     words: &mut Words,

@@ -21,7 +21,7 @@ use state_words::Words;
 use state_words::network;
 use state_words::server;
 
-// Returns the OFFER, with the number of the RENEW and the volume's epoch: "send OFFER".
+// Returns the OFFER, with the volume's epoch: "send OFFER". Like the GRANT it repeats the RENEW's number: "replies repeat a request number".
 pub fn offering(words: &Words, client: usize, volume: usize, number: u32) -> Message
     requires { ⌜ client < 16 ⌝ }
     requires { ⌜ volume < 8 ⌝ }
@@ -67,7 +67,7 @@ fn payload<'a>(words: &'a Words, values: &'a Values, object: usize, held: u32) -
     Payload::Value(values[server::VALUE + object])
 }
 
-// Returns the GRANT, with the new expiry of each lease: "send GRANT".
+// Returns the GRANT, with the RENEW's number ("replies repeat a request number") and the new expiry of each lease: "send GRANT".
 pub fn granting<'a>(
     setup: Setup,
     words: &'a Words,

@@ -1,4 +1,4 @@
-// The test "Dash waited for in this volume", and the search for "its lowest such object".
+// The object whose INVALIDATE is resent (01, "Messages received", RENEW).
 ghost use mathlib.Core.Path.{_≡_};
 ghost use mathlib.Core.Bool.{true};
 ghost use Prim.Native.Nat.{_<_};
@@ -11,7 +11,7 @@ use state_words::OBJECTS;
 use state_words::Words;
 use state_words::server;
 
-// Returns whether the object is in the volume and its standing write waits for the client.
+// Returns whether the object is in the volume and its standing write waits for the client: "Dash waited for in this volume".
 fn waited_in(setup: Setup, words: &Words, client: usize, volume: usize, object: usize) -> bool
     requires { ⌜ inRange setup ≡ true ⌝ }
     requires { ⌜ client < setup .clients ⌝ }
@@ -23,7 +23,7 @@ fn waited_in(setup: Setup, words: &Words, client: usize, volume: usize, object: 
     (own == volume) & ((words[server::STANDING + object] != 0) & (words[server::WAITING + i] != 0))
 }
 
-// Returns the first object of the volume whose standing write waits for the client, or the number of objects if there is none.
+// Returns the first object of the volume whose standing write waits for the client, "its lowest such object", or the number of objects if there is none.
 pub fn lowest_waited(setup: Setup, words: &Words, client: usize, volume: usize) -> usize
     requires { ⌜ inRange setup ≡ true ⌝ }
     requires { ⌜ client < setup .clients ⌝ }

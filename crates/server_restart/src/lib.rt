@@ -40,7 +40,7 @@ fn guard_expiries(words: &mut Words)
     }
 }
 
-// Zeroes what the server knows of each client: highest number seen, volume leases, unreachable marks and offers.
+// Zeroes what the server knows of each client: highest number seen, volume leases, unreachable marks and offers ("its other fields become fresh").
 fn clear_sessions(words: &mut Words)
     ensures { λ _. ⌜ now (words .exit) ≡ sessionsCleared (now (words .entry)) ⌝ }
 {
@@ -50,7 +50,7 @@ fn clear_sessions(words: &mut Words)
     pass::fill(&mut *words, server::OFFER, 128, 0);
 }
 
-// Zeroes each object's OE and ends its standing write. Values and versions stay.
+// Zeroes each object's OE and ends its standing write: "values, versions .. remain; .. other fields become fresh".
 fn clear_objects(words: &mut Words)
     ensures { λ _. ⌜ now (words .exit) ≡ objectsCleared (now (words .entry)) ⌝ }
 {
@@ -59,7 +59,7 @@ fn clear_objects(words: &mut Words)
     pass::fill(&mut *words, server::END, 32, 0);
 }
 
-// Zeroes all object leases and waiting marks.
+// Zeroes all object leases and waiting marks ("its other fields become fresh").
 fn clear_holders(words: &mut Words)
     ensures { λ _. ⌜ now (words .exit) ≡ holdersCleared (now (words .entry)) ⌝ }
 {

@@ -16,7 +16,7 @@ use state_words::network;
 use state_words::pass;
 use state_words::server;
 
-// Zeroes one field of the object for each client; `field` is where the field starts.
+// Zeroes one field of the object for each client, as completing "clears every dash's server lease on that object"; `field` is where the field starts.
 pub fn clear_object(words: &mut Words, field: usize, object: usize, n: usize)
     requires { ⌜ field + 512 ≤ WORDS ⌝ }
     requires { ⌜ object < 32 ⌝ }
@@ -76,7 +76,8 @@ pub fn waited(words: &Words, object: usize, n: usize) -> bool
     next_waiting(words, object, 0, n) < n
 }
 
-// Sets which clients a new write of the object waits for (step 4); `volume` is the object's volume.
+// Sets which clients a new write of the object waits for (step 4): "Waiting are the dashes whose object lease is alive and ..". `volume` is the object's
+// volume.
 pub fn await_clients(words: &mut Words, volume: usize, object: usize, n: usize)
     requires { ⌜ volume < 8 ⌝ }
     requires { ⌜ object < 32 ⌝ }

@@ -18,7 +18,7 @@ use state_words::Values;
 use state_words::Words;
 use state_words::server;
 
-// Sends an INVALIDATE with this epoch and new version to those of the first n clients that the write waits for: "Send each INVALIDATE in dash order".
+// Sends an INVALIDATE with this epoch and new version to those of the first n clients that the write waits for, "in dash order".
 fn invalidate(
     words: &mut Words,
     values: &mut Values,
@@ -55,7 +55,8 @@ fn invalidate(
     }
 }
 
-// Sends an INVALIDATE to each client that the object's write waits for. The new version is the one that the write will have once complete.
+// Sends an INVALIDATE to each client that the object's write waits for: "Send each INVALIDATE in dash order." The new version is the one that the write
+// will have once complete.
 pub fn notify(setup: Setup, words: &mut Words, values: &mut Values, object: usize)
     requires { ⌜ inRange setup ≡ true ⌝ }
     requires { ⌜ object < setup .objects ⌝ }

@@ -3,7 +3,7 @@ ghost use Rattle.protocol.specs.Tables.{freshRequest, noCopy};
 use protocol::records::Copy;
 use protocol::records::Request;
 
-// Returns a client's copy before the first grant: no copy.
+// Returns a client's copy before the first grant, which is none: "All else is fresh 0, none or no".
 pub fn fresh_copy() -> Copy
     ensures { λ r. ⌜ r ≡ noCopy ⌝ }
 {
@@ -14,7 +14,7 @@ pub fn fresh_copy() -> Copy
     }
 }
 
-// Returns a client's request record before it has asked for anything: no standing request, and the next number is 1.
+// Returns a client's request record before it has asked for anything: "next request number (fresh 1); standing request, none".
 pub fn fresh_request() -> Request
     ensures { λ r. ⌜ r ≡ freshRequest ⌝ }
 {

@@ -16,7 +16,7 @@ fn between(low: u32, high: u32, n: u32) -> bool
     (low <= n) & (n <= high)
 }
 
-// Returns whether slot `o` may hold volume `v`: an object's volume exists, and a slot past the last object holds 0.
+// Returns whether slot `o` may hold volume `v`: "each object's volume (0 past the count)" exists.
 fn volume_fits(o: usize, v: u8, objects: u32, volumes: u32) -> bool
     ensures { λ r. ⌜ r ≡ cond (ltb o objects) (ltb v volumes) (eqb v 0) ⌝ }
 {
@@ -26,7 +26,7 @@ fn volume_fits(o: usize, v: u8, objects: u32, volumes: u32) -> bool
     v == 0
 }
 
-// Checks all 32 slots.
+// Returns whether all 32 slots fit: "each object's volume (0 past the count)".
 fn volumes_fit(setup: Setup) -> bool
     ensures { λ r. ⌜ r ≡ allFrom (volumeFits setup) 0 32 ⌝ }
 {
@@ -39,7 +39,8 @@ fn volumes_fit(setup: Setup) -> bool
     ok
 }
 
-// Returns whether the setup is in range. Accepts any input.
+// Answers "setup in range?": "1 to 16 dashes, 1 to 8 volumes, 1 to 32 objects", their volumes, "volume lease tv 1 to 3,600; object lease t 1
+// to 1,000,000; message timeout m 1 to 60". Accepts any input.
 pub fn in_range(setup: Setup) -> bool
     ensures { λ r. ⌜ r ≡ inRange setup ⌝ }
 {

@@ -1,4 +1,4 @@
-// "All else is fresh 0, none or no; clock 0."
+// Writing the fresh state (01, "Tables").
 ghost use mathlib.Core.Bool.{true, false, cond};
 ghost use mathlib.Core.Path.{_≡_};
 ghost use Rattle.protocol.specs.Setup.{inRange};
@@ -13,7 +13,7 @@ use crate::pass;
 use crate::server;
 use protocol::setup::Setup;
 
-// Writes the fresh state: the server's epochs and versions and the clients' next request numbers are 1, all else is 0.
+// Writes the fresh state: the server's epochs and versions and the clients' next request numbers are 1. "All else is fresh 0, none or no; clock 0."
 pub fn fresh(words: &mut Words, values: &mut Values)
     ensures { λ _. ⌜ tablesOf (now (words .exit)) (now (values .exit)) ≡ freshTables ⌝ }
     ensures { λ _. ⌜ recordsOf (now (words .exit)) (now (values .exit)) ≡ freshRecords ⌝ }
@@ -25,7 +25,7 @@ pub fn fresh(words: &mut Words, values: &mut Values)
     pass::fill(&mut *words, client::REQUEST_NEXT, 16, 1);
 }
 
-// Writes the fresh state and returns 0 if the setup is in range; otherwise changes nothing and returns 7.
+// Writes the fresh state and returns 0 if the setup is in range; otherwise changes nothing and returns 7: "Elsewhere: setup in range? 7."
 pub fn fresh_for(setup: Setup, words: &mut Words, values: &mut Values) -> u8
     ensures refusal { λ r. ⌜ r ≡ cond (inRange setup) 0 7 ⌝ }
     ensures accepts { λ _. ⌜ (inRange setup ≡ true → (tablesOf (now (words .exit)) (now (values .exit)) ≡ freshTables) × (recordsOf (now (words .exit)) (now (values .exit)) ≡ freshRecords)) ⌝ }

@@ -1,10 +1,12 @@
 // Offsets of the fields between server and clients: the clock that all of them use, and the messages in transit.
+
+// "clock 0" when fresh
 pub const CLOCK: usize = 0;
 
-// the number of messages
+// "Message list: at most 64": the number of messages
 pub const LENGTH: usize = 1;
 
-// 64 rows of nine words
+// "in sending order": 64 rows of nine words
 pub const MESSAGES: usize = 2;
 
 // in the values: one per message

@@ -20,8 +20,8 @@ use state_words::Words;
 use step_decide::decide;
 use step_target::target;
 
-// Performs one step (01, "Steps") on any input. `copies` holds all clients' copies, client by client in object order; `requests` holds one request per
-// client. The client records in the words are not used and do not change.
+// Performs one step (01, "Steps") on any input. `copies` is the "lent list of records, all dashes' in one, dash by dash in object order"; `requests` has
+// one record per client. Refused, "every lent table and buffer is unchanged". The client records in the words are not used and do not change.
 pub fn step(
     setup: Setup,
     words: &mut Words,

@@ -12,8 +12,8 @@ use state_words::Values;
 use state_words::Words;
 use step_verdict::Verdict;
 
-// Decides one step on any input; `records` says whether all lent records are sound. A refused step changes nothing; no step changes the client records
-// in the words.
+// Decides one step on any input; `records` says whether all lent records are sound. Refused, "every lent table and buffer is unchanged"; no step changes
+// the client records in the words.
 pub fn decide(
     setup: Setup,
     words: &mut Words,

@@ -1,4 +1,4 @@
-// Step 5: "remove the message, then receive it". Server and client each handle the kinds that are sent to them and ignore the others.
+// Delivering a message (01, "Steps" 5). Server and client each handle the kinds that are sent to them and ignore the others.
 ghost use mathlib.Core.Bool.{true};
 ghost use mathlib.Core.Path.{_≡_};
 ghost use Prim.Native.Nat.{_≤_, _<_};
@@ -28,7 +28,7 @@ use state_words::Values;
 use state_words::Words;
 use step_verdict::Verdict;
 
-// Receives RENEW, ACK and DROPPED at the server. Returns the number of writes completed.
+// Receives RENEW, ACK and DROPPED at the server ("then receive it"). Returns the number of writes completed.
 fn by_server(setup: Setup, words: &mut Words, values: &mut Values, client: usize, k: Kind) -> u32
     requires { ⌜ inRange setup ≡ true ⌝ }
     requires { ⌜ tablesOf (now words) (now values) .clock ≤ clockLimit ⌝ }
@@ -71,7 +71,7 @@ fn by_server(setup: Setup, words: &mut Words, values: &mut Values, client: usize
     }
 }
 
-// Receives GRANT, INVALIDATE and OFFER at the client. Returns the change to its records.
+// Receives GRANT, INVALIDATE and OFFER at the client ("then receive it"). Returns the change to its records.
 fn by_client(
     setup: Setup,
     words: &mut Words,
@@ -121,7 +121,7 @@ fn by_client(
     }
 }
 
-// Removes the message at `place` and delivers it. Returns the answer and the change to the client's records.
+// Delivers the message at `place`: "remove the message, then receive it". Returns the answer and the change to the client's records.
 pub fn deliver(
     setup: Setup,
     words: &mut Words,

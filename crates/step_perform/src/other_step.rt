@@ -16,7 +16,8 @@ use server_complete::settle;
 use state_words::Values;
 use state_words::Words;
 
-// Performs the step. Needs no client records. Returns the number of writes completed.
+// Performs a step that needs no client records: the clock's, a write, "Lose place i", "Double place i" and the server's restart. Returns the number of
+// writes completed.
 pub fn of_no_client(setup: Setup, words: &mut Words, values: &mut Values, step: Step) -> u32
     requires { ⌜ inRange setup ≡ true ⌝ }
     requires { ⌜ tablesSound setup (tablesOf (now words) (now values)) ≡ true ⌝ }

@@ -42,7 +42,7 @@ onlyUsed x = record {
 abbrev pub drawnStep : Setup → ℕ → ℕ → Step
 drawnStep q s total = onlyUsed (fieldsDrawn q s total)
 
--- The clock total after a step.
+-- The clock total after a step: "A clock step .. has the new total as its clock".
 unfoldable pub totalAfter : Step → ℕ → ℕ
 totalAfter x total = cond (isClock x) (x .clock) total
 

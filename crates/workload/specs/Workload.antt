@@ -13,7 +13,7 @@ use Rattle.file_writer.specs.File.{sizesFit}
 use Rattle.workload.specs.Draws.{draw, drawnStep, totalAfter}
 use Rattle.workload.specs.declared.Workload.{Workload}
 
--- The seed of step k, counted from 0: the last draw of the step before it.
+-- The seed of step k, counted from 0: "Each step draws five times", and the last draw of the step before is the seed.
 unfoldable pub seedOf : ℕ → ℕ → ℕ
 seedOf s zero = s
 seedOf s (suc k) = draw (seedOf s k) 5
@@ -27,7 +27,7 @@ totalOf q s (suc k) = totalAfter (drawnStep q (seedOf s k) (totalOf q s k)) (tot
 abbrev pub stepOf : Setup → ℕ → ℕ → Step
 stepOf q s k = drawnStep q (seedOf s k) (totalOf q s k)
 
--- The first n steps of a seed.
+-- The first n steps of a seed: "the same long ride every time".
 abbrev pub workload : Setup → ℕ → ℕ → List Step
 workload q s n = tabulate (stepOf q s) 0 n
 

@@ -7,14 +7,14 @@ ghost use Rattle.workload.specs.Draws.{next, onlyUsed, totalAfter, drawn
 use protocol::setup::Setup;
 use protocol::step::Step;
 
-// Returns the seed times the generator's factor, modulo 2 to the 32nd.
+// Returns the product "1,664,525 × s", "kept modulo 2 to the 32nd".
 fn product(seed: u32) -> u32
     ensures { λ r. ⌜ r ≡ (1664525 * seed) % 4294967296 ⌝ }
 {
     (1664525 * (seed as u64) % 4294967296) as u32
 }
 
-// Returns the number after a seed. The addition wraps on purpose: numbers are kept modulo 2 to the 32nd.
+// Returns the number after a seed: "the next is 1,664,525 × s + 1,013,904,223, kept modulo 2 to the 32nd". The addition wraps on purpose.
 pub fn next(seed: u32) -> u32
     ensures { λ r. ⌜ r ≡ next seed ⌝ }
 {
@@ -49,7 +49,7 @@ fn value_if(used: bool, value: u64) -> u64
     0
 }
 
-// Returns the step with the fields that its kind does not use set to 0.
+// Returns the step with the fields that its kind does not use set to 0: "unused fields are 0".
 fn only_used(step: Step) -> Step
     ensures { λ r. ⌜ r ≡ onlyUsed step ⌝ }
 {
@@ -63,7 +63,7 @@ fn only_used(step: Step) -> Step
     }
 }
 
-// Returns the clock total after a step.
+// Returns the clock total after a step: "A clock step .. has the new total as its clock".
 fn total_after(step: Step, total: u32) -> u32
     ensures { λ r. ⌜ r ≡ totalAfter step total ⌝ }
 {
@@ -73,7 +73,7 @@ fn total_after(step: Step, total: u32) -> u32
     total
 }
 
-// Returns the draw modulo a count of clients, objects or places.
+// Returns the "remainder of draw by their counts", of clients, objects or places.
 fn remainder(draw: u32, count: u32) -> u8
     requires { ⌜ 1 ≤ count ⌝ }
     requires { ⌜ count ≤ 64 ⌝ }
@@ -89,7 +89,9 @@ pub struct Drawn {
     pub total: u32,
 }
 
-// Draws the next step, for a setup in range. The total of 4,000 steps is at most 16,000, so adding to it cannot overflow.
+// Draws the next step, for a setup in range: "Each draw is that next number. Each step draws five times, in order: kind 1 + draw mod 9, dash, object and
+// place .., and amount draw mod 5. A clock step adds the amount to a total ..; a write has the amount as its value". The total of 4,000 steps is at most
+// 16,000, so adding to it cannot overflow.
 pub fn draw_step(seed: u32, setup: Setup, total: u32) -> Drawn
     requires { ⌜ inRange setup ≡ true ⌝ }
     requires { ⌜ total ≤ 16000 ⌝ }

@@ -20,7 +20,7 @@ pub struct Workload {
     pub steps: Steps,
 }
 
-// Returns 7 for a setup out of range, 10 for more than 4,000 steps, else 0.
+// Returns 7 for a setup out of range, "10 when more than 4,000 steps are wanted, .. after 01's setup question", else 0.
 fn refusal(setup: Setup, count: u32) -> u8
     ensures { λ r. ⌜ r ≡ stepsRefusal setup count ⌝ }
 {
@@ -33,7 +33,7 @@ fn refusal(setup: Setup, count: u32) -> u8
     7
 }
 
-// Returns the first `count` steps of a seed, for a setup in range.
+// Returns the first `count` steps of a seed, for a setup in range: "Each step draws five times".
 fn drawn_steps(seed: u32, setup: Setup, count: u32) -> Steps
     requires { ⌜ inRange setup ≡ true ⌝ }
     requires { ⌜ count ≤ 4000 ⌝ }
@@ -55,7 +55,7 @@ fn drawn_steps(seed: u32, setup: Setup, count: u32) -> Steps
     steps
 }
 
-// Returns the first `count` steps of a seed, or the refusal.
+// Returns the first `count` steps of a seed, "the same long ride every time", or the refusal.
 pub fn steps(seed: u32, setup: Setup, count: u32) -> Workload
     ensures { λ r. ⌜ r ≡ workloadOf setup seed count ⌝ }
 {
