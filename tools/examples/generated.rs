@@ -1,5 +1,5 @@
-//! Writes the run file of a generated run of so many steps, with the most
-//! clients and objects: `cargo run --example generated -- 200 > run.run`.
+//! Writes the run file of a generated run with this many steps, and with the
+//! most clients and objects: `cargo run --example generated -- 200 > run.run`.
 
 use std::io::{self, Write};
 

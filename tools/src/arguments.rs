@@ -1,11 +1,11 @@
-//! A command's arguments, taken apart: options first, the files are left.
+//! Takes a command's arguments apart: options first; what is left are files.
 
 use std::str::FromStr;
 
 use crate::command::Failure;
 
 pub struct Arguments {
-    /// What was not taken out yet.
+    /// The arguments not taken out yet.
     pub rest: Vec<String>,
 }
 
@@ -14,7 +14,8 @@ impl Arguments {
         Arguments { rest: arguments.to_vec() }
     }
 
-    /// Takes out `name VALUE`. Another option is no value.
+    /// Takes out `name VALUE` and returns the value. Another option is not
+    /// accepted as a value.
     pub fn option(&mut self, name: &str, value: &str) -> Result<Option<String>, Failure> {
         let Some(place) = self.rest.iter().position(|word| word == name) else {
             return Ok(None);
@@ -32,7 +33,8 @@ impl Arguments {
         Ok(Some(found))
     }
 
-    /// Takes out `name NUMBER`, of digits alone.
+    /// Takes out `name NUMBER` and returns the number, which must be digits
+    /// only.
     pub fn number<N: FromStr>(&mut self, name: &str, value: &str) -> Result<Option<N>, Failure> {
         let Some(found) = self.option(name, value)? else {
             return Ok(None);
@@ -43,7 +45,8 @@ impl Arguments {
         }
     }
 
-    /// A number of 32 bits that has to be there.
+    /// Takes out `name NUMBER` and returns the number, which must be there and
+    /// fit in 32 bits.
     pub fn needed(&mut self, name: &str) -> Result<u32, Failure> {
         let expected = format!("a number from 0 to {}", u32::MAX);
         let missing = || Failure::Usage(format!("{name}: found nothing, expected {expected}"));
@@ -56,7 +59,7 @@ impl Arguments {
         self.rest.len() < before
     }
 
-    /// What is left: files, `-` for standard input.
+    /// Returns the arguments left, which must be files; `-` is standard input.
     pub fn files(self) -> Result<Vec<String>, Failure> {
         match self.rest.iter().find(|word| is_option(word)) {
             None => Ok(self.rest),
@@ -64,7 +67,7 @@ impl Arguments {
         }
     }
 
-    /// The one file; none is standard input.
+    /// Returns the only file, or nothing for standard input.
     pub fn file(self) -> Result<Option<String>, Failure> {
         let files = self.files()?;
         match files.len() {

@@ -1,13 +1,13 @@
-//! A text's expectations, held to what the proved library answers.
+//! Checks a text's expectations against the answers of the proved library.
 
 use crate::explain::{answered, clock, written};
 use crate::scenario::Scenario;
 use crate::trace::Moment;
 
 pub struct Verdict {
-    /// How many hold.
+    /// How many hold, in words.
     pub words: String,
-    /// Each one that fails, in words.
+    /// Each expectation that fails, in words.
     pub failures: Vec<String>,
 }
 
@@ -23,8 +23,8 @@ pub fn verdict(scenario: &Scenario) -> Verdict {
     Verdict { words: counted(scenario, failures.len()), failures }
 }
 
-/// Returns how many hold or fail. Of a text that stops halfway, the rest was
-/// not reached.
+/// Returns how many expectations hold or fail. If the text stops halfway, the
+/// rest were not reached.
 fn counted(scenario: &Scenario, failed: usize) -> String {
     let all = scenario.source.iter().flat_map(|source| &source.lines);
     let count = all.filter(|line| line.expected.is_some()).count();
@@ -41,8 +41,8 @@ fn counted(scenario: &Scenario, failed: usize) -> String {
     [Some(words), missed, stopped].into_iter().flatten().collect::<Vec<_>>().join(", ")
 }
 
-/// Returns the step's line in the text and the clock, what was written there,
-/// and why the answer was another, if it was.
+/// Returns, if the step's expectation failed, its line in the text, the clock,
+/// what was written there, and why the answer differs.
 fn failure(scenario: &Scenario, moment: &Moment) -> Option<String> {
     let step = moment.number;
     let failed = scenario.expectation(step).filter(|expectation| !expectation.holds())?;

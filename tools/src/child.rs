@@ -1,4 +1,4 @@
-//! Feeds a file to a program and takes what it prints.
+//! Feeds a file to a program and reads what it prints.
 
 use std::io::{self, Read, Write};
 use std::process::{Child, Command, Stdio};
@@ -6,12 +6,12 @@ use std::sync::mpsc;
 use std::thread;
 use std::time::Duration;
 
-/// No run is long: a program that takes this long hangs.
+/// Runs are short, so a program that takes this long hangs.
 const PATIENCE: Duration = Duration::from_secs(20);
 
-/// What the program prints on standard output for this file. A program that
-/// hangs, dies by a signal or ends with a status other than 0 gets a last line
-/// that no listing has.
+/// Returns what the program prints on standard output for this file. If it
+/// hangs, is killed by a signal or exits with a status other than 0, a last
+/// line is added that no listing has.
 pub fn listing_by(program: &str, file: &[u8]) -> io::Result<Vec<u8>> {
     let mut command = Command::new(program);
     let mut child = command.stdin(Stdio::piped()).stdout(Stdio::piped()).stderr(Stdio::null()).spawn()?;
@@ -29,8 +29,8 @@ pub fn listing_by(program: &str, file: &[u8]) -> io::Result<Vec<u8>> {
     Ok(lines)
 }
 
-/// Writes on a thread of its own, as the program may print before it has
-/// read all. It may also stop reading a file that is too long.
+/// Writes the file on a separate thread, since the program may print before it
+/// has read everything. It may also stop reading a file that is too long.
 fn feed(child: &mut Child, file: Vec<u8>) {
     let input = child.stdin.take();
     thread::spawn(move || input.map(|mut input| input.write_all(&file)));
@@ -42,7 +42,7 @@ fn collect(child: &mut Child) -> mpsc::Receiver<Vec<u8>> {
     thread::spawn(move || {
         let mut lines = Vec::new();
         if let Some(mut output) = output {
-            // What cannot be read will differ from the model's listing.
+            // A failed read shows up as a difference from the model's listing.
             let _ = output.read_to_end(&mut lines);
         }
         sender.send(lines)

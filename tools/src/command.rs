@@ -1,4 +1,4 @@
-//! What the commands have in common: help, `-o`, exit status.
+//! What the commands share: help, `-o`, exit status.
 
 use std::env;
 use std::io::{self, Write};
@@ -7,16 +7,16 @@ use std::process::ExitCode;
 use crate::arguments::Arguments;
 use crate::output::{to_file, to_standard_output, Output};
 
-/// Why a command ends without its output.
+/// Why a command ends without output.
 pub enum Failure {
-    /// The input is not what it should be: exit status 1.
+    /// The input is wrong: exit status 1.
     Input(String),
     /// The command was called wrongly: exit status 2.
     Usage(String),
 }
 
-/// Runs a command: its output goes out whole or not at all, to the file
-/// after `-o` or to standard output.
+/// Runs a command. Its output goes to the file after `-o` or to standard
+/// output, whole or not at all.
 pub fn main<O: Into<Output>>(help: &str, command: impl FnOnce(&[String]) -> Result<O, Failure>) -> ExitCode {
     let ended = words().and_then(|mut words| {
         if words.iter().any(|word| word == "--help" || word == "-h") {
@@ -39,7 +39,8 @@ pub fn main<O: Into<Output>>(help: &str, command: impl FnOnce(&[String]) -> Resu
     }
 }
 
-/// The arguments as text. A file of another name is read by `<`.
+/// Returns the arguments as text. Files whose names are not UTF-8 can be read
+/// with `<`.
 fn words() -> Result<Vec<String>, Failure> {
     let word = |argument: std::ffi::OsString| {
         let wrong = |other| Failure::Usage(format!("found {other:?}, expected arguments that are UTF-8"));
@@ -65,7 +66,7 @@ fn written(file: Option<&str>, output: &Output) -> Result<bool, Failure> {
     Ok(output.holds)
 }
 
-/// Where standard error takes nothing, there is nobody to tell.
+/// Prints to standard error. If that fails, there is nobody to tell.
 fn tell(message: &str) {
     let _ = writeln!(io::stderr(), "{message}");
 }

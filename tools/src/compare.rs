@@ -1,4 +1,4 @@
-//! A program's listings held to the model's, byte for byte, on generated
+//! Compares a program's listings with the model's, byte for byte, on generated
 //! runs and damaged files.
 
 use std::io;
@@ -17,7 +17,8 @@ pub enum Ended {
     Different(String),
 }
 
-/// Compares what `printed` gives for each file of the seed.
+/// Compares what `printed` returns for each file of the seed with the model's
+/// listing.
 pub fn compare(
     seed: u64,
     count: usize,
@@ -45,8 +46,8 @@ pub fn compare(
     Ok(Ended::Same(format!("seed {seed}: {files}, {mistakes} mistakes found, 0 differences")))
 }
 
-/// A comparison is worth what it can find: notes which mistakes would have
-/// changed this file's listing.
+/// Notes which mistakes would have changed this file's listing. A comparison
+/// that finds none of them would prove nothing.
 fn look_for_mistakes(file: &[u8], found: &mut [bool]) {
     let honest = listing_trusting(file);
     for ((_, mistakes), found) in Mistakes::IN_RUNS.iter().zip(found) {
@@ -54,7 +55,8 @@ fn look_for_mistakes(file: &[u8], found: &mut [bool]) {
     }
 }
 
-/// Where the listings differ, the smallest file found for which they do.
+/// Returns the smallest file found for which the listings differ, in words, or
+/// nothing if they agree.
 fn difference(
     file: &[u8],
     printed: &mut impl FnMut(&[u8]) -> io::Result<Vec<u8>>,
@@ -67,7 +69,8 @@ fn difference(
     Ok(Some(told(&small, &theirs)))
 }
 
-/// The first difference, below the run as text; what is no run as its bytes.
+/// Returns the first difference, below the run as text. A file that is no run
+/// is shown as bytes.
 fn told(small: &[u8], theirs: &[u8]) -> String {
     let run = text::from_file(small).map(Scenario::from);
     let first = difference::first(&run, &listing(small), theirs).unwrap_or_default();

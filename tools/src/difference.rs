@@ -1,5 +1,5 @@
-//! The first difference between another maker's listing of a run file and
-//! ours, in words.
+//! Tells the first difference between somebody else's listing of a run file and
+//! ours.
 
 use model::runfile::Fault;
 
@@ -8,8 +8,8 @@ use crate::scenario::Scenario;
 use crate::text::words::quoted;
 use crate::{explain, refused_file};
 
-/// Nothing where the two are the same bytes. The run is there to explain our
-/// answer, or the fault for which the file is refused.
+/// Returns the first difference in words, or nothing if the bytes are equal.
+/// `run` explains our answer, or is the fault for which the file is refused.
 pub fn first(run: &Result<Scenario, Fault>, ours: &[u8], theirs: &[u8]) -> Option<String> {
     let Some(number) = lines(theirs).position(|line| line.ends_with(CR_LF)) else {
         return first_but_for_line_ends(run, ours, theirs);
@@ -24,7 +24,7 @@ pub fn first(run: &Result<Scenario, Fault>, ours: &[u8], theirs: &[u8]) -> Optio
 
 const CR_LF: &[u8] = b"\r\n";
 
-/// Returns the line with LF where it ends in CR LF.
+/// Returns the line, with LF if it ends in CR LF.
 fn with_lf(line: &[u8]) -> impl Iterator<Item = &u8> {
     let (text, end) = line.strip_suffix(CR_LF).map_or((line, &b""[..]), |text| (text, b"\n"));
     text.iter().chain(end)
@@ -42,12 +42,13 @@ fn first_but_for_line_ends(run: &Result<Scenario, Fault>, ours: &[u8], theirs: &
     }
 }
 
-/// Each with its line end, so that one that lacks it differs.
+/// Returns the lines with their line ends, so that a missing one is a
+/// difference.
 fn lines(listing: &[u8]) -> impl Iterator<Item = &[u8]> {
     listing.split_inclusive(|&byte| byte == b'\n')
 }
 
-/// The line of step 0 is the header.
+/// Returns the difference at a step in words. Step 0 is the header.
 fn told(run: &Result<Scenario, Fault>, step: usize, ours: Option<&[u8]>, theirs: Option<&[u8]>) -> String {
     let theirs = match theirs {
         None => "the listing ends".into(),
@@ -62,7 +63,7 @@ fn told(run: &Result<Scenario, Fault>, step: usize, ours: Option<&[u8]>, theirs:
     format!("first difference at line {} of the listing\ntheirs: {theirs}\nours:   {ours}", step + 1)
 }
 
-/// A line in words, if it is one of this step.
+/// Returns a line of this step in words, or says that it is none.
 fn answer(step: usize, text: &str) -> String {
     match line(text.strip_suffix('\n').unwrap_or("")) {
         Some((0, listed)) if step == 1 && listed.refusal() == Some(9) => "the file is refused (9)".into(),

@@ -1,4 +1,4 @@
-//! What a command reads: standard input or a file, and the run in it.
+//! Reads a command's input, standard input or a file, and the run in it.
 
 use std::fmt::Display;
 use std::fs::File;
@@ -16,20 +16,20 @@ use crate::text;
 use crate::text::script::{Script, WrittenOut};
 use crate::text::words::Trouble;
 
-/// Longer is no run and no text of one, whatever its comments.
+/// Anything longer is neither a run nor a text, whatever its comments.
 const MOST: u64 = 1 << 24;
 
-/// Most lines of an error message.
+/// The most lines of an error message.
 const TOLD: usize = 20;
 
 pub struct Input {
-    /// A file's name stands before what is told of it.
+    /// The file's name, shown before messages about it.
     name: Option<String>,
     pub bytes: Vec<u8>,
 }
 
 impl Input {
-    /// The file of this name; none or `-` is standard input.
+    /// Reads the file of this name, or standard input for none or `-`.
     pub fn read(file: Option<&str>) -> Result<Input, Failure> {
         let name = file.filter(|&name| name != "-").map(String::from);
         let read = match &name {
@@ -49,7 +49,7 @@ impl Input {
         self.name.as_deref().unwrap_or("standard input")
     }
 
-    /// Puts the file's name before what is told of it.
+    /// Returns the line with the file's name before it.
     pub fn named(&self, line: impl Display) -> String {
         match &self.name {
             None => line.to_string(),
@@ -57,21 +57,21 @@ impl Input {
         }
     }
 
-    /// A failure told line by line, with the file's name.
+    /// Returns a failure with these lines, each with the file's name.
     pub fn failure(&self, lines: &[String]) -> Failure {
         Failure::Input(lines.iter().map(|line| self.named(line)).collect::<Vec<_>>().join("\n"))
     }
 
-    /// Fails for want of a step, with the reason if the run is short because
-    /// its text stops.
+    /// Returns the failure for a step that the run does not have, with the
+    /// reason if its text stops early.
     pub fn too_short(&self, scenario: &Scenario, wanted: String) -> Failure {
         let reason = scenario.stopped().map(Trouble::to_string);
         self.failure(&[Some(wanted), reason].into_iter().flatten().collect::<Vec<_>>())
     }
 
-    /// Adds to an output that shows a run what is wrong with its text: that
-    /// expectations failed, and that it stopped. Only the latter is an input
-    /// that is not right.
+    /// Adds what is wrong with the run's text to an output: failed
+    /// expectations, and where it stopped. Only a text that stops is a wrong
+    /// input.
     pub fn told_of(&self, scenario: &Scenario, mut output: Output) -> Output {
         let verdict = verdict(scenario);
         if !verdict.holds() {
@@ -84,34 +84,35 @@ impl Input {
         output
     }
 
-    /// The run of a run file.
+    /// Returns the run of a run file.
     pub fn run_of_file(&self) -> Result<Run, Failure> {
         text::from_file(&self.bytes).map_err(|fault| self.failure(&[refused_file::told(&fault)]))
     }
 
-    /// What a text says.
+    /// Returns what a text says.
     pub fn script(&self) -> Result<Script, Failure> {
         text::script(&self.bytes).map_err(|troubles| self.failure(&told(&troubles)))
     }
 
-    /// Note and setup of a text that has no steps.
+    /// Returns note and setup of a text without steps.
     pub fn without_steps(&self) -> Result<Script, Failure> {
         text::without_steps(&self.bytes).map_err(|troubles| self.failure(&told(&troubles)))
     }
 
-    /// What a text says as exact steps.
+    /// Returns what a text says as exact steps.
     pub fn written_out(&self, script: &Script) -> Result<WrittenOut, Failure> {
         script.written_out().map_err(|trouble| self.failure(&[trouble.to_string()]))
     }
 
-    /// Returns what a run file or a text has to show. Of a text that stops
-    /// halfway, this is the run up to there. Every accepted run file has a
-    /// zero byte, in its setup, and no text has one.
+    /// Returns what a run file or a text has to show, for a text that stops
+    /// halfway the run up to there. The two are told apart by a zero byte:
+    /// every accepted run file has one in its setup, and no text has any.
     pub fn scenario(&self) -> Result<Scenario, Failure> {
         self.scenario_or_fault()?.map_err(|fault| self.failure(&[refused_file::told(&fault)]))
     }
 
-    /// The same where a refused run file is a case like any other.
+    /// Does the same, but returns the fault of a refused run file instead of
+    /// failing.
     pub fn scenario_or_fault(&self) -> Result<Result<Scenario, Fault>, Failure> {
         if self.bytes.contains(&0) {
             Ok(text::from_file(&self.bytes).map(Scenario::from))

@@ -1,5 +1,5 @@
-//! What fixes the latest end of a write (02, A3). The tables keep the time
-//! alone, so its cause is found where the write opens.
+//! Finds what fixes the latest end of a write (02, A3). The tables keep only
+//! the time, so the cause is found when the write opens.
 
 use model::bits::members;
 use model::step_record::WRITE;
@@ -11,21 +11,22 @@ use crate::trace::Moment;
 pub enum Cause {
     Leases(Leases),
     Guard,
-    /// The clock and m.
+    /// The clock plus m.
     Timeout,
 }
 
 /// The clients whose volume lease ends at the latest end, and those whose
-/// object lease does and whose volume lease ends later.
+/// object lease does while their volume lease ends later.
 #[derive(Clone, Copy, Debug, Default, PartialEq, Eq)]
 pub struct Leases {
     pub volume: u16,
     pub object: u16,
 }
 
-/// Of the write that the step opened, if it still stands after it. Where
-/// several times are the latest, leases go before the guard, as a reader looks
-/// for clients, and the guard before the timeout.
+/// Returns what fixes the latest end of the write that the step opened, if it
+/// still stands after the step. If several times are the latest, leases come
+/// before the guard, since a reader looks for clients, and the guard before the
+/// timeout.
 pub fn cause(moment: &Moment) -> Option<Cause> {
     let object = usize::from(moment.step.object);
     let opened = moment.step.kind == WRITE && !moment.refused() && moment.server().stands(object);
@@ -43,8 +44,8 @@ pub fn cause(moment: &Moment) -> Option<Cause> {
     })
 }
 
-/// When the last client that is waited for can no longer show its copy, and
-/// the leases that end then.
+/// Returns when the last client waited for can no longer show its copy, and the
+/// leases that end then.
 fn last_leases(moment: &Moment, object: usize) -> (u32, Leases) {
     let before = moment.server_before();
     let by_volume = &before.volume_expiry[moment.setup.volume(object)];
@@ -64,7 +65,7 @@ fn last_leases(moment: &Moment, object: usize) -> (u32, Leases) {
 }
 
 impl Cause {
-    /// With each lease that ends then.
+    /// Returns the cause in words, with each lease that ends then.
     pub fn words(&self) -> String {
         let of = |what: &str, set: u16| {
             let ending = if set.count_ones() == 1 { "" } else { "s" };
@@ -80,7 +81,7 @@ impl Cause {
         }
     }
 
-    /// Without which lease it is.
+    /// Returns the cause in words, without saying which lease it is.
     pub fn short(&self) -> String {
         match self {
             Cause::Leases(Leases { volume, object }) => clients(volume | object),

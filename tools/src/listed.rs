@@ -1,8 +1,8 @@
-//! An answer as a listing has it, and listings read back.
+//! Answers as a listing shows them, and listings read back.
 
 use model::answer::Answer;
 
-/// The two numbers of a listing's line.
+/// The two numbers of a line of the listing.
 #[derive(Clone, Copy, Debug, PartialEq, Eq)]
 pub struct Listed {
     pub answer: u8,
@@ -30,7 +30,7 @@ impl Listed {
         Listed { answer, value }
     }
 
-    /// The refusal's number.
+    /// Returns the refusal's number, if this is one.
     pub fn refusal(&self) -> Option<u64> {
         (self.answer == 4).then_some(self.value)
     }
@@ -48,7 +48,7 @@ impl Listed {
     }
 }
 
-/// A line's step number and answer, if it is written as a listing's line.
+/// Returns the step number and answer of a line, if it is a line of a listing.
 pub fn line(line: &str) -> Option<(usize, Listed)> {
     let numbers: Vec<u64> = line.split(' ').map(|word| word.parse().ok()).collect::<Option<_>>()?;
     let [number, answer, value] = numbers[..] else {

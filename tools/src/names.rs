@@ -5,15 +5,14 @@ use model::message::{Kind, Message};
 
 use crate::voice::Voice;
 
-/// The kinds in the order of their numbers in a frame.
+/// The kinds, in the order of their numbers in a frame.
 pub const KINDS: [&str; 6] = ["RENEW", "GRANT", "INVALIDATE", "ACK", "OFFER", "DROPPED"];
 
 pub fn kind(kind: &Kind) -> &'static str {
     KINDS[usize::from(kind.code()) - 1]
 }
 
-/// The way of a kind by its name: the server sends to a client, or a message
-/// is from one.
+/// Returns the direction of a kind, by its name: `to` a client, or `from` one.
 pub fn way(kind: &str) -> &'static str {
     match kind {
         "GRANT" | "INVALIDATE" | "OFFER" => "to",
@@ -21,7 +20,7 @@ pub fn way(kind: &str) -> &'static str {
     }
 }
 
-/// Returns what a kind is about by its name: an object, or a volume.
+/// Returns what a kind is about, by its name: an object or a volume.
 pub fn about(kind: &str) -> &'static str {
     match kind {
         "OFFER" | "DROPPED" => "volume",
@@ -38,12 +37,12 @@ pub fn item(message: &Message) -> u8 {
     }
 }
 
-/// Whether the server sends this kind.
+/// Returns whether the server sends this kind.
 pub fn from_server(message: &Kind) -> bool {
     way(kind(message)) == "to"
 }
 
-/// The kind with what tells two messages of it apart.
+/// Returns the kind with what tells two messages of it apart.
 pub fn label(message: &Message) -> String {
     let name = kind(&message.kind);
     match message.kind {
@@ -57,12 +56,12 @@ pub fn label(message: &Message) -> String {
     }
 }
 
-/// The label with the way it goes.
+/// Returns the label with the message's direction.
 pub fn routed(message: &Message) -> String {
     format!("{} {} client {}", label(message), way(kind(&message.kind)), message.client)
 }
 
-/// Returns the same behind its place among those under way, with what it is
+/// Returns the message with its place among those under way and what it is
 /// about, so that a text can tell it from the others.
 pub fn placed(place: usize, message: &Message) -> String {
     let routed = routed(message);
@@ -72,7 +71,7 @@ pub fn placed(place: usize, message: &Message) -> String {
     }
 }
 
-/// Every field that the label leaves out, with its times in this voice.
+/// Returns every field that the label leaves out, with times in this voice.
 pub fn fields(message: &Message, voice: &Voice) -> String {
     match message.kind {
         Kind::Renew { object, epoch, version, .. } => {
@@ -97,7 +96,7 @@ pub fn whole(message: &Message, voice: &Voice) -> String {
     format!("{} ({})", routed(message), fields(message, voice))
 }
 
-/// "client 1", "clients 0, 2", or "nobody".
+/// Returns "client 1", "clients 0, 2" or "nobody".
 pub fn clients(set: u16) -> String {
     let numbers: Vec<String> = members(set.into()).map(|client| client.to_string()).collect();
     match numbers.len() {

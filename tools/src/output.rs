@@ -1,5 +1,5 @@
-//! What a command gives: bytes for standard output or a file, and words for
-//! standard error.
+//! What a command produces: bytes for standard output or a file, and messages
+//! for standard error.
 
 use std::ffi::OsString;
 use std::fs::{self, Permissions};
@@ -7,10 +7,11 @@ use std::io::{self, Write};
 use std::path::Path;
 use std::process;
 
-/// Plain bytes are an output that is right and of which nothing is told.
+/// The output of a command. Plain bytes convert to an output that holds, with
+/// no messages.
 pub struct Output {
     pub bytes: Vec<u8>,
-    /// For standard error, after the output.
+    /// Messages for standard error, after the output.
     pub told: Vec<String>,
     /// Whether what was asked holds: exit status 0 or 1.
     pub holds: bool,
@@ -34,20 +35,20 @@ pub fn to_standard_output(bytes: &[u8]) -> io::Result<()> {
     output.flush()
 }
 
-/// Writes a file whole or not at all: first beside it, then in its place. A
-/// device or pipe cannot be replaced and takes the bytes as they come.
+/// Writes a file whole or not at all: first beside it, then moved into place. A
+/// device or a pipe cannot be replaced and gets the bytes as they come.
 pub fn to_file(name: &str, bytes: &[u8]) -> io::Result<()> {
     let path = Path::new(name);
     match fs::metadata(path) {
         Err(_) => replace(path, None, bytes),
-        // A link stays, and what it leads to is replaced.
+        // A link stays; the file that it points to is replaced.
         Ok(found) if found.is_file() => replace(&path.canonicalize()?, Some(found.permissions()), bytes),
         Ok(found) if found.is_dir() => Err(io::Error::other("it is a folder")),
         Ok(_) => fs::OpenOptions::new().write(true).open(path)?.write_all(bytes),
     }
 }
 
-/// The new file has the permissions of the one that was there.
+/// Replaces a file. The new one has the old one's permissions.
 fn replace(path: &Path, permissions: Option<Permissions>, bytes: &[u8]) -> io::Result<()> {
     let Some(name) = path.file_name() else {
         return Err(io::Error::other("it is no name of a file"));
@@ -60,7 +61,7 @@ fn replace(path: &Path, permissions: Option<Permissions>, bytes: &[u8]) -> io::R
         .and_then(|()| permissions.map_or(Ok(()), |kept| fs::set_permissions(&beside, kept)))
         .and_then(|()| fs::rename(&beside, path));
     if written.is_err() {
-        // The first error is the one to tell.
+        // The first error is the one to report.
         let _ = fs::remove_file(&beside);
     }
     written

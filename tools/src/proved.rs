@@ -1,4 +1,4 @@
-//! Runs taken by the proved library.
+//! Runs executed by the proved library.
 
 use gevtsomi::{list, LISTING_BYTES};
 use model::gen::runs::Run;
@@ -6,17 +6,18 @@ use model::gen::runs::Run;
 use crate::listed::{line, Listed};
 use crate::text::to_file;
 
-/// The library's listing of a run.
+/// Returns the library's listing of a run.
 pub fn listing(run: &Run) -> Vec<u8> {
     listing_of(&to_file(run))
 }
 
-/// The answer to each step.
+/// Returns the answer to each step.
 pub fn answers(run: &Run) -> Vec<Listed> {
     answers_of(&to_file(run))
 }
 
-/// The listing of a file that the library wrote, which it never refuses.
+/// Returns the listing of a file that the library wrote, which it never
+/// refuses.
 fn listing_of(file: &[u8]) -> Vec<u8> {
     let mut lines = vec![0; LISTING_BYTES];
     let len = list(file, &mut lines).expect("a run file, and room for any listing");

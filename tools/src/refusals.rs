@@ -1,5 +1,5 @@
-//! How many steps of a run were refused, so that a scenario that tests
-//! nothing is seen.
+//! Counts a run's refused steps, so that a scenario that tests nothing stands
+//! out.
 
 use std::collections::BTreeMap;
 
@@ -7,8 +7,8 @@ use model::limits::{BAD_TIME, NO_NUMBER_LEFT, NO_SUCH_ITEM, UNKNOWN_KIND, WRITE_
 
 use crate::listed::Listed;
 
-/// One line: the steps, and the refused ones by their numbers. Nothing where
-/// no step was taken.
+/// Returns one line: how many steps there were, and how many were refused with
+/// which number. Nothing if no step was taken.
 pub fn counted(answers: impl IntoIterator<Item = Listed>) -> Option<String> {
     let (mut steps, mut refused) = (0, BTreeMap::new());
     for answer in answers {

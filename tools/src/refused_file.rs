@@ -1,5 +1,5 @@
-//! What is wrong with a refused run file, or with a workload that has none, in
-//! words.
+//! Says what is wrong with a refused run file, or with a workload that has
+//! none.
 
 use gevtsomi::Refused;
 use model::limits::{BAD_FILE, FILE_BYTES, STEPS};
@@ -13,7 +13,8 @@ pub fn told(fault: &Fault) -> String {
     format!("run file refused ({BAD_FILE}): {}", reason(fault))
 }
 
-/// Of a workload whose setup is in range, so that two reasons are left.
+/// Returns why a workload has no file. Its setup is in range, so two reasons
+/// are left.
 pub fn no_workload(refused: Refused, note_len: usize, count: u32) -> String {
     let count = count as usize;
     let reason = if count > STEPS {
@@ -63,7 +64,7 @@ fn out_of_range(out: &OutOfRange) -> String {
     }
 }
 
-/// The first field that the step's kind does not use and that is not 0.
+/// Returns the first nonzero field that the step's kind does not use.
 fn unused(step: &Step) -> String {
     let used = step.used_fields();
     let fields = [

@@ -1,5 +1,5 @@
-//! A run to show, with what its text says of each step. Of a run file there
-//! is the run alone.
+//! A run to show, with what its text says about each step. A run file has the
+//! run only.
 
 use std::ops::RangeInclusive;
 
@@ -16,20 +16,20 @@ use crate::voice::Voice;
 pub struct Scenario {
     pub run: Run,
     pub voice: Voice,
-    /// Nothing for a run file.
+    /// The text; nothing for a run file.
     pub source: Option<Source>,
 }
 
 /// The text that a run was made from.
 pub struct Source {
-    /// Comments among note and setup.
+    /// Comments among the note and setup.
     pub opening: Vec<String>,
-    /// The lines that stand for steps, also those after the one where the run
-    /// stops.
+    /// The lines that stand for steps, including those after the line where the
+    /// run stops.
     pub lines: Vec<Line>,
     /// Comments after the last step.
     pub ending: Vec<String>,
-    /// Where each step of the run comes from: step k at place k - 1.
+    /// Where each step of the run comes from; step k is at index k - 1.
     pub steps: Vec<Origin>,
     /// Why the run ends before its text does, in the user's words.
     pub stopped: Option<Trouble>,
@@ -38,7 +38,7 @@ pub struct Source {
 /// Where a step comes from.
 #[derive(Clone, Copy, Debug)]
 pub struct Origin {
-    /// The place of its line in `lines`. All steps of a join have the same.
+    /// The index of its line in `lines`. All steps of a join have the same.
     pub line: usize,
     pub expectation: Option<Expectation>,
 }
@@ -55,7 +55,7 @@ impl Expectation {
         self.expected == self.found
     }
 
-    /// Returns the answer beside what was expected.
+    /// Returns the answer with what was expected.
     pub fn words(&self) -> String {
         let (expected, found) = (self.expected.words(), self.found.words());
         match self.holds() {
@@ -66,22 +66,22 @@ impl Expectation {
 }
 
 impl Source {
-    /// Returns why the run ends before its text does, and the line where it
-    /// does.
+    /// Returns why the run ends before its text does, and the line where.
     pub fn stopped_at(&self) -> Option<(&Trouble, &Line)> {
         let trouble = self.stopped.as_ref()?;
         let line = self.lines.iter().find(|line| line.number == trouble.line)?;
         Some((trouble, line))
     }
 
-    /// Returns the same in words, for the end of what is shown.
+    /// Returns the same in words, for the end of the output.
     pub fn why_stopped(&self) -> Option<String> {
         let (trouble, line) = self.stopped_at()?;
         Some(format!("stopped at {}", trouble.at(&line.written)))
     }
 
-    /// Returns the comments after the last step. Of a text that stops, these
-    /// stand before the line where it does, unless a step of it was taken.
+    /// Returns the comments after the last step. If the text stops, these are
+    /// the ones before the line where it does, unless one of that line's steps
+    /// was taken.
     pub fn closing(&self) -> &[String] {
         let last = self.steps.last().map(|last| self.lines[last.line].number);
         match self.stopped_at() {
@@ -112,7 +112,7 @@ impl From<Script> for Scenario {
 }
 
 impl Scenario {
-    /// Takes every step of the run, told in the user's voice.
+    /// Calls `each` for every step of the run, in the user's voice.
     pub fn walk(&self, each: impl FnMut(&Moment)) {
         walk_in(&self.run, self.voice, each);
     }
@@ -127,8 +127,7 @@ impl Scenario {
         self.source.as_ref()?.steps[step - 1].expectation
     }
 
-    /// Returns the steps that come from the same line: several where it is a
-    /// join.
+    /// Returns the steps that come from the same line: several for a join.
     pub fn together(&self, step: usize) -> RangeInclusive<usize> {
         let Some(Source { steps, .. }) = &self.source else {
             return step..=step;
@@ -138,12 +137,12 @@ impl Scenario {
         before + 1..=steps.partition_point(|origin| origin.line <= own)
     }
 
-    /// Tells whether the step is one of a join.
+    /// Returns whether the step is one of a join.
     pub fn joins(&self, step: usize) -> bool {
         matches!(self.line(step).map(|line| line.action), Some(Action::Join { .. }))
     }
 
-    /// Returns each step of which something is expected.
+    /// Returns each step with an expectation.
     pub fn expectations(&self) -> impl Iterator<Item = (usize, Expectation)> + '_ {
         (1..=self.run.steps.len()).filter_map(|step| Some((step, self.expectation(step)?)))
     }

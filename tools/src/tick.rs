@@ -1,9 +1,9 @@
-//! How long a tick is, where a text tells it: `one tick is 250 ms`, both
-//! ways. It changes no step; it is there for whoever reads the run.
+//! The length of a tick, if a text gives it: `one tick is 250 ms`, read and
+//! written. It changes no step; it is there for whoever reads the run.
 
 use crate::text::words::{quoted, Words, Wrong};
 
-/// Each unit with its milliseconds.
+/// Each unit with its length in milliseconds.
 const UNITS: [(&str, u64); 4] = [("ms", 1), ("s", 1_000), ("min", 60_000), ("h", 3_600_000)];
 
 pub const TICK: &str = "`one tick is N s`";
@@ -11,7 +11,7 @@ pub const TICK: &str = "`one tick is N s`";
 #[derive(Clone, Copy, Debug, PartialEq, Eq)]
 pub struct Tick {
     count: u32,
-    /// The unit's place in the table.
+    /// The unit's index in the table.
     unit: usize,
 }
 
@@ -27,12 +27,12 @@ impl Tick {
         Ok(Tick { count, unit })
     }
 
-    /// Returns its line in canonical form.
+    /// Returns the line in canonical form.
     pub fn line(&self) -> String {
         format!("one tick is {} {}", self.count, UNITS[self.unit].0)
     }
 
-    /// Returns so many ticks as a time: "1 h 2 min 3.5 s".
+    /// Returns this many ticks as a time: "1 h 2 min 3.5 s".
     pub fn time(&self, ticks: u32) -> String {
         let milliseconds = u128::from(ticks) * u128::from(self.count) * u128::from(UNITS[self.unit].1);
         let (minutes, rest) = (milliseconds / 60_000, milliseconds % 60_000);
@@ -51,7 +51,7 @@ impl Tick {
     }
 }
 
-/// Returns milliseconds in seconds, without needless zeros.
+/// Returns milliseconds as seconds, without trailing zeros.
 fn seconds(milliseconds: u64) -> String {
     let text = format!("{}.{:03}", milliseconds / 1_000, milliseconds % 1_000);
     text.trim_end_matches('0').trim_end_matches('.').into()

@@ -1,4 +1,4 @@
-//! A run worked through by the model, step by step.
+//! Runs a run through the model, step by step.
 
 use model::answer::Answer;
 use model::copies::ObjectCopy;
@@ -13,20 +13,20 @@ use model::tables::{Server, Write};
 
 use crate::voice::Voice;
 
-/// One step with the model's state on both sides of it.
+/// One step, with the model's state before and after it.
 pub struct Moment<'a> {
-    /// From 1, as in the listing.
+    /// The step's number, from 1, as in the listing.
     pub number: usize,
     pub step: Step,
     pub setup: &'a Setup,
-    /// How it is told.
+    /// The voice in which it is told.
     pub voice: Voice,
     pub before: &'a State,
     pub after: &'a State,
     pub answer: Answer,
 }
 
-/// A run under way: the state that its steps so far have led to.
+/// A run in progress: the state that its steps so far have led to.
 pub struct Walk<'a> {
     setup: &'a Setup,
     voice: Voice,
@@ -39,7 +39,8 @@ impl<'a> Walk<'a> {
         Walk { setup, voice, state: State::fresh(), taken: 0 }
     }
 
-    /// Takes a step, question 1 asked before.
+    /// Takes a step, for which question 1 is asked first, and returns what
+    /// `seen` makes of it.
     pub fn take<T>(&mut self, record: Step, seen: impl FnOnce(&Moment) -> T) -> T {
         let before = self.state;
         let (tables, copies, requests) = self.state.parts(self.setup);
@@ -50,12 +51,12 @@ impl<'a> Walk<'a> {
     }
 }
 
-/// Takes every step of the run, told as a run file is.
+/// Calls `each` for every step of the run, in the voice of a run file.
 pub fn walk(run: &Run, each: impl FnMut(&Moment)) {
     walk_in(run, Voice::default(), each);
 }
 
-/// Takes every step of the run, told in this voice.
+/// Calls `each` for every step of the run, in this voice.
 pub fn walk_in(run: &Run, voice: Voice, mut each: impl FnMut(&Moment)) {
     let mut walk = Walk::fresh(&run.setup, voice);
     for &step in &run.steps {
@@ -88,7 +89,7 @@ impl<'a> Moment<'a> {
         0..usize::from(self.setup.volumes)
     }
 
-    /// The client's copy before the step.
+    /// Returns the client's copy before the step.
     pub fn copy_before(&self, client: usize, object: usize) -> &'a ObjectCopy {
         &self.before.copies(self.setup)[self.setup.copy_place(client, object)]
     }
@@ -97,28 +98,28 @@ impl<'a> Moment<'a> {
         &self.before.requests(self.setup)[client]
     }
 
-    /// Messages that the step put at the queue's end: those past what it
-    /// found there, less the one that it took out.
+    /// Returns the messages that the step added to the queue's end: those
+    /// beyond what was there before, less the one taken out.
     pub fn sent(&self) -> &'a [Message] {
         let kept = self.before.tables.queue.len - usize::from(self.taken().is_some());
         &self.after.tables.queue.messages()[kept..]
     }
 
-    /// Returns the same with their places in the queue.
+    /// Returns the same messages with their places in the queue.
     pub fn placed(&self) -> impl Iterator<Item = (usize, &'a Message)> {
         let first = self.after.tables.queue.len - self.sent().len();
         self.sent().iter().enumerate().map(move |(place, message)| (first + place, message))
     }
 
-    /// The message that the step took out of the queue: after a delivery or
-    /// a loss that was not refused.
+    /// Returns the message that the step took out of the queue, if it is a
+    /// delivery or a loss that was not refused.
     pub fn taken(&self) -> Option<&'a Message> {
         use model::step_record::{DELIVER, LOSE};
         let takes = [DELIVER, LOSE].contains(&self.step.kind) && !self.refused();
         takes.then(|| &self.before.tables.queue.messages()[usize::from(self.step.place)])
     }
 
-    /// The writes that ended in the step, with their objects.
+    /// Returns the writes that ended in the step, with their objects.
     pub fn ended(&self) -> Vec<(usize, &'a Write)> {
         let (before, after) = (self.server_before(), self.server());
         let ended = self.objects().filter(|&object| before.stands(object) && !after.stands(object));

@@ -1,6 +1,6 @@
-//! The user's words: client, volume and object, or the paper's own for them.
+//! The user's words: client, volume and object, or the paper's words for them.
 
-/// The field's word and the paper's for the same thing.
+/// The field's word, and the paper's for the same thing.
 const TABLE: [(&str, &str); 6] = [
     ("client", "dash"),
     ("clients", "dashes"),
@@ -10,8 +10,7 @@ const TABLE: [(&str, &str); 6] = [
     ("objects", "notices"),
 ];
 
-/// Whose words are said. A run file has none of its own, so it is shown in
-/// the field's.
+/// Whose words are used. A run file has none of its own, so the field's are.
 #[derive(Clone, Copy, Debug, Default, PartialEq, Eq)]
 pub enum Vocabulary {
     #[default]
@@ -29,8 +28,8 @@ impl Vocabulary {
         })
     }
 
-    /// Returns what we say in the field's words in these. Never give it what
-    /// the user wrote, which stays as it is.
+    /// Returns our text, which is in the field's words, in these words. Never
+    /// pass what the user wrote: it stays as it is.
     pub fn said(self, ours: &str) -> String {
         if self == Vocabulary::Field {
             return ours.into();
@@ -51,7 +50,7 @@ impl Vocabulary {
     }
 }
 
-/// Makes `an` before an object the `a` before a notice.
+/// Turns `an` into `a`, for an object that becomes a notice.
 fn drop_n(said: &mut String) {
     if said.ends_with(" an ") || said == "an " {
         said.truncate(said.len() - 2);

@@ -1,10 +1,10 @@
-//! How a run is told: in whose words, and with the time beside the ticks
-//! where the text says how long a tick is.
+//! How a run is told: in whose words, and with the time beside the ticks if the
+//! text says how long a tick is.
 
 use crate::tick::Tick;
 use crate::vocabulary::Vocabulary;
 
-/// The default is for a run file: the field's words, and ticks alone.
+/// The default is for run files: the field's words, and ticks only.
 #[derive(Clone, Copy, Debug, Default, PartialEq, Eq)]
 pub struct Voice {
     pub words: Vocabulary,
@@ -12,8 +12,7 @@ pub struct Voice {
 }
 
 impl Voice {
-    /// Returns what we say in the user's words. Never give it what the user
-    /// wrote.
+    /// Returns our text in the user's words. Never pass what the user wrote.
     pub fn said(&self, ours: &str) -> String {
         self.words.said(ours)
     }

@@ -1,4 +1,4 @@
-//! Expectations held to the proved library.
+//! Expectations, checked against the proved library.
 
 mod common;
 
@@ -25,7 +25,7 @@ read client 0 object 0 => ask first
 clock 11 => completed 1
 ";
 
-/// How many hold, and each one that fails.
+/// Returns how many hold, and each one that fails.
 fn verdict(text: &str) -> (String, Vec<String>) {
     let verdict = check::verdict(&script(text.as_bytes()).unwrap().into());
     (verdict.words, verdict.failures)
@@ -44,7 +44,7 @@ fn verdicts() {
     holds(&none, "no expectations");
 }
 
-/// Each expectation, turned into each other answer, fails by itself.
+/// Each expectation, changed into each other answer, fails by itself.
 #[test]
 fn every_wrong_expectation_is_found() {
     let answers =
@@ -75,7 +75,7 @@ fn every_failure_is_told_in_words() {
     assert_eq!(verdict(&text), ("2 of 5 expectations failed".into(), told));
 }
 
-/// The library's answers are the listing's, for runs of all sorts.
+/// The library's answers are those of the listing, for runs of all kinds.
 #[test]
 fn answers_are_the_models() {
     for number in 0..100 {
@@ -119,7 +119,7 @@ fn the_program_gives_a_verdict_for_each_text() {
     assert!(wrong.errors.ends_with("28 steps, 2 refused: 1 with 3 (no such client, object or place), 1 with 4 (a time out of range)\n"), "{}", wrong.errors);
 }
 
-/// Of nothing that ran, nothing is counted.
+/// If nothing ran, nothing is counted.
 #[test]
 fn no_steps_are_not_counted() {
     let none = run_program(RUNTEXT, &["check", "nowhere"], b"");
@@ -130,7 +130,7 @@ fn no_steps_are_not_counted() {
     assert_eq!(run_program(RUNTEXT, &["encode"], setup.as_bytes()).errors, "");
 }
 
-/// Reads, writes, and whatever completes or is refused: what a run is for.
+/// Reads, writes, and whatever completes or is refused: the purpose of a run.
 #[test]
 fn examples_expect_what_they_are_for() {
     for example in all() {

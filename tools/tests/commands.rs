@@ -17,8 +17,8 @@ fn runtext_goes_both_ways() {
     assert_eq!(formatted.output, text.output);
 }
 
-/// Short forms and expectations are kept, or written out; a run file has
-/// exact steps alone.
+/// Short forms and expectations are kept or written out; a run file has exact
+/// steps only.
 #[test]
 fn runtext_formats_and_expands() {
     let text = example("3-restart-inside-write.runtext");

@@ -1,5 +1,5 @@
-//! The comparison of a program with the model, on programs that are right
-//! and wrong.
+//! The comparison of a program with the model, for programs that are right and
+//! wrong.
 
 mod common;
 
@@ -28,11 +28,11 @@ fn the_model_itself_is_the_same() {
         }
         Ended::Different(words) => panic!("{words}"),
     }
-    // Too few runs to find every mistake are told as well.
+    // Too few runs to find every mistake are reported, too.
     assert!(different(3, listing).starts_with("seed 1: no run finds the mistake "));
 }
 
-/// The text is of a run for which the difference is as told.
+/// The text is of a run that has the difference reported.
 #[test]
 fn a_difference_is_a_text() {
     let mistakes = Mistakes::named("ends_at_latest_end");
@@ -50,7 +50,7 @@ fn a_difference_is_a_text() {
     );
 }
 
-/// What is no run file has no text: its bytes are told, and why.
+/// A file that is no run file has no text: its bytes are shown, and the reason.
 #[test]
 fn a_difference_in_a_refused_file_is_told_with_the_reason() {
     let words = different(400, |file| match read(file) {

@@ -1,4 +1,4 @@
-//! Another maker's listing beside ours.
+//! Somebody else's listing, compared with ours.
 
 mod common;
 
@@ -7,7 +7,8 @@ use tools::difference::first;
 use tools::scenario::Scenario;
 use tools::text::from_file;
 
-/// The first difference, if the listing of the document's run is changed so.
+/// Returns the first difference if the listing of the document's run is changed
+/// like this.
 fn changed(change: impl Fn(&str) -> String) -> Option<String> {
     let run = from_file(&example("0-document.run")).map(Scenario::from);
     let ours = String::from_utf8(example("0-document.listing")).unwrap();
@@ -52,7 +53,7 @@ fn lines_that_are_none_are_told_as_they_are() {
     }
 }
 
-/// Whatever else differs is told behind it.
+/// Any other difference is reported after it.
 #[test]
 fn line_ends_of_another_system_are_told_as_such() {
     let line_ends = |number: usize, rest: &str| {
@@ -92,7 +93,7 @@ fn header_length_and_refused_files() {
         .contains("theirs: the listing ends\nours:   `step answer value\\n`"));
 }
 
-/// A file that we refuse too is no difference; shown as a run, it is one.
+/// A file that we refuse, too, is no difference; shown as a run, it is one.
 #[test]
 fn a_refused_file_has_a_listing_too() {
     const EXPLAIN: &str = env!("CARGO_BIN_EXE_explain");

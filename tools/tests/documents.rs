@@ -1,4 +1,4 @@
-//! The runs that help and READMEs show, held to what they say of them.
+//! The runs that help and READMEs show do what these say about them.
 
 mod common;
 
@@ -16,7 +16,7 @@ fn document(name: &str) -> String {
     fs::read_to_string(Path::new(env!("CARGO_MANIFEST_DIR")).join(name)).unwrap()
 }
 
-/// The lines of help from the note on, up to the prose.
+/// Returns the lines of help from the note on, up to the prose.
 fn example_of_help() -> String {
     let help = String::from_utf8(run_program(RUNTEXT, &["--help"], b"").output).unwrap();
     let from_note = help.lines().skip_while(|line| !line.starts_with("  note"));
@@ -24,7 +24,7 @@ fn example_of_help() -> String {
     lines.map(|line| format!("{line}\n")).collect()
 }
 
-/// It shows every kind of step but the unknown one, which would be refused.
+/// It shows every kind of step except an unknown one, which would be refused.
 #[test]
 fn the_example_of_help_runs() {
     let example = example_of_help();
@@ -36,7 +36,7 @@ fn the_example_of_help_runs() {
     }
 }
 
-/// Every line that help mentions in its prose too.
+/// Every line that help mentions in its prose is a line, too.
 #[test]
 fn the_unknown_kind_of_help_is_a_line() {
     let help = String::from_utf8(run_program(RUNTEXT, &["--help"], b"").output).unwrap();
@@ -45,14 +45,14 @@ fn the_unknown_kind_of_help_is_a_line() {
     assert!(script(format!("{}{line}\n", example_of_help()).as_bytes()).is_ok());
 }
 
-/// The text of the top README's five minutes.
+/// Returns the text of the five minutes in the top README.
 fn first_run() -> String {
     let readme = document("../README.md");
     readme.split("<<'END'\n").nth(1).unwrap().split("END\n").next().unwrap().into()
 }
 
 /// Every name of a message and every length of a tick that help or README
-/// mention can be written so.
+/// mentions can be written like that.
 #[test]
 fn the_short_lines_of_documents_are_lines() {
     let help = String::from_utf8(run_program(RUNTEXT, &["--help"], b"").output).unwrap();
@@ -94,7 +94,7 @@ fn the_failed_line_is_of_the_first_run() {
     assert!(explained.contains(block.unwrap()), "{explained}");
 }
 
-/// The lines that begin with a step's number are of 01's own example.
+/// The lines that begin with a step's number are from 01's own example.
 #[test]
 fn the_explained_lines_are_of_an_example() {
     let explained = listing(&from_file(&example("0-document.run")).unwrap());
@@ -111,7 +111,7 @@ fn the_explained_lines_are_of_an_example() {
     }
 }
 
-/// The blocks of tools/README.md that begin as a text does are texts.
+/// The blocks of tools/README.md that begin like a text are texts.
 #[test]
 fn the_tools_readme_shows_right_texts() {
     let readme = document("README.md");

@@ -1,4 +1,4 @@
-//! The explained listing against the model's, and its reasons.
+//! The explained listing, compared with the model's, and its reasons.
 
 mod common;
 
@@ -7,7 +7,7 @@ use model::gen::runs::{run, Run};
 use tools::explain::listing;
 use tools::text::{from_file, parse};
 
-/// The model's listing, read back from the words.
+/// Returns the model's listing, read back from the words.
 fn numbers(explained: &str) -> String {
     let mut lines = String::from("step answer value\n");
     for line in explained.lines() {
@@ -114,7 +114,7 @@ fn the_program_takes_a_run_file_or_its_text() {
     let (by_file, by_text) = (run_program(EXPLAIN, &[], &file), run_program(EXPLAIN, &[], text.as_bytes()));
     assert_eq!((by_file.status, by_text.status), (0, 0));
     assert_eq!(by_file.errors, "15 steps, 1 refused: 1 with 4 (a time out of range)\n");
-    // The text's own first step is on line 5.
+    // The first step of the text itself is on line 5.
     let lined =
         |(place, line): (usize, &str)| line.replacen(" (", &format!(" (line {}, ", place + 5), 1) + "\n";
     let expected: String =

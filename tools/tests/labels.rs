@@ -1,5 +1,5 @@
-//! Every text of a picture fits where it stands, no two share any room, lines
-//! run behind the grounds of labels, and every message names its receiver.
+//! Every text of a picture fits where it is, no two overlap, lines run behind
+//! the grounds of labels, and every message names its receiver.
 
 mod boxes;
 mod common;
@@ -33,17 +33,18 @@ fn examples() -> impl Iterator<Item = Run> {
     model::examples::all().into_iter().map(move |example| file(example.name))
 }
 
-/// Scenes and steps by chance, with small and large setups.
+/// Returns scenes and random steps, with small and large setups.
 fn generated() -> impl Iterator<Item = Run> {
     (2..50).map(|number| run(31, number))
 }
 
-/// Scenes and steps by chance.
+/// Returns scenes and random steps.
 fn long() -> impl Iterator<Item = Run> {
     [run(32, 0), run(33, 51)].into_iter()
 }
 
-/// The numbers of a run cannot grow so far in 4,000 steps: here they have.
+/// Returns the timeline with the longest numbers. In 4,000 steps the numbers of
+/// a run cannot grow that far.
 fn with_longest_numbers(mut timeline: Timeline) -> Timeline {
     for flight in &mut timeline.flights {
         longest(&mut flight.message);
@@ -100,7 +101,8 @@ fn assert_readable(picture: &str, name: &str) {
     }
 }
 
-/// Nothing in the header is shortened, and each column keeps to itself.
+/// Checks that nothing in the header is shortened, and that each column keeps
+/// to itself.
 fn assert_in_columns(header: &Part, name: &str) {
     for text in &header.texts {
         assert!(!text.words.contains('…'), "{name}: {text:?}");
@@ -110,7 +112,7 @@ fn assert_in_columns(header: &Part, name: &str) {
     }
 }
 
-/// What crosses a label otherwise than behind its ground, or a mark that a
+/// Returns what crosses a label other than behind its ground, or a mark that a
 /// ground hides.
 fn crossing(part: &Part) -> Option<String> {
     part.near().into_iter().find_map(|(text, near)| {
@@ -123,7 +125,8 @@ fn crossing(part: &Part) -> Option<String> {
     })
 }
 
-/// What a bar says is inside it, and what a step says inside its column.
+/// Checks that the words of a bar are inside it, and those of a step inside its
+/// column.
 fn assert_in_bars(lanes: &Part, name: &str) {
     for (text, near) in lanes.near() {
         let ((left, top), (right, bottom)) = text.bounds();
@@ -147,7 +150,7 @@ fn every_text_fits_and_no_two_meet() {
     }
 }
 
-/// Words of the text, expectations, times and numbers of lines as well.
+/// With words of the text, expectations, times and line numbers.
 #[test]
 fn pictures_of_texts_are_readable() {
     let names = model::examples::all().into_iter().map(|one| format!("{}.runtext", one.name));
@@ -160,8 +163,8 @@ fn pictures_of_texts_are_readable() {
     }
 }
 
-/// The same pictures are found wrong where labels have no grounds, or where
-/// lines are drawn after them.
+/// The same pictures are found wrong if labels have no grounds, or if lines are
+/// drawn after them.
 #[test]
 fn a_line_through_a_label_is_found() {
     for run in examples().skip(4).take(2) {
@@ -208,7 +211,7 @@ fn the_widest_picture_is_below_16_000_pixels() {
     }
 }
 
-/// The words on each write's bar.
+/// Returns the words on each write's bar.
 fn writes(lanes: &Part) -> impl Iterator<Item = &str> {
     let written =
         |group: &&Vec<String>| group.iter().any(|element| element.starts_with("<rect class=\"ground write"));
@@ -216,8 +219,8 @@ fn writes(lanes: &Part) -> impl Iterator<Item = &str> {
     texts.map(|element| element.split_once('>').unwrap().1.strip_suffix("</text>").unwrap())
 }
 
-/// In the examples there is room for it. A short bar has it rather than the
-/// value, which stands on top.
+/// In the examples there is room for it. A short bar shows it instead of the
+/// value, which is in the header.
 #[test]
 fn writes_name_whose_lease_fixes_their_end() {
     let all: Vec<Part> = examples().map(|run| lanes(&svg(&run, whole(&Timeline::new(&run))))).collect();
@@ -248,7 +251,7 @@ fn lanes(picture: &str) -> Part {
     parts(picture).into_iter().find(|part| part.name == "lanes").unwrap()
 }
 
-/// The elements of each message, in the order of the flights.
+/// Returns the elements of each message, in the order of the flights.
 fn arrows(lanes: &Part) -> impl Iterator<Item = &Vec<String>> {
     lanes
         .groups
@@ -303,7 +306,7 @@ fn lost_messages_end_at_their_receivers_lane() {
     assert!(count > 100, "{count}");
 }
 
-/// Whatever is drawn in lanes has its sign in the legend.
+/// Everything drawn in lanes has its sign in the legend.
 #[test]
 fn every_mark_is_in_the_legend() {
     let classes = |part: &Part, tag: &str| -> Vec<String> {

@@ -1,4 +1,4 @@
-//! What fixes a write's latest end, held to the model's tables.
+//! What fixes a write's latest end, compared with the model's tables.
 
 use model::bits::members;
 use model::gen::runs::run;
@@ -8,8 +8,8 @@ use tools::latest_end::{cause, Cause, Leases};
 use tools::text::parse;
 use tools::trace::{walk, Moment};
 
-/// The times that a cause names, as the tables before the write have them,
-/// each with the client that it is of.
+/// Returns the times that a cause names, as the tables before the write have
+/// them, each with its client.
 fn named(moment: &Moment, cause: &Cause) -> Vec<(Option<usize>, u32)> {
     let (server, object) = (moment.server_before(), usize::from(moment.step.object));
     let volume = moment.setup.volume(object);
@@ -25,9 +25,9 @@ fn named(moment: &Moment, cause: &Cause) -> Vec<(Option<usize>, u32)> {
     }
 }
 
-/// Every time named is the model's latest end. A client is named once, is
-/// waited for and has no lease that ends before; no other one waited for lasts
-/// as long.
+/// Checks that every time named is the model's latest end. A client is named
+/// once, is waited for and has no lease that ends earlier; no other client
+/// waited for lasts as long.
 fn assert_fixes(moment: &Moment, cause: &Cause, name: &str) {
     let (server, object) = (moment.server_before(), usize::from(moment.step.object));
     let write = &moment.server().write[object];
@@ -44,7 +44,7 @@ fn assert_fixes(moment: &Moment, cause: &Cause, name: &str) {
     }
 }
 
-/// Every write that is standing after its step has its cause, of every kind.
+/// Every write that stands after its step has its cause, of every kind.
 #[test]
 fn the_cause_has_the_models_time() {
     let (mut volume, mut object, mut guard, mut timeout, mut several) = (0, 0, 0, 0, 0);
@@ -76,7 +76,8 @@ const LONG_OBJECT_LEASES: &str = "volume lease 10 object lease 100 timeout 3";
 const LONG_VOLUME_LEASES: &str = "volume lease 20 object lease 8 timeout 3";
 const EQUAL_LEASES: &str = "volume lease 20 object lease 20 timeout 3";
 
-/// Client 0 holds object 0 from 0 on. It is written after these steps.
+/// Checks what is told about a write of object 0 after these steps. Client 0
+/// holds object 0 from time 0 on.
 fn assert_told(ticks: &str, steps: &str, told: &str) {
     let setup = format!("clients 3 volumes 1 objects 2\n{ticks}\nvolume 0 objects 0 1\n");
     let text = format!("{setup}join client 0 object 0\n{steps}write object 0 value 7\n");
@@ -107,14 +108,14 @@ fn clients_whose_leases_end_together_are_all_told() {
     let together = "join client 2 object 0\n";
     let told = "10 by the volume leases of clients 0, 2; waits for clients 0, 2";
     assert_told(LONG_OBJECT_LEASES, together, told);
-    // Client 0 has its volume lease anew, client 2 both of its leases.
+    // Client 0 has a new volume lease, client 2 has both leases.
     let renewed = "clock 90\njoin client 2 object 0\nclock 95\njoin client 0 object 1\n";
     let told = "100 by the volume lease of client 2 and the object lease of client 0; waits for clients 0, 2";
     assert_told(LONG_OBJECT_LEASES, renewed, told);
 }
 
-/// The volume lease before the object lease, leases before the guard, the
-/// guard before the timeout.
+/// The volume lease comes before the object lease, leases before the guard, and
+/// the guard before the timeout.
 #[test]
 fn of_equal_times_the_first_is_told() {
     assert_told(EQUAL_LEASES, "", "20 by the volume lease of client 0; waits for client 0");

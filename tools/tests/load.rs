@@ -1,4 +1,4 @@
-//! Run files of workloads, from a setup as text.
+//! Run files of workloads, made from a setup as text.
 
 mod common;
 
@@ -24,7 +24,7 @@ fn load(words: &[&str], text: &str) -> Ended {
     run_program(RUNTEXT, &[&["load"], words].concat(), text.as_bytes())
 }
 
-/// It is the one of the library's example in C, but for the note.
+/// Except for the note, this is the file of the library's example in C.
 #[test]
 fn the_file_has_note_setup_and_the_steps_of_the_seed() {
     let ended = load(&["--seed", "1", "--steps", "20"], TEXT);
@@ -41,7 +41,7 @@ fn the_file_has_note_setup_and_the_steps_of_the_seed() {
     assert!(most.errors.starts_with("4000 steps, "), "{}", most.errors);
 }
 
-/// Of every call whose setup a text can have.
+/// For every call whose setup a text can have.
 #[test]
 fn files_and_refusals_are_the_models() {
     let (mut written, mut refused) = (0, 0);

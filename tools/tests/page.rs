@@ -1,4 +1,5 @@
-//! Pages and pictures of texts: what the text says of each step is beside it.
+//! Pages and pictures of texts: what the text says about each step is beside
+//! it.
 
 mod common;
 
@@ -13,7 +14,7 @@ use tools::text::script;
 
 const PICTURE: &str = env!("CARGO_BIN_EXE_picture");
 
-/// The text that the browser's checks use: words of the paper, joins,
+/// Returns the text that the browser's checks use: the paper's words, joins,
 /// comments, expectations that hold and fail, and a line that cannot be met.
 fn text() -> Vec<u8> {
     fs::read(Path::new(env!("CARGO_MANIFEST_DIR")).join("tests/page/text.runtext")).unwrap()
@@ -27,27 +28,27 @@ fn whole(scenario: &Scenario) -> Window {
     Window { from: 1, to: scenario.run.steps.len() }
 }
 
-/// All texts of the examples, and the one above.
+/// Returns all texts of the examples, and the one above.
 fn texts() -> Vec<Vec<u8>> {
     let names = model::examples::all().into_iter().map(|one| format!("{}.runtext", one.name));
     names.map(|name| example(&name)).chain([text()]).collect()
 }
 
-/// The lines of the listing, without what the page needs for itself.
+/// Returns the lines of the listing, without what the page needs for itself.
 fn listed(page: &str) -> Vec<String> {
     let listing = page.split_once("<div id=\"listing\">").unwrap().1.split_once("</div>").unwrap().0;
     listing.lines().map(bare).filter(|line| !line.is_empty()).collect()
 }
 
-/// Without tags, and with the signs that they need written plainly.
+/// Returns the text without tags, and with entities as plain characters.
 fn bare(html: &str) -> String {
     let kept: String =
         html.split('<').map(|piece| piece.split_once('>').map_or(piece, |(_, text)| text)).collect();
     kept.replace("&quot;", "\"").replace("&lt;", "<").replace("&gt;", ">").replace("&amp;", "&")
 }
 
-/// The listing is explain's, but for the joins' entries: lines, words written,
-/// clock, answers, expectations, comments and why it stopped.
+/// Except for the entries of joins, the listing is explain's: lines, words
+/// written, clock, answers, expectations, comments and why it stopped.
 #[test]
 fn the_listing_says_what_explain_says() {
     for text in texts() {
@@ -89,7 +90,8 @@ fn a_join_is_one_entry() {
     }
 }
 
-/// Each expectation is marked beside its answer, in the listing and on top.
+/// Each expectation is marked beside its answer, in the listing and in the
+/// header.
 #[test]
 fn expectations_are_marked() {
     for text in texts() {
@@ -110,7 +112,7 @@ fn expectations_are_marked() {
         let red = page.matches("<text class=\"answer failed-text\"").count();
         let jump = page.matches("data-seek=\"failed\"").count();
         assert_eq!((red, jump), (failed.len(), usize::from(!failed.is_empty())));
-        // Once on top and once in the lanes, and the legend's.
+        // Once in the header, once in the lanes, and once in the legend.
         assert_eq!(page.matches("<rect class=\"failure\"").count(), 2 * failed.len() + 1);
         let verdict = tools::check::verdict(&scenario).words;
         let class = if failed.is_empty() { "held" } else { "failed" };
@@ -118,7 +120,7 @@ fn expectations_are_marked() {
     }
 }
 
-/// A run file has no text, so nothing is said of one.
+/// A run file has no text, so nothing is said about one.
 #[test]
 fn a_run_file_has_no_expectations() {
     let run = tools::text::from_file(&example("4-client-switched-off.run")).unwrap();
@@ -128,7 +130,7 @@ fn a_run_file_has_no_expectations() {
     assert_eq!(page.matches("<text class=\"text-line\"").count(), 0);
 }
 
-/// The paper's words where the text has them, in the picture alone as well.
+/// The paper's words if the text has them, in a picture alone, too.
 #[test]
 fn the_words_are_the_texts_own() {
     let scenario = scenario(&text());
@@ -145,7 +147,7 @@ fn the_words_are_the_texts_own() {
     }
 }
 
-/// Ticks have the time beside them where the text tells how long one is.
+/// Ticks have the time beside them if the text says how long one is.
 #[test]
 fn times_stand_beside_the_ticks() {
     let text = String::from_utf8(text()).unwrap();
@@ -182,7 +184,7 @@ fn a_text_that_stops_is_shown_up_to_there() {
     );
 }
 
-/// Of a part of the run, what is said of its steps alone.
+/// For a part of the run, only what is said about its steps.
 #[test]
 fn a_window_has_its_own_lines() {
     let scenario = scenario(&text());

@@ -23,7 +23,7 @@ fn whole(run: &Run) -> Window {
     Window { from: 1, to: run.steps.len() }
 }
 
-/// Tags that nest and end, attributes in quotes, no bare `&`.
+/// Checks that tags nest and end, attributes are in quotes, and no `&` is bare.
 fn assert_well_formed(xml: &str) {
     let mut open: Vec<&str> = Vec::new();
     for piece in xml.split('<').skip(1) {
@@ -45,7 +45,7 @@ fn assert_well_formed(xml: &str) {
     assert!(open.is_empty(), "{open:?}");
 }
 
-/// The words of each text element whose class begins so.
+/// Returns the words of each text element whose class begins like this.
 fn texts<'a>(svg: &'a str, class: &'a str) -> impl Iterator<Item = &'a str> {
     let elements = svg.split("<text class=\"").skip(1).filter(move |element| element.starts_with(class));
     elements.map(|element| element.split_once('>').unwrap().1.split('<').next().unwrap())
@@ -79,7 +79,7 @@ fn answers_are_the_models() {
     }
 }
 
-/// One mark for each message, read and refusal; the legend has some too.
+/// One mark for each message, read and refusal; the legend has some, too.
 #[test]
 fn every_message_and_read_is_there() {
     for number in 2..50 {
@@ -96,7 +96,7 @@ fn every_message_and_read_is_there() {
     }
 }
 
-/// A write that is pointed at tells of its latest end what its line does.
+/// A write that is pointed at says the same about its latest end as its line.
 #[test]
 fn every_write_tells_what_fixes_its_end() {
     let mut count = 0;
@@ -133,7 +133,7 @@ fn windows_show_their_steps() {
     }
 }
 
-/// The longest runs and the largest setups are drawn too.
+/// The longest runs and the largest setups are drawn, too.
 #[test]
 fn long_runs_do_not_fail() {
     for number in [0, 1, 50, 51, 100] {
@@ -187,7 +187,7 @@ fn a_run_without_steps_has_a_picture() {
     assert!(page(&empty, whole(&empty)).contains("<h1>00</h1>"));
 }
 
-/// A picture alone is cut where it would be too wide, and says so.
+/// A picture alone is cut if it would be too wide, and says so.
 #[test]
 fn a_picture_alone_is_narrow_enough() {
     let run = run(1, 0);

@@ -1,4 +1,4 @@
-//! What is told of a refused run file.
+//! What is told about a refused run file.
 
 mod common;
 

@@ -1,6 +1,6 @@
-//! File to text to file: the same bytes for every file that the reader
-//! accepts, so that the library writes what the model wrote. Text to file to
-//! text: the canonical form stays.
+//! File to text to file: the same bytes for every file that the reader accepts,
+//! so the library writes what the model wrote. Text to file to text: the
+//! canonical form stays.
 
 use model::gen::rng::Rng;
 use model::gen::{damage, runs, setups};
@@ -47,7 +47,7 @@ fn any_kind_with_any_fields_after_any_note() {
     }
 }
 
-/// Notes of characters, some of them hard ones, rather than of bytes.
+/// Notes of characters, some of them difficult, rather than of bytes.
 #[test]
 fn notes_of_any_characters() {
     let mut rng = Rng::new(4);
@@ -60,8 +60,8 @@ fn notes_of_any_characters() {
     }
 }
 
-/// Lines of words by chance: whatever is read has one canonical form, and
-/// whatever is written out is a run file of the same steps.
+/// Random lines of words: whatever is read has one canonical form, and whatever
+/// is written out is a run file of the same steps.
 #[test]
 fn lines_of_any_words() {
     const SETUP: &str =

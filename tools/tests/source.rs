@@ -1,6 +1,6 @@
-//! Back to the text: each line of explain and each failure has the line of
-//! the text that it comes from, what is written there, its comments and what
-//! was expected.
+//! From the output back to the text: each line of explain and each failure has
+//! its line of the text, what is written there, its comments and what was
+//! expected.
 
 mod common;
 
@@ -98,7 +98,8 @@ fn a_run_file_has_no_source() {
     assert!(explained.starts_with("1 (clock 0) ask client 0 object 0: done: "), "{explained}");
 }
 
-/// Why is the model's word: it says nothing of an answer that it did not give.
+/// Reasons come from the model: it says nothing about an answer that it did not
+/// give.
 #[test]
 fn reasons_are_told_of_the_models_answer_alone() {
     scenario(TEXT).walk(|moment| {
@@ -111,7 +112,7 @@ fn reasons_are_told_of_the_models_answer_alone() {
     });
 }
 
-/// They show the run all the same, so the exit status is 0.
+/// The run is shown all the same, so the exit status is 0.
 #[test]
 fn failed_expectations_are_told_wherever_a_run_is_shown() {
     let failed = "1 of 3 expectations failed\n";

@@ -1,5 +1,5 @@
-//! Texts with a line that cannot be written out: what is shown goes up to
-//! there, and nothing is encoded.
+//! Texts with a line that cannot be written out: the run is shown up to there,
+//! and nothing is encoded.
 
 mod common;
 
@@ -85,7 +85,7 @@ fn pictures_go_up_to_there() {
     }
 }
 
-/// A step that was not reached is told with why.
+/// A step that was not reached is reported with the reason.
 #[test]
 fn a_step_after_it_is_told_with_the_reason() {
     let tables = run_on(EXPLAIN, &["--tables", "9"], NAME);
@@ -117,7 +117,7 @@ fn check_counts_what_was_not_reached() {
     }
 }
 
-/// Also where all were reached, or none is there.
+/// Also if all expectations were reached, or there are none.
 #[test]
 fn check_tells_that_it_stopped() {
     for (lines, verdict) in [
@@ -129,7 +129,7 @@ fn check_tells_that_it_stopped() {
     }
 }
 
-/// A run file or a text that ended early would pass for the whole.
+/// A run file or a text that ends early could be taken for the whole.
 #[test]
 fn nothing_is_written_of_it() {
     for arguments in [&["encode"][..], &["format", "--expand"]] {
@@ -155,7 +155,7 @@ fn a_run_that_is_too_long_stops_too() {
     assert_eq!(told.unwrap(), "line 3998: found step 4001, expected at most 4000 steps");
 }
 
-/// The first line already.
+/// The first line cannot be met.
 #[test]
 fn a_run_of_no_steps_is_shown() {
     let setup: String = BEFORE.lines().take(3).map(|line| format!("{line}\n")).collect();

@@ -14,7 +14,7 @@ fn explained(arguments: &[&str]) -> common::Ended {
     run_program(EXPLAIN, &[arguments, &[&file]].concat(), b"")
 }
 
-/// A write stands, an INVALIDATE and an ACK are under way.
+/// A write stands; an INVALIDATE and an ACK are under way.
 #[test]
 fn every_table_with_what_it_holds() {
     let ended = explained(&["--tables", "16"]);

@@ -1,4 +1,4 @@
-//! The text form line by line, and what is told about bad lines.
+//! The text form line by line, and what is reported about bad lines.
 
 use model::step_record::Step;
 use tools::text::words::Trouble;
@@ -15,7 +15,8 @@ fn troubles(text: &str) -> Vec<String> {
     parse(text.as_bytes()).unwrap_err().iter().map(Trouble::to_string).collect()
 }
 
-/// The only trouble of a text whose setup is right and takes four lines.
+/// Returns the only trouble of a text whose setup is right and takes four
+/// lines.
 fn trouble(line: &str) -> String {
     let troubles = troubles(&format!("{SETUP}{line}\n"));
     assert_eq!(troubles.len(), 1, "{troubles:?}");
@@ -71,13 +72,13 @@ fn every_expectation_and_short_form_both_ways() {
     ];
     let text = format!("{SETUP}\n{}\n", lines.join("\n"));
     assert_eq!(script(text.as_bytes()).unwrap().print(), text);
-    // What is meant without a word has none.
+    // The one meant without a word has none.
     let first = format!("{SETUP}deliver first GRANT to client 0\nlose 2nd GRANT to client 0\n");
     let printed = script(first.as_bytes()).unwrap().print();
     assert!(printed.ends_with("\ndeliver GRANT to client 0\nlose second GRANT to client 0\n"), "{printed}");
 }
 
-/// The paper's dash, region and notice.
+/// The paper's words dash, region and notice.
 #[test]
 fn the_papers_words_are_understood() {
     let steps = "read client 0 object 3 => ask first\njoin client 1 object 0\nrestart client 1\n";
@@ -97,7 +98,7 @@ fn spaces_comments_and_line_ends_are_free() {
     assert_eq!(print(&run), format!("{SETUP}\nclock 7\ndeliver 1\n"));
 }
 
-/// As some editors put it there, at the beginning alone.
+/// Some editors put one at the beginning of a text, and only there.
 #[test]
 fn a_byte_order_mark_is_skipped() {
     let text = format!("{SETUP}clock 1\n");
@@ -135,7 +136,7 @@ fn notes_of_all_sorts() {
     assert_eq!((bytes.len(), bytes[2].as_str()), (3, "note hex 07"));
 }
 
-/// A title has neither the word note nor quotes.
+/// A title has neither the word note nor quotation marks.
 #[test]
 fn a_note_makes_a_title() {
     for (bytes, title) in [

@@ -1,4 +1,5 @@
-//! The timeline of generated runs, held to the model's tables at each step.
+//! The timeline of generated runs, compared with the model's tables at each
+//! step.
 
 use std::collections::BTreeMap;
 
@@ -7,7 +8,7 @@ use tools::timeline::flights::{End, Flights};
 use tools::timeline::{tracks, Timeline};
 use tools::trace::walk;
 
-/// The flights under way are the model's queue, place by place.
+/// The flights under way are the model's queue, in order.
 #[test]
 fn flights_follow_the_queue() {
     let mut ends = [0; 4];
@@ -29,7 +30,7 @@ fn flights_follow_the_queue() {
     assert!(ends.iter().all(|&count| count > 50), "{ends:?}");
 }
 
-/// In their order, the flights under way after a step are the queue then.
+/// The flights under way after a step are, in order, the queue at that time.
 #[test]
 fn flights_know_when_they_are_under_way() {
     for number in 2..50 {
@@ -43,7 +44,7 @@ fn flights_know_when_they_are_under_way() {
     }
 }
 
-/// A full queue loses what an unfull one would have taken.
+/// A full queue loses what a queue with room would have taken.
 #[test]
 fn messages_to_a_full_queue_are_noted() {
     use model::step_record::Step;

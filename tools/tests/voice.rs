@@ -26,7 +26,7 @@ fn has_field_words(text: &str) -> bool {
     text.split(|c: char| !c.is_ascii_alphabetic()).any(|word| Vocabulary::of(word) == Some(Vocabulary::Field))
 }
 
-/// Of every run: the same as in the field's words, but for the words.
+/// For every run: the same as in the field's words, except for the words.
 #[test]
 fn generated_runs_are_told_in_the_papers_words() {
     for number in 0..120 {
@@ -45,7 +45,7 @@ fn generated_runs_are_told_in_the_papers_words() {
     }
 }
 
-/// A note is no part of it, and what is written later changes nothing.
+/// The note does not count, and what is written later changes nothing.
 #[test]
 fn the_first_word_of_the_setup_decides() {
     let words = |text: &str| scenario(text).voice.words;
@@ -96,7 +96,7 @@ fn check_answers_in_the_users_words() {
     );
 }
 
-/// The canonical form is the field's, and a run file has no words.
+/// The canonical form has the field's words, and a run file has no words.
 #[test]
 fn what_is_written_is_in_the_fields_words() {
     let text = format!("{SETUP}join dash 0 notice 0\nlose second GRANT to dash 0 notice 0\n");
@@ -110,7 +110,7 @@ fn what_is_written_is_in_the_fields_words() {
 
 const TICK: &str = "one tick is 250 ms";
 
-/// Anywhere before the first step, and behind the setup in canonical form.
+/// Anywhere before the first step, and after the setup in canonical form.
 #[test]
 fn the_length_of_a_tick_changes_no_byte() {
     let steps = "\njoin client 0 object 0\nclock 3\nread client 0 object 0\n";
@@ -157,7 +157,8 @@ fn a_bad_length_of_a_tick_is_told() {
     assert!(trouble("clock 1\none tick is 1 s").starts_with("line 5: found `one`, expected a step: "));
 }
 
-/// Of every run: wherever a time is told in ticks, it is told in its unit too.
+/// For every run: wherever a time is given in ticks, it is given in its unit,
+/// too.
 #[test]
 fn explain_tells_the_time_beside_the_ticks() {
     let text =
@@ -190,7 +191,7 @@ fn assert_times(explained: &str) {
     }
 }
 
-/// "10 = 2.5 s alive" and "latest end 10 = 2.5 s".
+/// Checks "10 = 2.5 s alive" and "latest end 10 = 2.5 s".
 fn assert_times_of_leases(tables: &str) {
     for line in tables.lines() {
         let words: Vec<&str> = line.split_whitespace().collect();

@@ -16,7 +16,7 @@ volume lease 10 object lease 100 timeout 3
 volume 0 objects 0 1
 ";
 
-/// The steps of these lines, in canonical form.
+/// Returns the steps of these lines, in canonical form.
 fn steps(lines: &str) -> Vec<String> {
     let run = parse(format!("{SETUP}{lines}").as_bytes());
     let run = run.unwrap_or_else(|troubles| panic!("{}", troubles[0]));
@@ -34,10 +34,10 @@ fn a_join_is_what_it_takes() {
     let first = ["ask client 0 object 0", "deliver 0", "deliver 0", "deliver 0"];
     let granted = ["ask client 0 object 0", "deliver 0", "deliver 0"];
     assert_eq!(steps("join client 0 object 0\n"), [&first[..], &granted].concat());
-    // The volume is known from then on; a message under way takes place 0.
+    // From then on the volume is known; a message under way takes place 0.
     let known = steps("join client 0 object 0\nask client 1 object 1\njoin client 0 object 1\n");
     assert_eq!(known[8..], ["ask client 0 object 1", "deliver 1", "deliver 1"]);
-    // After a restart of the server the client is made an offer again.
+    // After a restart of the server the client gets an offer again.
     assert_eq!(steps("join client 0 object 0\nrestart server\njoin client 0 object 0\n").len(), 15);
 }
 
@@ -69,8 +69,8 @@ fn the_first_message_of_a_name_is_taken() {
     }
 }
 
-/// Places 0 to 4 hold RENEW from client 0 for object 0, 1, 0, 1 and, of
-/// client 1, for object 0.
+/// Places 0 to 4 hold RENEW from client 0 for objects 0, 1, 0 and 1, and from
+/// client 1 for object 0.
 #[test]
 fn one_of_several_messages_is_taken() {
     let asks = "ask client 0 object 0\nask client 0 object 1\nask client 0 object 0\nask client 0 object 1\n\
@@ -145,7 +145,7 @@ fn without_such_a_message_those_under_way_are_told() {
     );
 }
 
-/// The state after a run.
+/// Returns the state after a run.
 fn end(run: &Run) -> State {
     let mut state = State::fresh();
     for record in &run.steps {
@@ -155,7 +155,7 @@ fn end(run: &Run) -> State {
     state
 }
 
-/// Runs cut off in their midst, where more stands than at their ends.
+/// Returns runs cut off in the middle, where more stands than at their ends.
 fn generated() -> impl Iterator<Item = Run> {
     let cut = |number| {
         let Run { setup, mut steps, .. } = run(21, number);
@@ -165,7 +165,7 @@ fn generated() -> impl Iterator<Item = Run> {
     (10..160).map(cut).filter(|run| run.steps.len() < 500)
 }
 
-/// In any state: a join ends with the copy shown, or says why not.
+/// In any state, a join ends with the copy shown, or says why not.
 #[test]
 fn joins_in_generated_states() {
     let (mut joined, mut stopped) = (0, 0);
@@ -189,8 +189,8 @@ fn joins_in_generated_states() {
     assert!(joined > 100 && stopped > 10, "{joined} joined, {stopped} stopped");
 }
 
-/// Every name of the message at this place: which of its kind and client, and
-/// which of those about the same object or volume.
+/// Returns every name of the message at this place: which one of its kind and
+/// client, and which one of those about the same object or volume.
 fn names_of(messages: &[Message], place: usize) -> Vec<String> {
     let message = &messages[place];
     let name = kind(&message.kind);
@@ -211,7 +211,7 @@ fn names_of(messages: &[Message], place: usize) -> Vec<String> {
     names
 }
 
-/// In any state: each message under way, by each of its names, is found.
+/// In any state, each message under way is found by each of its names.
 #[test]
 fn names_in_generated_states() {
     let mut found = 0;

@@ -65,8 +65,8 @@ fn main() -> ExitCode {
     })
 }
 
-/// With what is wrong with the text, and the line that counts the run's
-/// refused steps.
+/// Adds what is wrong with the text, and a line that counts the run's refused
+/// steps.
 fn counted(input: &Input, scenario: &Scenario, output: Output) -> Output {
     let mut answers = Vec::new();
     scenario.walk(|moment| answers.push(Listed::of(&moment.answer)));
@@ -92,8 +92,9 @@ fn tables_after(input: &Input, step: u64) -> Result<Output, Failure> {
     Ok(counted(input, &scenario, text.into()))
 }
 
-/// Of a refused file, ours is what roadrun prints. A text that stops has no
-/// run file, so nobody has a listing of it.
+/// Returns the first difference from their listing. For a refused file, ours is
+/// what roadrun prints. A text that stops has no run file, so it has no listing
+/// to compare.
 fn differences(input: &Input, theirs: &[u8]) -> Result<Output, Failure> {
     let run = input.scenario_or_fault()?;
     if let Some(trouble) = run.as_ref().ok().and_then(Scenario::stopped) {

@@ -57,7 +57,8 @@ fn main() -> ExitCode {
     })
 }
 
-/// What standard error says where a picture alone would be too wide.
+/// Returns what to print on standard error if the whole picture would be too
+/// wide.
 fn narrowing(shown: Window, wanted: Window) -> Option<String> {
     let Window { from, to } = shown;
     let last = wanted.to;
@@ -70,7 +71,7 @@ fn step(arguments: &mut Arguments, name: &str) -> Result<Option<usize>, Failure>
     arguments.number(name, "the number of a step")
 }
 
-/// A run without steps has an empty window.
+/// Returns the steps to show. A run without steps has an empty window.
 fn window(from: Option<usize>, to: Option<usize>, count: usize) -> Result<Window, String> {
     let window = Window { from: from.unwrap_or(1), to: to.unwrap_or(count).min(count) };
     let empty = count == 0 && from.is_none();

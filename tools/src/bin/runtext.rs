@@ -127,7 +127,7 @@ fn load(mut arguments: Arguments) -> Result<Output, Failure> {
     Ok(Output { told: told.into_iter().collect(), ..file.into() })
 }
 
-/// A verdict for each text, also where one before it could not be read.
+/// Returns a verdict for each text, even if one before it could not be read.
 fn check(arguments: Arguments) -> Result<Output, Failure> {
     let mut files: Vec<Option<String>> = arguments.files()?.into_iter().map(Some).collect();
     if files.is_empty() {
@@ -154,7 +154,7 @@ fn check(arguments: Arguments) -> Result<Output, Failure> {
     Ok(output)
 }
 
-/// Adds how many expectations of a text hold, and each that fails.
+/// Adds how many of a text's expectations hold, and each one that fails.
 fn checked(input: &Input, scenario: &Scenario, output: &mut Output) {
     let verdict = verdict(scenario);
     for line in iter::once(&verdict.words).chain(&verdict.failures) {

@@ -1,6 +1,6 @@
-//! Reasons for a delivery. What was done is seen from the tables on both
-//! sides; where nothing was, the entries that the message does not fit are
-//! told.
+//! Reasons for a delivery. What it did is seen from the tables before and
+//! after. If it did nothing, the reasons are the entries that the message does
+//! not match.
 
 use model::message::{Kind, Message};
 
@@ -46,7 +46,8 @@ fn renew(moment: &Moment, client: usize, object: usize, number: u32, epoch: u32)
     }
 }
 
-/// Where its number stands it is stored, with a value or without one.
+/// Tells that a GRANT with the standing number was stored, with or without a
+/// value, or why it was not.
 fn grant_stored(moment: &Moment, client: usize) -> Vec<String> {
     if request_changed(moment, client) {
         return vec!["stored".into()];
@@ -54,7 +55,8 @@ fn grant_stored(moment: &Moment, client: usize) -> Vec<String> {
     nothing(standing(moment, client))
 }
 
-/// An answer that a client takes ends its request; any other leaves it.
+/// Returns whether the delivery changed the client's request. An answer that
+/// the client takes ends it; any other leaves it.
 fn request_changed(moment: &Moment, client: usize) -> bool {
     moment.after.requests(moment.setup)[client] != *moment.request_before(client)
 }

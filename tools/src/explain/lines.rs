@@ -1,4 +1,4 @@
-//! The lines of the explained listing, with what the text says of each step.
+//! The lines of the explained listing, with what the text says about each step.
 
 use std::fmt::Write;
 
@@ -13,8 +13,7 @@ use crate::text::script::Line;
 use crate::text::steps;
 use crate::trace::{walk, Moment};
 
-/// Returns the explained listing of a run: a line for each step, and nothing
-/// else.
+/// Returns the explained listing of a run: one line per step, and nothing else.
 pub fn listing(run: &Run) -> String {
     let mut lines = String::new();
     walk(run, |moment| put(&mut lines, &line(moment)));
@@ -25,14 +24,14 @@ fn put(lines: &mut String, line: &str) {
     writeln!(lines, "{line}").expect("a string takes every line");
 }
 
-/// Returns the line of a step as a run file has it.
+/// Returns the line of a step of a run file.
 pub fn line(moment: &Moment) -> String {
     let step = moment.voice.said(&steps::line(&moment.step));
     format!("{} ({}) {step}: {}", moment.number, clock(moment), answered(moment, None))
 }
 
-/// Returns the line of a step, with the line of the text that it comes from
-/// and what was written and expected there.
+/// Returns the line of a step, with its line of the text and what was written
+/// and expected there.
 pub fn line_of(scenario: &Scenario, moment: &Moment) -> String {
     let Some(origin) = scenario.line(moment.number) else {
         return line(moment);
@@ -42,13 +41,13 @@ pub fn line_of(scenario: &Scenario, moment: &Moment) -> String {
     format!("{} (line {number}, {clock}) {written}: {answered}", moment.number)
 }
 
-/// Returns the clock after the step: "clock 10", with its time if that is
+/// Returns the clock after the step, "clock 10", with its time if that is
 /// known.
 pub fn clock(moment: &Moment) -> String {
     format!("clock {}", moment.voice.ticks(moment.clock()))
 }
 
-/// Returns what was written, and which step it stands for where it leaves that
+/// Returns what was written, and the step it stands for if the words leave that
 /// open.
 pub fn written(line: &Line, moment: &Moment) -> String {
     let written = &line.written;
@@ -59,8 +58,8 @@ pub fn written(line: &Line, moment: &Moment) -> String {
     }
 }
 
-/// Returns the answer and why it was given. Why is the model's word, so it is
-/// left out where the library gave another answer.
+/// Returns the answer and the reason. The reason comes from the model, so it is
+/// left out if the library gave another answer.
 pub fn answered(moment: &Moment, expectation: Option<Expectation>) -> String {
     let answer = Listed::of(&moment.answer);
     let words = match expectation {
@@ -74,8 +73,9 @@ pub fn answered(moment: &Moment, expectation: Option<Expectation>) -> String {
     }
 }
 
-/// Returns all that explain tells of a run: its lines between the comments of
-/// its text, what is still under way, and why it stopped if it did.
+/// Returns everything that explain tells about a run: its lines among the
+/// comments of its text, what is still under way, and why it stopped, if it
+/// did.
 pub fn told(scenario: &Scenario) -> String {
     let mut lines = String::new();
     let source = scenario.source.as_ref();
@@ -98,8 +98,8 @@ pub fn told(scenario: &Scenario) -> String {
     lines
 }
 
-/// Puts the line of a step, with the comments of the text's line if it is the
-/// first that comes from there.
+/// Adds the line of a step, with the comments of its line of the text if it is
+/// the first step of that line.
 fn step(lines: &mut String, scenario: &Scenario, moment: &Moment) {
     let first = *scenario.together(moment.number).start() == moment.number;
     let origin = scenario.line(moment.number).filter(|_| first);

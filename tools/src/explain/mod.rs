@@ -1,5 +1,5 @@
-//! A line of words for each step: what it was, what was answered, and the
-//! part of the model's state that shows why.
+//! One line of words per step: what it was, what was answered, and the part of
+//! the model's state that shows why.
 
 mod delivery;
 mod lines;
@@ -15,12 +15,12 @@ use crate::scenario::Scenario;
 use crate::trace::Moment;
 pub use lines::{answered, clock, line, line_of, listing, told, written};
 
-/// The line of one step.
+/// Returns the line of one step.
 pub fn line_at(scenario: &Scenario, number: usize) -> Option<String> {
     at(scenario, number, |moment| line_of(scenario, moment))
 }
 
-/// What is seen of one step of a run, if it has so many.
+/// Returns what `see` makes of one step of a run, if the run has that many.
 pub fn at<T>(scenario: &Scenario, number: usize, see: impl Fn(&Moment) -> T) -> Option<T> {
     let mut seen = None;
     scenario.walk(|moment| {
@@ -31,12 +31,12 @@ pub fn at<T>(scenario: &Scenario, number: usize, see: impl Fn(&Moment) -> T) -> 
     seen
 }
 
-/// The listing's two numbers in words.
+/// Returns the listing's two numbers in words.
 pub fn answer(answer: &Answer) -> String {
     Listed::of(answer).words()
 }
 
-/// In the user's words.
+/// Returns the reasons for the answer, in the user's words.
 pub fn reasons(moment: &Moment) -> Vec<String> {
     plain_reasons(moment).iter().map(|reason| moment.voice.said(reason)).collect()
 }

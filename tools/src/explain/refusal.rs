@@ -1,5 +1,5 @@
-//! The table entry beside which a step was refused. Which question said
-//! "no" is the model's word.
+//! The table entry that shows why a step was refused. The model says which
+//! question was answered "no".
 
 use model::limits::{BAD_TIME, CLOCK_MAX, NO_NUMBER_LEFT, NO_SUCH_ITEM, UNKNOWN_KIND, WRITE_STANDS};
 use model::step_record::*;
@@ -22,7 +22,7 @@ pub fn reasons(moment: &Moment, number: u8) -> Vec<String> {
     }
 }
 
-/// How many there are of each item that the step names.
+/// Returns how many there are of each item that the step names.
 fn items(moment: &Moment) -> Vec<String> {
     let (step, setup) = (&moment.step, moment.setup);
     let clients = || format!("client {} of {}", step.client, setup.clients);

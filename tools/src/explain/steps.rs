@@ -1,4 +1,4 @@
-//! Reasons for every accepted step but a delivery.
+//! Reasons for every accepted step except a delivery.
 
 use model::limits::QUEUE;
 use model::message::Message;
@@ -8,7 +8,8 @@ use crate::latest_end;
 use crate::names::{clients, label, routed, whole};
 use crate::trace::Moment;
 
-/// "volume lease to 10", "volume lease ended at 10" or "no volume lease".
+/// Returns "volume lease to 10", "volume lease ended at 10" or "no volume
+/// lease".
 fn lease(moment: &Moment, what: &str, expiry: u32) -> String {
     let ticks = moment.voice.ticks(expiry);
     match expiry {
@@ -18,13 +19,14 @@ fn lease(moment: &Moment, what: &str, expiry: u32) -> String {
     }
 }
 
-/// Tells what the step sends, each with its place among those under way.
+/// Returns what the step sends, with places among the messages under way.
 pub fn sends(moment: &Moment) -> Vec<String> {
     let sends = |(place, sent)| format!("sends {} at place {place}", whole(sent, &moment.voice));
     moment.placed().map(sends).collect()
 }
 
-/// Shown: what it rests on. Not shown: only what it lacks.
+/// Returns what a shown copy rests on or, if none was shown, only what is
+/// missing.
 pub fn read(moment: &Moment) -> Vec<String> {
     let (client, object) = (usize::from(moment.step.client), usize::from(moment.step.object));
     let tables = &moment.before.tables;
@@ -62,7 +64,7 @@ pub fn ask(moment: &Moment) -> Vec<String> {
 pub fn write(moment: &Moment) -> Vec<String> {
     let object = usize::from(moment.step.object);
     let server = moment.server();
-    // Without a cause it does not stand.
+    // A write without a cause does not stand.
     let Some(cause) = latest_end::cause(moment) else {
         return vec![format!("nobody to wait for, stored as version {}", server.version[object])];
     };
@@ -78,14 +80,14 @@ pub fn write(moment: &Moment) -> Vec<String> {
     reasons
 }
 
-/// Tells what a write sends: the same to each client.
+/// Returns what a write sends: the same to each client.
 fn sends_to(moment: &Moment) -> Option<String> {
     let to = |(place, sent): (usize, &Message)| format!("to client {} at place {place}", sent.client);
     let (_, first) = moment.placed().next()?;
     Some(format!("sends {} {}", label(first), moment.placed().map(to).collect::<Vec<_>>().join(", ")))
 }
 
-/// Whom or what a standing write waits for.
+/// Returns what a standing write waits for.
 pub fn waits(moment: &Moment, object: usize, write: &Write) -> String {
     let guard = moment.server().guard[moment.setup.volume(object)];
     let held_back = moment.clock() < guard;
@@ -97,7 +99,7 @@ pub fn waits(moment: &Moment, object: usize, write: &Write) -> String {
     }
 }
 
-/// The writes that completed in the step, in object order.
+/// Returns the writes that completed in the step, in object order.
 pub fn completed(moment: &Moment) -> Vec<String> {
     let words = |(object, write): (usize, &Write)| {
         let version = moment.server().version[object];

@@ -1,6 +1,6 @@
 //! A table as aligned text.
 
-/// A title, then a row of heads and the rows below it; no rows are "none".
+/// Returns a title, a row of headings and the rows below; without rows, "none".
 pub fn print(title: &str, heads: Vec<String>, rows: &[Vec<String>]) -> String {
     if rows.is_empty() {
         return format!("{title}: none\n");

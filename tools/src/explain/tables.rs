@@ -1,5 +1,5 @@
-//! The tables after a step: of clients, volumes and objects that exist, and
-//! only the rows that hold something.
+//! The tables after a step: for clients, volumes and objects that exist, only
+//! the rows that hold something.
 
 use model::setup::Setup;
 use model::state::State;
@@ -9,7 +9,7 @@ use super::table;
 use crate::names::{clients, whole};
 use crate::voice::Voice;
 
-/// All tables of a state, one below the other.
+/// Returns all tables of a state, one below the other.
 pub fn print(setup: &Setup, state: &State, voice: &Voice) -> String {
     let view = View { setup, state, voice };
     let parts = [
@@ -33,13 +33,13 @@ struct View<'a> {
     voice: &'a Voice,
 }
 
-/// Numbers and words of a row.
+/// Makes a row of numbers and words.
 macro_rules! row {
     ($($cell:expr),+) => { vec![$($cell.to_string()),+] };
 }
 
 impl View<'_> {
-    /// A table in the user's words.
+    /// Returns a table in the user's words.
     fn table(&self, title: &str, heads: &[&str], rows: &[Vec<String>]) -> String {
         let said = |cells: Vec<String>| cells.iter().map(|cell| self.voice.said(cell)).collect();
         let heads = heads.iter().map(|head| head.to_string()).collect();
@@ -47,7 +47,7 @@ impl View<'_> {
         table::print(&self.voice.said(title), said(heads), &rows)
     }
 
-    /// "10 alive" or "10 ended".
+    /// Returns "10 alive" or "10 ended".
     fn expiry(&self, expiry: u32) -> String {
         let ticks = self.voice.ticks(expiry);
         match expiry {
@@ -69,7 +69,7 @@ impl View<'_> {
         0..self.setup.objects.into()
     }
 
-    /// Every client with every one of these.
+    /// Returns every client with each of the others.
     fn pairs(&self, others: std::ops::Range<usize>) -> impl Iterator<Item = (usize, usize)> {
         self.each_client().flat_map(move |client| others.clone().map(move |other| (client, other)))
     }

@@ -1,5 +1,5 @@
-//! Whom and what a part of the picture is about, so that the page can leave
-//! out what was not asked for.
+//! What a part of the picture is about, so that the page can leave out what was
+//! not asked for.
 
 use std::fmt::{Display, Formatter, Result};
 
@@ -9,7 +9,7 @@ use model::step_record::{ASK, READ, RESTART_CLIENT, WRITE};
 use super::layout::Row;
 use crate::timeline::StepView;
 
-/// Attributes of an element. What has none is about all of them.
+/// Attributes of an element. An element without any is about everything.
 #[derive(Clone, Copy, Debug, Default, PartialEq, Eq)]
 pub struct About {
     pub client: Option<usize>,

@@ -29,7 +29,8 @@ pub fn draw(timeline: &Timeline, layout: &Layout, shown: &[Shown], taken: &mut T
     }
 }
 
-/// An arrow over many columns is thin, to leave what it crosses readable.
+/// Draws an arrow. One across many columns is thin, so that what it crosses
+/// stays readable.
 fn arrow(svg: &mut Svg, taken: &mut Taken, one: &Shown, under_way: bool) {
     let (flight, path) = (one.flight, &one.path);
     let kind = names::kind(&flight.message.kind).to_lowercase();
@@ -64,7 +65,7 @@ fn head(svg: &mut Svg, taken: &mut Taken, kind: &str, path: &Path) {
     taken.take(Tile::line(back, tip, 2.0 * HALF_HEAD));
 }
 
-/// Where a copy branches off.
+/// Draws the mark where a copy branches off.
 fn diamond(svg: &mut Svg, taken: &mut Taken, kind: &str, middle: Point) {
     let Point { x, y } = middle;
     let corners = [at(x - DIAMOND, y), at(x, y - DIAMOND), at(x + DIAMOND, y), at(x, y + DIAMOND)];

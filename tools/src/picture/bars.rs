@@ -1,4 +1,4 @@
-//! The bars in the lanes' rows.
+//! The bars in the rows of the lanes.
 
 use model::step_record::CLOCK;
 
@@ -13,7 +13,7 @@ use crate::timeline::spans::Span;
 use crate::timeline::tracks::Track;
 use crate::timeline::Timeline;
 
-/// Columns after which a bar is named again.
+/// A bar is labelled again after this many columns.
 const AGAIN: f64 = 24.0 * COLUMN;
 
 /// A bar's upper edge and its ends.
@@ -25,7 +25,7 @@ pub struct Bar {
 }
 
 impl Bar {
-    /// What the window shows of a span, if it does.
+    /// Returns the part of a span that the window shows, if any.
     fn of(timeline: &Timeline, layout: &Layout, span: &Span) -> Option<Bar> {
         let (from, to) = (done(timeline, layout, span.from), end(timeline, layout, span));
         let top = layout.row(span.track).filter(|_| layout.shows(from, to))?;
@@ -36,7 +36,8 @@ impl Bar {
         svg.rect(class, at(self.from, self.top + down), self.to - self.from, height);
     }
 
-    /// From its left end or the window's.
+    /// Returns the bar's room between two heights, from its left end or the
+    /// window's.
     fn tile(&self, high: f64, low: f64) -> Tile {
         Tile::level(at(self.from.max(0.0), self.top + high), at(self.to, self.top + low))
     }
@@ -56,7 +57,7 @@ pub fn draw(timeline: &Timeline, layout: &Layout, taken: &mut Taken, svg: &mut S
     }
 }
 
-/// What the bars say, on a ground of their colour.
+/// Writes the labels of the bars, on a ground of their colour.
 pub fn words(timeline: &Timeline, layout: &Layout, taken: &mut Taken, svg: &mut Svg) {
     for (span, bar) in shown(timeline, layout) {
         let Some(class) = class(timeline, layout, span) else { continue };
@@ -98,7 +99,7 @@ fn lease(track: Track) -> &'static str {
     }
 }
 
-/// Of a bar that has words.
+/// Returns the class of a bar that has words.
 fn class(timeline: &Timeline, layout: &Layout, span: &Span) -> Option<&'static str> {
     match span.track {
         Track::Write(_) => Some(writes::class(timeline, layout, span)),
@@ -107,8 +108,8 @@ fn class(timeline: &Timeline, layout: &Layout, span: &Span) -> Option<&'static s
     }
 }
 
-/// Where a step has done its work: a clock step at its column's right edge,
-/// when the time has passed.
+/// Returns where in the picture a step has done its work. For a clock step that
+/// is its column's right edge, when the time has passed.
 fn done(timeline: &Timeline, layout: &Layout, step: usize) -> f64 {
     match timeline.step(step).step.kind {
         CLOCK => layout.left(step) + COLUMN,
@@ -116,7 +117,8 @@ fn done(timeline: &Timeline, layout: &Layout, step: usize) -> f64 {
     }
 }
 
-/// Where a time runs out inside a clock step, the bar ends inside its column.
+/// Returns where a bar ends. If its time runs out inside a clock step, it ends
+/// inside that column.
 fn end(timeline: &Timeline, layout: &Layout, span: &Span) -> f64 {
     let Some(step) = span.to else {
         return layout.left(timeline.steps.len() + 1);
@@ -128,8 +130,8 @@ fn end(timeline: &Timeline, layout: &Layout, span: &Span) -> f64 {
     }
 }
 
-/// From the bar's beginning and again far from it, clear of what no label may
-/// hide.
+/// Returns labels from the bar's beginning on, and again far from it, clear of
+/// what no label may hide.
 fn labels<'a>(taken: &mut Taken, wordings: &'a [String], bar: Bar) -> Vec<(Point, &'a str)> {
     let mut labels = Vec::new();
     let mut x = bar.from.max(0.0);

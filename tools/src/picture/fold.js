@@ -1,20 +1,21 @@
-// Without the lanes and rows that the filters hide, the others move up.
+// When the filters hide lanes and rows, the others move up.
 
-// How far down something is, by how far down it was drawn.
+// Returns how far down something is now, from how far down it was drawn.
 let fold = y => y;
 
 const pictured = [...names.querySelectorAll('text'), ...lanes.querySelectorAll('line, rect, circle, polygon, text')];
 const drawn = new Map(pictured.map(element =>
   [element, Object.fromEntries([...element.attributes].map(one => [one.name, one.value]))]));
 const flights = [...lanes.querySelectorAll('.arrow')].map(arrow => arrow.parentNode);
-// What is said of a flight, apart from its arrow.
+// The labels of a flight, apart from its arrow.
 const said = new Map([...lanes.querySelectorAll('[data-flight]')].filter(group => !group.querySelector('.arrow'))
   .map(group => [group.dataset.flight, group]));
 const laneLines = new Map([...names.querySelectorAll('.lane-name')].map(name =>
   [name.parentNode.dataset.client ?? 'server', drawn.get(name).y - 4]));
 const fullHeight = +lanes.dataset.height;
 
-// Those of what the filters hide, the higher first, none within another.
+// Returns the bands that the filters hide, the higher first, none within
+// another.
 function hiddenBands() {
   const groups = [...names.querySelectorAll('[data-top]')].filter(group => !shows(group));
   const bands = groups.map(group => [+group.dataset.top, +group.dataset.bottom]).sort((a, b) => a[0] - b[0]);
@@ -35,7 +36,8 @@ function foldAll() {
   }
 }
 
-// The columns' backgrounds reach over the bands and get shorter.
+// Moves an element. The backgrounds of columns reach across the bands and get
+// shorter.
 function place(element, was) {
   for (const name of ['y', 'y1', 'y2', 'cy'].filter(name => name in was)) {
     element.setAttribute(name, fold(+was[name]));
@@ -47,7 +49,7 @@ function place(element, was) {
   }
 }
 
-// Messages keep to the lines of their lanes. How far down they get.
+// Keeps messages on the lines of their lanes. Returns how far down they reach.
 function reroute(groups) {
   const end = group => +drawn.get(group.querySelector('.arrow')).y2;
   let lowest = 0;
@@ -62,16 +64,17 @@ function reroute(groups) {
   return lowest + 11;
 }
 
-// A copy begins on the way between two lanes, all others on a line.
+// Returns where a message begins: a copy between two lanes, any other on a
+// line.
 function beginning(group, y) {
   if (!group.querySelector('.doubled')) return fold(y);
   const [server, client] = [laneLines.get('server'), laneLines.get(group.dataset.client)];
   return fold(server) + (y - server) * (fold(client) - fold(server)) / (client - server);
 }
 
-// Cells of the picture that have words along an arrow, or what no words may
-// hide. Words are left out where others are: the arrow still tells all when it
-// is pointed at.
+// Cells of the picture that have words along an arrow, or something that no
+// words may hide. Words that would cover others are left out: the arrow still
+// shows everything when pointed at.
 const worded = new Set();
 const cell = (x, y) => `${Math.round(x / 10)} ${Math.round(y / 10)}`;
 function free(x, y, angle, from, wide, across) {
@@ -86,16 +89,16 @@ function free(x, y, angle, from, wide, across) {
   return good;
 }
 
-// Head, cross or ring at the end of a way, and the diamond where a copy
-// begins.
+// Keeps room for the head, cross or ring at the end of a path, and for the
+// diamond where a copy begins.
 function keepClear({ x1, x2, fromY, toY, copy }) {
   for (const [x, y] of [[x2, toY], ...(copy ? [[x1, fromY]] : [])]) {
     for (const right of [-8, 0, 8]) [-8, 0, 8].forEach(down => worded.add(cell(x + right, y + down)));
   }
 }
 
-// From the beginning to the end at this y, with all that is at either end. The
-// way, with the labels along it.
+// Draws an arrow from its beginning to its end at this y, with the marks at
+// both ends. Returns the path, with the labels along it.
 function turn(group, toY) {
   const arrow = group.querySelector('.arrow');
   const [x1, y1, x2, y2] = ['x1', 'y1', 'x2', 'y2'].map(name => +drawn.get(arrow)[name]);
@@ -121,13 +124,13 @@ function turn(group, toY) {
 
 const degrees = angle => angle * 180 / Math.PI;
 
-// How far along the way and across it an element was drawn.
+// Returns how far along the path and across it an element was drawn.
 function onWay(element, { x1, y1, was }) {
   const [e, f] = drawn.get(element).transform.match(/[-0-9.]+/g).slice(4).map(Number);
   return [(e - x1) * Math.cos(was) + (f - y1) * Math.sin(was), (f - y1) * Math.cos(was) - (e - x1) * Math.sin(was)];
 }
 
-// A label along the way, with its ground.
+// Turns a label along the path, with its ground.
 function turnLabel(text, way) {
   const [along, across] = onWay(text, way);
   const wide = text.textContent.length * 5.185;

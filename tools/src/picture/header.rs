@@ -1,4 +1,5 @@
-//! Above the lanes: each step in words, its answer, its number, the clock.
+//! The header above the lanes: each step in words, its answer, its number, the
+//! clock.
 
 use model::answer::Answer;
 
@@ -14,14 +15,13 @@ use crate::{explain, names};
 /// The height of a row of numbers below the words.
 const ROW: f64 = 16.0;
 const UP: Point = Point { x: 0.0, y: -1.0 };
-/// Columns after which the clock is told again.
+/// The clock is shown again after this many columns.
 const AGAIN: usize = 20;
-/// Where in a column the step stands, the message that it is about, and the
-/// answer.
+/// Where in a column the step, its message and the answer stand.
 const LINES: [f64; 3] = [-9.0, 3.0, 15.0];
 
-/// Below the words: what each row of numbers is, with the line that its
-/// numbers stand on, from the words down.
+/// Returns the rows of numbers below the words: the name of each, and the line
+/// that its numbers stand on, counted down from the words.
 pub fn rows(timeline: &Timeline) -> Vec<(&'static str, f64)> {
     let time = timeline.voice.tick.map(|_| "time");
     let line = timeline.steps.first().and_then(|view| view.text_line).map(|_| "line");
@@ -29,13 +29,13 @@ pub fn rows(timeline: &Timeline) -> Vec<(&'static str, f64)> {
     names.enumerate().map(|(row, name)| (name, 12.0 + row as f64 * ROW)).collect()
 }
 
-/// What the rows of numbers take.
+/// Returns the height of the rows of numbers.
 pub fn numbers(timeline: &Timeline) -> f64 {
     rows(timeline).len() as f64 * ROW + 2.0
 }
 
-/// The step as it was written, with the way of its message; of an unknown
-/// kind only the kind.
+/// Returns the step as it was written, with the direction of its message; for
+/// an unknown kind only the kind.
 fn step(view: &StepView, voice: &Voice) -> String {
     let step = &view.written;
     match &view.message {
@@ -48,14 +48,16 @@ fn step(view: &StepView, voice: &Voice) -> String {
     }
 }
 
-/// An expectation stands beside the answer, and fails in red.
+/// Returns what a column says. An expectation stands beside the answer, in red
+/// if it failed.
 fn words(view: &StepView, voice: &Voice) -> [String; 3] {
     let message = view.message.as_ref().map_or(String::new(), names::label);
     let answer = view.expectation.map_or_else(|| explain::answer(&view.answer), |expected| expected.words());
     [step(view, voice), voice.said(&message), answer]
 }
 
-/// The longest words decide, so that none is cut.
+/// Returns the height of the header: that of the longest words, so that none
+/// are cut.
 pub fn height(timeline: &Timeline, layout: &Layout) -> f64 {
     let views = &timeline.steps[layout.window.from - 1..layout.window.to];
     let words = views.iter().flat_map(|view| words(view, &layout.voice));
@@ -85,8 +87,8 @@ pub fn draw(timeline: &Timeline, layout: &Layout, height: f64, svg: &mut Svg) {
     }
 }
 
-/// What a row of numbers has of a step: the clock and the time in every
-/// column that moves them, and now and then.
+/// Writes a step's entry in a row of numbers: clock and time in every column
+/// that changes them, and now and then.
 fn below(svg: &mut Svg, layout: &Layout, number: usize, view: &StepView, (row, y): (&str, f64)) {
     let moved = view.clock != view.clock_before;
     let again = (number - layout.window.from).is_multiple_of(AGAIN);
@@ -104,7 +106,7 @@ fn below(svg: &mut Svg, layout: &Layout, number: usize, view: &StepView, (row, y
     }
 }
 
-/// Within its column, narrower where it has to be.
+/// Writes words within a column, narrowed if needed.
 fn fitted(svg: &mut Svg, class: &str, spot: Point, words: &str) {
     let room = COLUMN - 2.0;
     match width(words, VALUE) {
@@ -113,8 +115,8 @@ fn fitted(svg: &mut Svg, class: &str, spot: Point, words: &str) {
     }
 }
 
-/// Time passes in the columns of clock steps alone; refused steps are red, and
-/// failed expectations redder.
+/// Draws a column's background. Time passes only in the columns of clock steps;
+/// refused steps are red, and failed expectations redder.
 pub fn column(svg: &mut Svg, view: &StepView, left: f64, height: f64) {
     if view.clock != view.clock_before {
         svg.rect("time", at(left, 0.0), COLUMN, height);

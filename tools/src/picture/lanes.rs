@@ -1,4 +1,4 @@
-//! The lanes' lines and names.
+//! The lines and names of the lanes.
 
 use super::about::About;
 use super::layout::{Layout, COLUMN, ROW};
@@ -6,10 +6,10 @@ use super::letters::VALUE;
 use super::svg::{at, Point, Svg, LEVEL};
 use super::tiles::{Taken, Tile};
 
-/// Columns after which a lane is named again.
+/// A lane is named again after this many columns.
 const AGAIN: f64 = 24.0 * COLUMN;
 
-/// The names, left of the lanes.
+/// Writes the names to the left of the lanes.
 pub fn names(layout: &Layout, width: f64, svg: &mut Svg) {
     for (lane, name, y) in lanes(layout) {
         svg.name(lane, layout.reach(lane.client), |svg| svg.text("lane-name", at(8.0, y + 4.0), &name));
@@ -41,7 +41,7 @@ pub fn lines(layout: &Layout, taken: &mut Taken, svg: &mut Svg) {
     }
 }
 
-/// The lanes' names again, where there is room for them.
+/// Writes the names of the lanes again, where there is room.
 pub fn again(layout: &Layout, taken: &mut Taken, svg: &mut Svg) {
     for (lane, name, y) in lanes(layout) {
         let mut x = AGAIN;

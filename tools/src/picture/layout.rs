@@ -1,11 +1,11 @@
-//! Where everything is: a column for each step of the window, a lane for
-//! the server and one for each client, in it a row for each volume and
-//! object that the window has something of, and at the right the messages
+//! Where everything goes: a column for each step of the window, a lane for the
+//! server and one for each client, in each lane a row for each volume and
+//! object that the window shows something of, and on the right the messages
 //! under way after the last step shown.
 //!
-//! Messages fall from the server's line and rise from the clients', so what
-//! steps say is on the other side of each line: above the server's, below a
-//! client's. One step says one thing on a lane, within its column.
+//! Messages fall from the server's line and rise from the clients', so the
+//! words of steps are on the other side of each line: above the server's, below
+//! a client's. A step says one thing on a lane, within its column.
 
 use std::collections::BTreeMap;
 
@@ -30,18 +30,18 @@ const FALL: f64 = 132.0;
 const ABOVE_CLIENT: f64 = 24.0;
 /// Between a lane's line and its rows.
 const BESIDE_LINE: f64 = 19.0;
-/// How far from its receiver's line a message ends that does not arrive.
+/// How far from its receiver's line a message that does not arrive ends.
 const SHORT: f64 = 13.0;
 /// Right of the columns, at least.
 const MARGIN: f64 = 10.0;
 /// Between the messages under way at the right.
 const QUEUED: f64 = 11.0;
 
-/// Most steps of a picture alone: it stays narrower than 16,000 pixels, with
-/// all that stands beside them, so that any renderer draws the whole of it.
+/// The most steps of a picture alone: it stays narrower than 16,000 pixels,
+/// with everything beside the steps, so that any renderer draws all of it.
 const MOST: usize = 300;
 
-/// The steps shown, both included, counted from 1.
+/// The steps shown, counted from 1, both ends included.
 #[derive(Clone, Copy, Debug, PartialEq, Eq)]
 pub struct Window {
     pub from: usize,
@@ -70,8 +70,8 @@ pub struct Layout {
     pub rows: BTreeMap<Row, f64>,
     /// Below the last lane.
     foot: f64,
-    /// Where the flights end, by place in their list, that are under way
-    /// after the last step shown, and what is said there.
+    /// For the flights under way after the last step shown, by index in their
+    /// list: where each ends, and the words there.
     pub queue: BTreeMap<usize, (Point, String)>,
 }
 
@@ -102,8 +102,8 @@ impl Layout {
         layout
     }
 
-    /// Each message under way near its receiver's line, below the one before
-    /// it.
+    /// Puts each message under way near its receiver's line, below the one
+    /// before it.
     fn line_up(&mut self, flights: &[Flight]) {
         let under_way = |flight: &Flight| flight.under_way_after(self.window.to);
         let queue = flights.iter().enumerate().filter(|(_, flight)| under_way(flight));
@@ -123,7 +123,7 @@ impl Layout {
         self.height = self.height.max(lowest + QUEUED);
     }
 
-    /// A lane's upper and lower edge.
+    /// Returns a lane's upper and lower edge.
     pub fn reach(&self, client: Option<usize>) -> (f64, f64) {
         let top = |client: usize| self.clients.get(client).map(|line| line - ABOVE_CLIENT);
         match client {
@@ -132,8 +132,8 @@ impl Layout {
         }
     }
 
-    /// The line of the lane that a step is about: a message's receiver's, or
-    /// that of a client that the step names.
+    /// Returns the line of the lane that a step is about: the receiver's of its
+    /// message, or that of the client that the step names.
     pub fn lane(&self, view: &StepView) -> f64 {
         let client = || self.clients.get(usize::from(view.step.client)).copied();
         match (&view.message, view.step.kind) {
@@ -143,7 +143,7 @@ impl Layout {
         }
     }
 
-    /// The lines of a message's sender and receiver.
+    /// Returns the lines of a message's sender and receiver.
     pub fn ends(&self, message: &Message) -> (f64, f64) {
         let client = self.clients[usize::from(message.client)];
         match names::from_server(&message.kind) {
@@ -152,7 +152,7 @@ impl Layout {
         }
     }
 
-    /// Where a message is that does not reach its receiver's line.
+    /// Returns where a message ends that does not reach its receiver's line.
     pub fn short(&self, message: &Message) -> f64 {
         let (sender, receiver) = self.ends(message);
         if receiver > sender {
@@ -162,7 +162,7 @@ impl Layout {
         }
     }
 
-    /// The line that words stand on, beside a lane's line.
+    /// Returns the line that words beside a lane's line stand on.
     pub fn beside(&self, lane: f64) -> f64 {
         if lane == self.server {
             lane - 9.0
@@ -171,8 +171,8 @@ impl Layout {
         }
     }
 
-    /// The middle of a step's column; left or right of the picture for one
-    /// outside the window.
+    /// Returns the middle of a step's column; left or right of the picture for
+    /// a step outside the window.
     pub fn x(&self, step: usize) -> f64 {
         (step as f64 - self.window.from as f64 + 0.5) * COLUMN
     }
@@ -191,7 +191,8 @@ impl Layout {
 }
 
 impl Window {
-    /// The first of its steps, as many as a picture alone may have.
+    /// Returns the first steps of the window, as many as a picture alone may
+    /// have.
     pub fn narrowed(&self) -> Window {
         Window { to: self.to.min(self.from + MOST - 1), ..*self }
     }
@@ -200,7 +201,8 @@ impl Window {
         (self.from..=self.to).contains(&step)
     }
 
-    /// A span that ended before the window, or begins after it, is not in it.
+    /// Returns whether a span is in the window: it neither ended before nor
+    /// begins after.
     fn shows(&self, span: &Span) -> bool {
         span.from <= self.to && span.to.is_none_or(|to| to >= self.from)
     }

@@ -1,4 +1,4 @@
-//! What the marks mean, in as many rows as the width needs.
+//! The legend: what the marks mean, in as many rows as the width needs.
 
 use super::letters::{width, WORDS};
 use super::svg::{at, Svg};
@@ -7,7 +7,7 @@ use crate::voice::Voice;
 pub const ROW: f64 = 20.0;
 pub const SIGN: f64 = 34.0;
 
-/// Draws its sign into the room from x, around the middle line y.
+/// Draws a sign in the room from x on, around the middle line y.
 type Sign = fn(&mut Svg, f64, f64);
 
 const SIGNS: [(&str, Sign); 20] = [
@@ -58,7 +58,7 @@ const SIGNS: [(&str, Sign); 20] = [
     }),
 ];
 
-/// The words of each sign, and the sign alone.
+/// Returns the words of each sign, and the sign by itself.
 pub fn signs(voice: &Voice) -> impl Iterator<Item = (String, String)> + '_ {
     SIGNS.iter().map(|(words, sign)| {
         let mut svg = Svg::default();
@@ -67,7 +67,7 @@ pub fn signs(voice: &Voice) -> impl Iterator<Item = (String, String)> + '_ {
     })
 }
 
-/// The height that it took.
+/// Draws the legend and returns its height.
 pub fn draw(svg: &mut Svg, voice: &Voice, room: f64) -> f64 {
     let (mut x, mut y) = (8.0, ROW / 2.0);
     for (words, sign) in SIGNS {

@@ -1,17 +1,17 @@
-//! Room that words take. All of them are in a fixed-width font, so that it
-//! can be known without the font: one letter advances by 0.602 of the size
-//! in the widest of the common ones.
+//! How much room words take. They are all in a fixed-width font, so this is
+//! known without the font: in the widest of the common ones a letter advances
+//! by 0.602 of the size.
 
-/// Of the size, for each letter.
+/// The advance of a letter, as a part of the size.
 pub const ADVANCE: f64 = 0.61;
-/// A letter outside ASCII, but for the two that the pictures use, may come
-/// from any font.
+/// Letters outside ASCII, except the two that the pictures use, may come from
+/// any font.
 const FOREIGN: f64 = 2.0;
-/// How far letters reach from their line, of the size.
+/// How far letters reach above their line, as a part of the size.
 pub const ABOVE: f64 = 0.8;
 pub const BELOW: f64 = 0.25;
 
-/// The sizes of `style.css`.
+/// The sizes in `style.css`.
 pub const TITLE: f64 = 12.0;
 pub const WORDS: f64 = 10.0;
 pub const VALUE: f64 = 9.0;
@@ -28,7 +28,7 @@ fn advance(c: char) -> f64 {
     }
 }
 
-/// What fits, and a sign that there is more.
+/// Returns what fits, with a sign that there is more.
 pub fn cut(words: &str, room: f64, size: f64) -> String {
     let mut kept = words.to_string();
     if width(words, size) > room {

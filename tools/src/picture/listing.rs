@@ -1,4 +1,4 @@
-//! The listing below the picture: each step with what its text says of it, a
+//! The listing below the picture: each step with what its text says about it, a
 //! join as one entry that opens into its steps, comments beside their steps.
 
 use std::fmt::Write;
@@ -61,8 +61,8 @@ impl Listing {
         }
     }
 
-    /// A step with what it is about, its kind of answer, what came of its
-    /// expectation and the y of its lane.
+    /// Writes a step, with what it is about, its kind of answer, the outcome of
+    /// its expectation and the y of its lane.
     fn step(&mut self, number: usize, view: &StepView, behind: Option<&str>, layout: &Layout) {
         let (about, answer, lane) = (About::step(view), answered(view), n(layout.lane(view)));
         let expected =
@@ -101,7 +101,7 @@ fn held(view: &StepView) -> &'static str {
     }
 }
 
-/// The explained line, with the expectation marked.
+/// Returns the explained line, with the expectation marked.
 fn told(view: &StepView) -> String {
     let line = escaped(&view.line);
     let Some(expectation) = view.expectation else {

@@ -1,5 +1,5 @@
-//! What steps leave on the lanes: reads shown or not, asks, writes,
-//! restarts, refusals.
+//! The marks of steps on the lanes: reads shown or not, asks, writes, restarts,
+//! refusals.
 
 use model::answer::Answer;
 use model::step_record::*;
@@ -12,7 +12,7 @@ use super::svg::{at, Point, Svg};
 use super::tiles::{Taken, Tile};
 use crate::timeline::{StepView, Timeline};
 
-/// Columns of time and refusals, behind everything.
+/// Draws the columns of time and of refusals, behind everything.
 pub fn columns(timeline: &Timeline, layout: &Layout, svg: &mut Svg) {
     for number in layout.window.from..=layout.window.to {
         let view = timeline.step(number);
@@ -56,8 +56,8 @@ fn mark(layout: &Layout, taken: &mut Taken, svg: &mut Svg, view: &StepView, spot
     taken.take(Tile::around(spot, 7.0));
 }
 
-/// What stands beside the lane's line, with its class. The answer of a write
-/// that is complete on acceptance is its value: it has no bar.
+/// Returns the words beside the lane's line, with their class. A write that
+/// completes on acceptance has no bar, so its value is shown here.
 fn said(view: &StepView) -> Option<(&'static str, String)> {
     let value = |value: u64| cut(&value.to_string(), COLUMN - 2.0, VALUE);
     match (view.answer, view.step.kind) {
@@ -78,8 +78,8 @@ fn write(svg: &mut Svg, taken: &mut Taken, answer: Answer, spot: Point) {
     }
 }
 
-/// A bar over the lane's rows, but for the word beside the line: the server's
-/// rows are above its line, a client's below.
+/// Draws a bar across the rows of the lane, except for the word beside the
+/// line: the server's rows are above its line, a client's below.
 fn restart(layout: &Layout, taken: &mut Taken, svg: &mut Svg, view: &StepView, spot: Point) {
     let client = (view.step.kind == RESTART_CLIENT).then_some(usize::from(view.step.client));
     let rows = layout.rows.iter().filter(|(row, _)| row.client() == client);

@@ -1,5 +1,5 @@
-//! What arrows say, along their way and at their ends. Each label has a
-//! ground of its own: what has to cross it runs behind it.
+//! The labels of arrows, along them and at their ends. Each has a ground of its
+//! own: what has to cross it runs behind it.
 
 use super::about::About;
 use super::arrows::LONG;
@@ -13,10 +13,11 @@ use crate::names;
 use crate::timeline::flights::{End, Flight};
 use crate::timeline::Timeline;
 
-/// From the line to words above it and below it.
+/// From the line to the words above it and below it.
 const SIDES: [f64; 2] = [-3.0, 9.5];
 
-/// Keeps room at the end of each message for what may have to be said there.
+/// Keeps room at the end of each message for the words that may have to stand
+/// there.
 pub fn reserve(layout: &Layout, shown: &[Shown], taken: &mut Taken) {
     shown.iter().filter_map(|one| at_end(layout, one)).for_each(|label| taken.take(label.tile()));
 }
@@ -40,7 +41,7 @@ pub fn draw(timeline: &Timeline, layout: &Layout, shown: &[Shown], taken: &mut T
     }
 }
 
-/// Words that begin there and go that way.
+/// Words that begin at a point and go in a direction.
 struct Label {
     from: Point,
     way: Point,
@@ -61,8 +62,8 @@ impl Label {
     }
 }
 
-/// Along the line, from its beginning on; a long one is named once more
-/// towards its end. Whether the receiver is named.
+/// Returns labels along the line, from its beginning on, with a long one named
+/// once more towards its end; and whether the receiver is named.
 fn along(layout: &Layout, taken: &mut Taken, one: &Shown) -> (Vec<Label>, bool) {
     let visible = one.path.between(0.0, layout.width);
     let mut put = |wordings: Vec<String>, back: bool| {
@@ -81,7 +82,7 @@ fn along(layout: &Layout, taken: &mut Taken, one: &Shown) -> (Vec<Label>, bool) 
     (labels, named)
 }
 
-/// Where the words may stand along the path, the best spot first.
+/// Returns where the words may stand along the path, the best spot first.
 fn spots<'a>(
     layout: &'a Layout,
     path: &'a Path,
@@ -98,8 +99,8 @@ fn spots<'a>(
     inside.filter(|(tile, _)| tile.within(layout.width, layout.height))
 }
 
-/// The receiver's name where the flight ends in the window, or all that is
-/// said of it at the right.
+/// Returns the receiver's name if the flight ends in the window, or the whole
+/// label on the right.
 fn at_end(layout: &Layout, one: &Shown) -> Option<Label> {
     if let Some((ring, words)) = layout.queue.get(&one.place) {
         return Some(Label { from: at(ring.x + 7.0, ring.y + 3.0), way: LEVEL, words: words.clone() });
@@ -109,7 +110,8 @@ fn at_end(layout: &Layout, one: &Shown) -> Option<Label> {
     Some(Label { from, way: LEVEL, words })
 }
 
-/// Beside the receiver's line, in the column of the step that ended it.
+/// Returns a point beside the receiver's line, in the column of the step that
+/// ended the flight.
 fn name_at_end(layout: &Layout, flight: &Flight) -> Option<Point> {
     let step = match flight.end {
         End::Delivered(step) | End::Lost(step) => step,
@@ -120,8 +122,8 @@ fn name_at_end(layout: &Layout, flight: &Flight) -> Option<Point> {
     layout.window.holds(step).then(|| at(layout.x(step), layout.beside(receiver)))
 }
 
-/// A message that does not arrive has its receiver's name at its end, and
-/// one that arrives where there was no room along its way.
+/// Returns whether the message arrives. One that does not has its receiver's
+/// name at its end; one that does, only if there was no room along the arrow.
 fn arrives(layout: &Layout, one: &Shown) -> bool {
     matches!(one.flight.end, End::Delivered(_)) && !layout.queue.contains_key(&one.place)
 }

@@ -1,4 +1,4 @@
-//! A picture of a run over time, as SVG or as a page that holds it.
+//! Draws a run over time, as SVG or as a page that holds it.
 
 mod about;
 mod arrows;
@@ -29,16 +29,16 @@ use tiles::Taken;
 pub use page::page;
 
 const STYLE: &str = include_str!("style.css");
-/// Room for the names left of the lanes.
+/// Room for the names to the left of the lanes.
 const NAMES: f64 = 112.0;
 
-/// A picture alone is not narrower, for its title and its legend.
+/// The least width of a picture alone, for its title and legend.
 const NARROW: f64 = 700.0;
-/// Between the lines below the title.
+/// The distance between the lines below the title.
 const LINE: f64 = 13.0;
 
-/// The parts, each with its own coordinates; all share the layout's width
-/// and height.
+/// The parts, each with its own coordinates; all use the layout's width and
+/// height.
 struct Parts {
     layout: Layout,
     header_height: f64,
@@ -60,7 +60,8 @@ impl Parts {
         bars::draw(timeline, &layout, &mut taken, &mut body);
         arrows::draw(timeline, &layout, &shown, &mut taken, &mut body);
         marks::draw(timeline, &layout, &mut taken, &mut body);
-        // Words come last, on their grounds: first what has one place alone.
+        // Words come last, on their grounds: first those that have only one
+        // place.
         messages::reserve(&layout, &shown, &mut taken);
         bars::words(timeline, &layout, &mut taken, &mut body);
         messages::draw(timeline, &layout, &shown, &mut taken, &mut body);
@@ -68,14 +69,14 @@ impl Parts {
         Parts { layout, header_height, header: header.0, names: names.0, lanes: body.0 }
     }
 
-    /// Of the lanes, with what is right of the last column.
+    /// Returns the width of the lanes, with what is right of the last column.
     fn width(&self) -> f64 {
         self.layout.width + self.layout.margin
     }
 }
 
-/// The note as far as it can be read, then what is shown, the setup and the
-/// length of a tick.
+/// Returns the title, which is the note as far as it can be read, and below it
+/// what is shown, the setup and the length of a tick.
 fn titles(note: &[u8], timeline: &Timeline, window: Window) -> (String, Vec<String>) {
     let note = text::note::title(note).unwrap_or("a run without a note".into());
     let count = timeline.steps.len();
@@ -88,15 +89,15 @@ fn titles(note: &[u8], timeline: &Timeline, window: Window) -> (String, Vec<Stri
     (note, std::iter::once(shown).chain(setup).chain(tick).collect())
 }
 
-/// How many expectations of its text hold, and why it stopped; each with
-/// whether it is bad news.
+/// Returns how many of the text's expectations hold, and why it stopped; each
+/// with whether it is bad news.
 fn verdicts(timeline: &Timeline) -> impl Iterator<Item = (&String, bool)> {
     let failed = timeline.steps.iter().any(|view| view.failed());
     let verdict = timeline.verdict.iter().map(move |words| (words, failed));
     verdict.chain(timeline.stopped.iter().map(|words| (words, true)))
 }
 
-/// The pieces in as many lines as they need.
+/// Returns the pieces in as many lines as they need.
 fn wrapped<'a>(pieces: impl Iterator<Item = &'a str>, between: &str, room: f64) -> Vec<String> {
     let mut lines: Vec<String> = Vec::new();
     for piece in pieces {
@@ -110,7 +111,7 @@ fn wrapped<'a>(pieces: impl Iterator<Item = &'a str>, between: &str, room: f64) 
     lines
 }
 
-/// Below the title, with the class of each line.
+/// Returns the lines below the title, each with its class.
 fn below_title(subtitle: &[String], timeline: &Timeline, room: f64) -> Vec<(&'static str, String)> {
     let mut lines: Vec<(&str, String)> = Vec::new();
     let pieces = subtitle.iter().map(String::as_str);
@@ -122,7 +123,7 @@ fn below_title(subtitle: &[String], timeline: &Timeline, room: f64) -> Vec<(&'st
     lines
 }
 
-/// A picture that stands alone. The window must lie within the run.
+/// Returns a picture that stands alone. The window must lie within the run.
 pub fn svg(scenario: &Scenario, window: Window) -> String {
     drawn(&scenario.run.note, &Timeline::of(scenario), window)
 }
@@ -151,7 +152,7 @@ pub fn drawn(note: &[u8], timeline: &Timeline, window: Window) -> String {
     alone(room, foot + signs_height, &out.0)
 }
 
-/// The names of the rows of numbers, above the lanes.
+/// Writes the names of the rows of numbers, above the lanes.
 fn number_names(timeline: &Timeline, bottom: f64, svg: &mut Svg) {
     let top = bottom - header::numbers(timeline);
     for (name, down) in header::rows(timeline) {

@@ -64,6 +64,7 @@ window.addEventListener('resize', resized);
 window.addEventListener('beforeprint', toPaper);
 window.addEventListener('afterprint', toScreen);
 setZoom(full());
-// A link may name a step, page.html#120, also on a page that is open.
+// A link may name a step, as in page.html#120, also on a page that is already
+// open.
 window.addEventListener('hashchange', fromAddress);
 fromAddress();

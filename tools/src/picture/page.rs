@@ -1,5 +1,5 @@
-//! A page that holds the picture, with the explained listing below. It
-//! needs nothing but itself.
+//! A page that holds the picture, with the explained listing below. It needs
+//! nothing outside itself.
 
 use super::layout::{Window, COLUMN};
 use super::listing::listing;
@@ -53,8 +53,8 @@ pub fn page(scenario: &Scenario, window: Window) -> String {
     fill(&filled)
 }
 
-/// Each mark of the page once, from left to right, so that nothing that is
-/// filled in is taken for a mark.
+/// Fills each mark of the page once, from left to right, so that nothing filled
+/// in is taken for a mark.
 fn fill(filled: &[(&str, String)]) -> String {
     let mut page = String::new();
     let mut rest = PAGE;
@@ -70,7 +70,8 @@ fn fill(filled: &[(&str, String)]) -> String {
     page + rest
 }
 
-/// The page may make it narrower alone.
+/// Returns a part of the picture, which the page may make narrower without
+/// changing its height.
 fn part(class: &str, width: f64, height: f64, inside: &str) -> String {
     let (width, height) = (n(width), n(height));
     format!(
@@ -79,8 +80,8 @@ fn part(class: &str, width: f64, height: f64, inside: &str) -> String {
     )
 }
 
-/// Each sign with its words, so that they go on in the next line where the
-/// screen ends.
+/// Returns each sign with its words, so that the signs wrap at the edge of the
+/// screen.
 fn signs(voice: &Voice) -> String {
     let sign = |(words, drawn): (String, String)| {
         let (width, height) = (n(legend::SIGN), n(legend::ROW));
@@ -90,8 +91,8 @@ fn signs(voice: &Voice) -> String {
     legend::signs(voice).map(sign).collect()
 }
 
-/// How many expectations hold, with a jump to those that fail, and why the
-/// run stopped.
+/// Returns how many expectations hold, with a link to those that fail, and why
+/// the run stopped.
 fn verdict(timeline: &Timeline) -> String {
     let failed = timeline.steps.iter().any(|view| view.failed());
     let told = verdicts(timeline).enumerate().map(|(place, (words, bad))| {

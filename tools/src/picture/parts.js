@@ -1,4 +1,4 @@
-// What the page is made of.
+// The parts of the page.
 const get = id => document.getElementById(id);
 const frame = get('frame');
 const part = name => document.querySelector(`#grid > svg.${name}`);
@@ -6,5 +6,6 @@ const [corner, header, names, lanes] = ['corner', 'header', 'names', 'lanes'].ma
 const lines = [...document.querySelectorAll('#listing [data-step]')];
 const joins = [...document.querySelectorAll('#listing details')];
 const last = first + lines.length - 1;
-// What the page shows alone: names and values of attributes, none for all.
+// The attributes, names and values, that the page is filtered by; none shows
+// everything.
 let filters = [];

@@ -1,4 +1,4 @@
-//! The way of each message through the picture.
+//! The path of each message through the picture.
 
 use super::layout::Layout;
 use super::svg::{at, Point};
@@ -16,7 +16,7 @@ impl Path {
         (x * x + y * y).sqrt()
     }
 
-    /// The unit vector along the path.
+    /// Returns the unit vector along the path.
     pub fn way(&self) -> Point {
         let length = self.length().max(1.0);
         at((self.to.x - self.from.x) / length, (self.to.y - self.from.y) / length)
@@ -32,14 +32,14 @@ impl Path {
         at(self.from.x + length * way.x, self.from.y + length * way.y)
     }
 
-    /// The part of it between two verticals.
+    /// Returns the part of the path between two verticals.
     pub fn between(&self, left: f64, right: f64) -> Path {
         Path { from: self.at_x(self.from.x.max(left)), to: self.at_x(self.to.x.min(right)) }
     }
 }
 
-/// A message of which the window has something, with its place in the list
-/// of flights.
+/// A message of which the window shows something, with its index in the list of
+/// flights.
 pub struct Shown<'a> {
     pub place: usize,
     pub flight: &'a Flight,
@@ -52,7 +52,7 @@ pub fn shown<'a>(layout: &Layout, flights: &'a [Flight]) -> Vec<Shown<'a>> {
     shown.filter(|one| layout.shows(one.path.from.x, one.path.to.x)).collect()
 }
 
-/// All of them, also outside the window.
+/// Returns the paths of all flights, including those outside the window.
 fn all(layout: &Layout, flights: &[Flight]) -> Vec<Path> {
     let mut paths: Vec<Path> = Vec::with_capacity(flights.len());
     for (place, flight) in flights.iter().enumerate() {
@@ -62,14 +62,15 @@ fn all(layout: &Layout, flights: &[Flight]) -> Vec<Path> {
     paths
 }
 
-/// A copy branches off from the message that it is a copy of.
+/// Returns where a path begins. A copy branches off from the message that it is
+/// a copy of.
 fn from(layout: &Layout, paths: &[Path], flight: &Flight) -> Point {
     let (x, (sender, _)) = (layout.x(flight.sent), layout.ends(&flight.message));
     flight.copy_of.map_or(at(x, sender), |original| paths[original].at_x(x))
 }
 
-/// A message that does not arrive ends short of its receiver's line, never
-/// at another's.
+/// Returns where a path ends. A message that does not arrive ends short of its
+/// receiver's line, never at another's.
 fn to(layout: &Layout, place: usize, flight: &Flight, from: Point) -> Point {
     if let Some((spot, _)) = layout.queue.get(&place) {
         return *spot;

@@ -1,14 +1,14 @@
-// On paper the picture is cut into strips of steps, each with names and steps
-// of its own, and each on one page.
+// For print the picture is cut into strips of steps, each with its own names
+// and steps, and each on one page.
 
-// Room on a page of A4 or of letter size inside its margins: lying where that
-// is high enough, else upright.
+// Room inside the margins of a page of A4 or letter size: landscape if that is
+// high enough, otherwise portrait.
 const sheets = [{ size: 'landscape', width: 970, height: 690 }, { size: 'portrait', width: 700, height: 950 }];
-// Right of the last column, at least.
+// At least this much to the right of the last column.
 const margin = 10;
 
-// The part from one vertical to another, as large as the page takes it. Lines
-// are cut there, and words are not.
+// Returns the part between two verticals, as large as the page allows. Lines
+// are cut at the edges, words are not.
 function cut(svg, all, from, to, scale) {
   const [height, made] = [+svg.dataset.height, svg.cloneNode(false)];
   const box = { viewBox: `${from} 0 ${to - from} ${height}` };
@@ -25,8 +25,8 @@ function cut(svg, all, from, to, scale) {
   return made;
 }
 
-// As many columns in each strip as there is room for, and no more than make all
-// of them alike; the last strip has room for what stands right of it as well.
+// Returns how many columns a strip has: as many as fit, but no more than make
+// all strips alike. The last strip needs room for what is to its right, too.
 function columnsOfStrip(room, beside) {
   const [count, most] = [lines.length, Math.max(1, Math.floor((room - margin) / column))];
   const strips = columns => Math.ceil(count / columns);
@@ -36,7 +36,7 @@ function columnsOfStrip(room, beside) {
   return fits(alike) ? alike : columns;
 }
 
-// The verticals at which the strips begin and end.
+// Returns the verticals at which the strips begin and end.
 function edges(room) {
   const [wide, all] = [+lanes.dataset.width, lines.length * column];
   const step = columnsOfStrip(room, wide - all) * column;
@@ -67,7 +67,7 @@ function strips() {
   });
 }
 
-// What the screen shows, to come back to it.
+// What the screen showed, to restore it.
 let screen = null;
 function toPaper() {
   if (screen) return;

@@ -1,4 +1,4 @@
-// Which step is chosen, and the way to others.
+// The chosen step, and how to get to others.
 let chosen = 0;
 
 const boxes = [lanes, header].map(svg =>
@@ -14,7 +14,7 @@ function mark(line) {
 }
 
 // Scrolls the step's column to the middle, and up or down to its lane unless
-// that is in sight.
+// that is visible.
 function find(line) {
   frame.scrollLeft = (line.dataset.step - first + 0.5) * column * zoom - room() / 2;
   const high = frame.clientHeight - header.getAttribute('height');
@@ -23,7 +23,7 @@ function find(line) {
   if (!inSight) frame.scrollTop = y - high / 2;
 }
 
-// Scrolls the listing alone, not the page around it.
+// Scrolls the listing, but not the page around it.
 function listed(line) {
   const [listing, at] = [get('listing'), line.getBoundingClientRect()];
   const all = listing.getBoundingClientRect();
@@ -51,12 +51,13 @@ function say(words) {
   get('said').textContent = words;
 }
 
-// What names no client, volume or object is about all of them.
+// Returns whether the filters show an element. One that names no client, volume
+// or object is about all of them.
 function shows(element) {
   return filters.every(([name, value]) => (element.dataset[name] ?? value) === value);
 }
 
-// The next line, or the one before, that is shown and passes the test.
+// Chooses the next step, or the one before, that is shown and passes the test.
 function seek(by, test, words) {
   let step = chosen ? chosen + by : by > 0 ? first : last;
   while (lines[step - first] && !(test(lines[step - first]) && shows(lines[step - first]))) step += by;
@@ -64,7 +65,8 @@ function seek(by, test, words) {
   else say(`no ${words} step ${by > 0 ? 'after' : 'before'} this one`);
 }
 
-// What a button seeks: steps with its answer, or whose expectation failed.
+// Seeks what a button stands for: steps with its answer, or whose expectation
+// failed.
 const seekers = [...document.querySelectorAll('[data-seek]')];
 function seekAnswer(button, by) {
   const sought = ({ dataset }) => [dataset.answer, dataset.expected].includes(button.dataset.seek);

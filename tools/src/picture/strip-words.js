@@ -1,13 +1,14 @@
-// Words on paper, where strips begin and end.
+// Words in print, where strips begin and end.
 
-// How far an element reaches in its part.
+// Returns how far an element reaches in its part.
 function reach(element, origin) {
   const { left, right, top, bottom, width, height } = element.getBoundingClientRect();
   const [x, y] = [at => (at - origin.left) / zoom, at => (at - origin.top) / tall()];
   return { element, shown: width + height > 0, left: x(left), right: x(right), top: y(top), bottom: y(bottom) };
 }
 
-// What is drawn in a part and shown, with its reach and that of its words.
+// Returns what is drawn and shown in a part, with its reach and that of its
+// words.
 function reaches(svg) {
   const origin = svg.getBoundingClientRect();
   const drawn = [...svg.children].filter(child => !child.classList.contains('chosen'));
@@ -15,7 +16,7 @@ function reaches(svg) {
   return all.map(one => ({ ...one, texts: [...one.element.querySelectorAll('text')].map(text => reach(text, origin)) }));
 }
 
-// The corners of a text that is moved right by so much along its line.
+// Returns the corners of a text moved this far to the right along its line.
 function corners(text, right) {
   const { x, y, width, height } = text.getBBox();
   const { a, b, c, d, e, f } = text.transform.baseVal.consolidate()?.matrix ?? { a: 1, b: 0, c: 0, d: 1, e: 0, f: 0 };
@@ -23,7 +24,7 @@ function corners(text, right) {
   return [[x, y], [x + width, y], [x + width, y + height], [x, y + height]].map(turned);
 }
 
-// Whether no side of either has the two on different sides of it.
+// Returns whether the two overlap: no side of either separates them.
 function meet(one, other) {
   const parted = sides => [0, 1].some(side => {
     const [[x1, y1], [x2, y2]] = [sides[side], sides[side + 1]];
@@ -33,9 +34,9 @@ function meet(one, other) {
   return !parted(one) && !parted(other);
 }
 
-// Words along an arrow that cross the edge of a strip stand whole in the one
-// that has their middle, their home: they reach out of it a little, or move on
-// along their line. Where others stand there, they are cut as lines are.
+// Words along an arrow that cross the edge of a strip stay whole in the strip
+// that has their middle, their home: they reach out of it a little, or move
+// along their line. If other words are there, they are cut like lines.
 const beyond = { left: 8, right: 14 };
 function settle(all, edges) {
   const texts = all.flatMap(one => one.texts);
@@ -50,7 +51,8 @@ function settle(all, edges) {
   }
 }
 
-// Words of a bar begin where they are, and end in a sign that there is more.
+// Shortens the words of a bar: they begin where they are, and end in a sign
+// that there is more.
 function shortened(label, { left, right }, from, to) {
   const [text, ground] = label;
   const room = Math.floor((to - left) * text.textContent.length / (right - left)) - 1;
@@ -68,7 +70,7 @@ function moved(label, { on, home }, from) {
   }
 }
 
-// What a strip has of the words of a copy. Whether they are cut.
+// Adjusts the words of a copy to a strip. Returns whether they are cut.
 function settled(copy, texts, from, to) {
   const copies = [...copy.querySelectorAll('text')];
   texts.forEach((text, place) => {
@@ -80,15 +82,15 @@ function settled(copy, texts, from, to) {
   return texts.some(({ cut }) => cut);
 }
 
-// Where a bar ends, or has the tick of a latest end.
+// Returns where a bar ends, or has the tick of its latest end.
 function endOf(bar, from) {
   const [end, tick] = [+bar.getAttribute('x') + +bar.getAttribute('width'), bar.parentNode.querySelector('.latest')];
   const latest = tick ? +tick.getAttribute('x1') : end;
   return latest > from ? Math.min(end, latest) : end;
 }
 
-// A bar that comes from the strip before is named again, by the words that it
-// tells when pointed at, where there is room.
+// Names a bar that comes from the strip before once more, if there is room, by
+// the words that it shows when pointed at.
 const letter = 5.2;
 const named = '.volume-lease, .object-lease, .guard, .write';
 function nameAgain(made, all, from, to) {

@@ -22,7 +22,7 @@ pub fn at(x: f64, y: f64) -> Point {
 #[derive(Default)]
 pub struct Svg(pub String);
 
-/// A number of the picture, without a needless ".0".
+/// Returns a number of the picture, without a needless ".0".
 pub fn n(number: f64) -> String {
     let text = format!("{number:.1}");
     let text = text.strip_suffix(".0").unwrap_or(&text);
@@ -47,7 +47,7 @@ pub fn escaped(text: &str) -> String {
     out
 }
 
-/// From there, in the direction of a unit vector.
+/// Returns a transform to a point and the direction of a unit vector.
 fn turn(a: Point, way: Point) -> String {
     format!("matrix({:.3} {:.3} {:.3} {:.3} {} {})", way.x, way.y, -way.y, way.x, n(a.x), n(a.y))
 }
@@ -75,7 +75,7 @@ impl Svg {
         self.put(format_args!("<circle class=\"{class}\" cx=\"{x}\" cy=\"{y}\" r=\"{r}\"/>"));
     }
 
-    /// A closed shape.
+    /// Draws a closed shape.
     pub fn shape(&mut self, class: &str, points: &[Point]) {
         let points: Vec<String> = points.iter().map(|p| format!("{},{}", n(p.x), n(p.y))).collect();
         self.put(format_args!("<polygon class=\"{class}\" points=\"{}\"/>", points.join(" ")));
@@ -92,13 +92,13 @@ impl Svg {
         self.put(format_args!("<text class=\"{class}\" x=\"{x}\" y=\"{y}\">{words}</text>"));
     }
 
-    /// Text in the direction of a unit vector.
+    /// Writes text in the direction of a unit vector.
     pub fn text_along(&mut self, class: &str, a: Point, way: Point, words: &str) {
         let (turn, words) = (turn(a, way), escaped(words));
         self.put(format_args!("<text class=\"{class}\" transform=\"{turn}\">{words}</text>"));
     }
 
-    /// Text that is narrower than its font, and as high.
+    /// Writes text narrower than its font, at the same height.
     pub fn narrowed(&mut self, class: &str, a: Point, part: f64, words: &str) {
         let (x, y, words) = (n(a.x), n(a.y), escaped(words));
         self.put(format_args!(
@@ -106,7 +106,7 @@ impl Svg {
         ));
     }
 
-    /// The ground under a label, which hides what runs through its room.
+    /// Draws the ground of a label, which hides what runs through its room.
     pub fn ground(&mut self, class: &str, tile: &Tile) {
         let (corner, width, height) = tile.unturned();
         if tile.way.y == 0.0 {
@@ -118,7 +118,7 @@ impl Svg {
         ));
     }
 
-    /// Elements that show these words when pointed at.
+    /// Groups elements that show these words when pointed at.
     pub fn titled(&mut self, title: &str, about: About, inside: impl FnOnce(&mut Svg)) {
         self.group(about, |svg| {
             svg.put(format_args!("<title>{}</title>", escaped(title)));
@@ -126,8 +126,8 @@ impl Svg {
         });
     }
 
-    /// The same of a message, by its place in the list of flights: its arrow,
-    /// and apart from it what is said of it.
+    /// Does the same for a message, by its index in the list of flights: its
+    /// arrow, and apart from it its labels.
     pub fn of_flight(&mut self, place: usize, title: &str, about: About, inside: impl FnOnce(&mut Svg)) {
         self.put(format_args!("<g data-flight=\"{place}\"{about}>\n<title>{}</title>", escaped(title)));
         inside(self);
@@ -140,7 +140,7 @@ impl Svg {
         self.put(format_args!("</g>"));
     }
 
-    /// A name, with how far down what it names reaches.
+    /// Writes a name, with how far down the thing that it names reaches.
     pub fn name(&mut self, about: About, (top, bottom): (f64, f64), inside: impl FnOnce(&mut Svg)) {
         let (top, bottom) = (n(top), n(bottom));
         self.put(format_args!("<g{about} data-top=\"{top}\" data-bottom=\"{bottom}\">"));
@@ -148,7 +148,8 @@ impl Svg {
         self.put(format_args!("</g>"));
     }
 
-    /// A part of the picture with its own coordinates, cut at its edges.
+    /// Writes a part of the picture with its own coordinates, cut off at its
+    /// edges.
     pub fn part(&mut self, class: &str, a: Point, width: f64, height: f64, inside: &str) {
         let (x, y, width, height) = (n(a.x), n(a.y), n(width), n(height));
         self.put(format_args!(

@@ -1,5 +1,6 @@
-//! Which room in the lanes is taken, so that no two labels share any, and
-//! which room has lines and bars, which labels leave in sight where they can.
+//! Keeps track of which room in the lanes is taken, so that no two labels
+//! overlap, and which has lines and bars, which labels leave visible if they
+//! can.
 
 use std::collections::BTreeMap;
 use std::ops::RangeInclusive;
@@ -7,20 +8,20 @@ use std::ops::RangeInclusive;
 use super::letters::{width, ABOVE, BELOW};
 use super::svg::{at, Point, LEVEL};
 
-/// Tiles are looked for in cells of this size.
+/// Tiles are looked up in cells of this size.
 const CELL: f64 = 64.0;
 
-/// Spots for words are tried this far from one another, so many of them.
+/// Spots for words are tried this far apart, and this many of them.
 const APART: f64 = 4.0;
 const TRIES: u32 = 60;
 
-/// How far to move words on, to try them, within the room that they leave.
+/// Returns how far to move words for each try, within the room that they leave.
 pub fn tries(room: f64) -> impl Iterator<Item = f64> {
     (0..TRIES).map(|n| f64::from(n) * APART).take_while(move |&far| far <= room)
 }
 
 /// A rectangle that may be turned: its middle, the unit vector along it, and
-/// how far it reaches from the middle along that and across.
+/// how far it reaches from the middle along that vector and across.
 #[derive(Clone, Copy)]
 pub struct Tile {
     middle: Point,
@@ -35,12 +36,12 @@ impl Tile {
         Tile { middle, way: LEVEL, along: (b.x - a.x) / 2.0, across: (b.y - a.y) / 2.0 }
     }
 
-    /// A square around a point.
+    /// Returns a square around a point.
     pub fn around(middle: Point, reach: f64) -> Tile {
         Tile { middle, way: LEVEL, along: reach, across: reach }
     }
 
-    /// A line of this width.
+    /// Returns a line of this width.
     pub fn line(a: Point, b: Point, width: f64) -> Tile {
         let (x, y) = (b.x - a.x, b.y - a.y);
         let length = (x * x + y * y).sqrt();
@@ -49,8 +50,8 @@ impl Tile {
         Tile { middle, way, along: length / 2.0, across: width / 2.0 }
     }
 
-    /// Words that begin there and go that way, with a little room before and
-    /// after them.
+    /// Returns the room of words that begin at a point and go in a direction,
+    /// with a little room before and after them.
     pub fn of_words(from: Point, way: Point, words: &str, size: f64) -> Tile {
         let along = width(words, size) / 2.0;
         let (up, across) = ((ABOVE - BELOW) / 2.0 * size, (ABOVE + BELOW) / 2.0 * size);
@@ -58,13 +59,13 @@ impl Tile {
         Tile { middle, way, along: along + 0.5, across }
     }
 
-    /// Words around the middle of a step's column.
+    /// Returns the room of words around the middle of a step's column.
     pub fn of_centered(middle: Point, words: &str, size: f64) -> Tile {
         let from = at(middle.x - width(words, size) / 2.0, middle.y);
         Tile::of_words(from, LEVEL, words, size)
     }
 
-    /// Its corner before it is turned around there, and its width and height.
+    /// Returns the corner around which it is turned, and its width and height.
     pub fn unturned(&self) -> (Point, f64, f64) {
         let Point { x, y } = self.middle;
         let corner = at(
@@ -74,13 +75,14 @@ impl Tile {
         (corner, 2.0 * self.along, 2.0 * self.across)
     }
 
-    /// How far it reaches from its middle in a direction.
+    /// Returns how far it reaches from its middle in a direction.
     fn reach(&self, way: Point) -> f64 {
         let (along, across) = (dot(self.way, way), self.way.x * way.y - self.way.y * way.x);
         self.along * along.abs() + self.across * across.abs()
     }
 
-    /// Two rectangles are apart if a side of one of them parts them.
+    /// Returns whether two rectangles overlap: they are apart if a side of one
+    /// of them separates them.
     fn meets(&self, other: &Tile) -> bool {
         let between = at(other.middle.x - self.middle.x, other.middle.y - self.middle.y);
         let sides = [self.way, at(-self.way.y, self.way.x), other.way, at(-other.way.y, other.way.x)];
@@ -103,7 +105,7 @@ impl Tile {
         across.flat_map(move |x| down.clone().map(move |y| (x, y)))
     }
 
-    /// Pieces of it, none longer than a cell.
+    /// Returns pieces of it, none longer than a cell.
     fn pieces(&self) -> impl Iterator<Item = Tile> + '_ {
         let count = (2.0 * self.along / CELL).ceil().max(1.0);
         let along = self.along / count;
@@ -144,13 +146,12 @@ pub struct Taken {
 }
 
 impl Taken {
-    /// Of a label, or of what no label may hide.
+    /// Takes the room of a label, or of what no label may hide.
     pub fn take(&mut self, tile: Tile) {
         self.taken.add(&tile);
     }
 
-    /// Of a line or a bar, which labels may cross where there is no other
-    /// room.
+    /// Adds a line or a bar, which labels may cross if there is no other room.
     pub fn cross(&mut self, tile: Tile) {
         self.crossed.add(&tile);
     }
@@ -166,8 +167,8 @@ impl Taken {
         Some(spot)
     }
 
-    /// Takes the first free spot that crosses nothing, else the one that
-    /// crosses least.
+    /// Takes the first free spot that crosses nothing, or else the one that
+    /// crosses the least.
     pub fn best<T>(&mut self, spots: impl Iterator<Item = (Tile, T)>) -> Option<T> {
         let mut best: Option<(usize, Tile, T)> = None;
         for (tile, spot) in spots {

@@ -1,15 +1,15 @@
-// What pointing tells is told by a tap or a click too, below the picture.
+// A tap or a click shows, below the picture, what pointing shows.
 
 function tell(words) {
   get('told').textContent = words;
   get('told').hidden = !words;
 }
 
-// Offsets around a point, the nearest first: a finger is not exact.
+// Offsets around a point, the nearest first, since a finger is not exact.
 const around = [0, 4, 8, 12].flatMap(far => [...Array(far ? 8 : 1).keys()].map(eighth =>
   [far * Math.cos(eighth * Math.PI / 4), far * Math.sin(eighth * Math.PI / 4)]));
 
-// The words of what is drawn there, or nearest to it.
+// Returns the words of what is drawn at a point, or nearest to it.
 function titleAt(x, y) {
   for (const [right, down] of around) {
     const group = document.elementFromPoint(x + right, y + down)?.closest('#grid g');
@@ -19,7 +19,7 @@ function titleAt(x, y) {
   return null;
 }
 
-// An arrow is thick while its label is pointed at, as while it is itself.
+// Makes an arrow thick while it or its label is pointed at.
 const arrowOf = new Map(flights.map(group => [group.dataset.flight, group]));
 function pointed(event) {
   const arrow = arrowOf.get(event.target.closest('g')?.dataset.flight);

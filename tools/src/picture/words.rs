@@ -1,4 +1,4 @@
-//! What messages and bars say, on themselves and when pointed at.
+//! The words of messages and bars, on themselves and when pointed at.
 
 use model::message::Message;
 
@@ -11,10 +11,11 @@ use crate::timeline::tracks::Track;
 use crate::timeline::{StepView, Timeline};
 use crate::voice::Voice;
 
-/// Room for a value where a write stands for one step.
+/// Room for a value, if a write stands for only one step.
 const VALUES: f64 = 42.0;
 
-/// The kind of a step's answer, as a class and as the page's buttons have it.
+/// Returns the kind of a step's answer, as a class and as the page's buttons
+/// have it.
 pub fn answered(view: &StepView) -> &'static str {
     match view.answer.numbers().0 {
         0 => "done",
@@ -32,18 +33,19 @@ pub fn receiver(voice: &Voice, message: &Message) -> String {
     }
 }
 
-/// With the receiver: from the fullest wording to the shortest.
+/// Returns a message's labels with the receiver, from the fullest to the
+/// shortest.
 pub fn addressed(voice: &Voice, message: &Message) -> Vec<String> {
     let receiver = receiver(voice, message);
     anonymous(voice, message).iter().map(|words| format!("{words} to {receiver}")).collect()
 }
 
-/// Where the receiver is named elsewhere.
+/// Returns a message's labels if the receiver is named elsewhere.
 pub fn anonymous(voice: &Voice, message: &Message) -> Vec<String> {
     vec![voice.said(&names::label(message)), names::kind(&message.kind).into()]
 }
 
-/// At this place of the queue.
+/// Returns the label of a message at this place in the queue.
 pub fn queued(voice: &Voice, place: usize, message: &Message) -> String {
     format!("{place}: {} to {}", voice.said(&names::label(message)), receiver(voice, message))
 }
@@ -64,13 +66,13 @@ pub fn flight_title(timeline: &Timeline, flight: &Flight) -> String {
     format!("{what}\n{begin}\n{end}")
 }
 
-/// What fixes a write's latest end.
+/// Returns what fixes a write's latest end.
 fn by(timeline: &Timeline, write: &Span, words: fn(&Cause) -> String) -> String {
     let cause = timeline.step(write.from).cause.as_ref();
     format!("by {}", words(cause.expect("a write's span begins where it is opened")))
 }
 
-/// Of a bar, from the fullest wording to the shortest.
+/// Returns a bar's labels, from the fullest to the shortest.
 pub fn wordings(timeline: &Timeline, span: &Span) -> Vec<String> {
     let (until, version) = (span.detail.until, span.detail.version);
     let (value, time) = (span.detail.value.to_string(), timeline.voice.ticks(until));

@@ -9,7 +9,8 @@ use crate::timeline::spans::Span;
 use crate::timeline::tracks::Track;
 use crate::timeline::Timeline;
 
-/// Of its bar: one that a restart cut off looks another way.
+/// Returns the class of a write's bar: one cut off by a restart looks
+/// different.
 pub fn class(timeline: &Timeline, layout: &Layout, span: &Span) -> &'static str {
     match cut_off(timeline, layout, span) {
         true => "write cut-off",
@@ -21,13 +22,13 @@ fn cut_off(timeline: &Timeline, layout: &Layout, span: &Span) -> bool {
     ended(layout, span).is_some_and(|step| timeline.step(step).step.kind == RESTART_SERVER)
 }
 
-/// The step in the window that ended it.
+/// Returns the step in the window that ended it.
 fn ended(layout: &Layout, span: &Span) -> Option<usize> {
     span.to.filter(|&step| step <= layout.window.to)
 }
 
-/// A write has its latest end where the clock reaches it: a tick in the bar,
-/// or past its completion with a thin line up to there.
+/// Draws a write's bar. Its latest end is where the clock reaches it: a tick in
+/// the bar, or, if the write completed earlier, a thin line up to there.
 pub fn draw(timeline: &Timeline, layout: &Layout, svg: &mut Svg, span: &Span, bar: Bar) {
     let Bar { top, from, to } = bar;
     let cut_off = cut_off(timeline, layout, span);
@@ -48,7 +49,7 @@ pub fn draw(timeline: &Timeline, layout: &Layout, svg: &mut Svg, span: &Span, ba
     }
 }
 
-/// How far a write's words may go: they keep clear of the tick.
+/// Returns how far a write's words may go: they keep clear of the tick.
 pub fn before_latest(timeline: &Timeline, layout: &Layout, span: &Span, bar: Bar) -> f64 {
     match latest_end(timeline, layout, span) {
         (latest, true) => bar.to.min(latest),
@@ -56,8 +57,8 @@ pub fn before_latest(timeline: &Timeline, layout: &Layout, span: &Span, bar: Bar
     }
 }
 
-/// Where the clock reaches a write's latest end, if it does so before the
-/// object's next write; else how far it comes.
+/// Returns where the clock reaches a write's latest end, if it does so before
+/// the object's next write; otherwise how far it gets.
 fn latest_end(timeline: &Timeline, layout: &Layout, span: &Span) -> (f64, bool) {
     for number in span.from..=timeline.steps.len() {
         if let Some(part) = timeline.passed(number, span.detail.until) {

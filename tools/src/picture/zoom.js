@@ -1,13 +1,13 @@
-// How large the picture is. Above 100 % all grows; below, only the columns get
-// narrower.
+// The size of the picture. Above 100 % everything grows; below, only the
+// columns get narrower.
 
 // On a narrow screen nothing is smaller than 11 pixels: the smallest letters
-// are drawn with 8.5.
+// are drawn at 8.5.
 const narrow = matchMedia('(max-width: 700px)');
 const full = () => narrow.matches ? 1.3 : 1;
 let zoom = full();
-// Whether the steps' words stand on top; until it is said, where they leave
-// the lanes half of the room.
+// Whether the words of the steps are shown on top. Until this is chosen, they
+// are if they leave half of the room to the lanes.
 let wordsOnTop = null;
 
 const tall = () => Math.max(full(), zoom);
@@ -39,7 +39,7 @@ function element(name, attributes, parent) {
   return parent.appendChild(made);
 }
 
-// From afar some steps have their numbers, as close as they can be read.
+// From afar some steps show their numbers, as close together as can be read.
 function ruler() {
   header.querySelectorAll('.tick').forEach(tick => tick.remove());
   if (!document.body.classList.contains('far')) return;
@@ -50,8 +50,9 @@ function ruler() {
   }
 }
 
-// The same part of full size, where that has become another. A phone that shows
-// or hides its bars changes the height alone, and nothing is to move then.
+// Keeps the zoom as a part of full size, if that has changed. A phone that
+// shows or hides its bars changes only the height, and then nothing should
+// move.
 let before = { full: full(), width: innerWidth };
 function resized() {
   const [part, wide] = [zoom / before.full, before.width !== innerWidth];

@@ -1,5 +1,5 @@
-//! What a line asks for, both ways: a step as a run file has it, or short
-//! words that stand for steps.
+//! What a line asks for, read and written: a step as a run file has it, or
+//! short words that stand for steps.
 
 use model::message::Message;
 use model::step_record::{Step, DELIVER, DOUBLE, LOSE};
@@ -17,31 +17,31 @@ pub const FIRST_WORDS: [&str; 10] =
 pub enum Action {
     Step(Step),
     Named(Named),
-    /// What it takes until the client holds the object.
+    /// Whatever it takes until the client holds the object.
     Join {
         client: u8,
         object: u8,
     },
 }
 
-/// A step on one of the messages under way of a kind, to or from a client.
+/// A step on one of the messages of a kind under way to or from a client.
 #[derive(Clone, Copy, Debug, PartialEq, Eq)]
 pub struct Named {
     /// The step's kind.
     pub step: u8,
-    /// Which one of those that fit.
+    /// Which of the messages that match.
     pub which: Which,
     /// The message's kind.
     pub message: &'static str,
     pub client: u8,
-    /// The object or the volume that it is about. None fits every one.
+    /// The object or volume that the message is about; none matches all.
     pub item: Option<u8>,
 }
 
 const STEPS: [(&str, u8); 3] = [("deliver", DELIVER), ("lose", LOSE), ("double", DOUBLE)];
 
 impl Named {
-    /// Returns its name as in the text form: "second GRANT to client 0 object
+    /// Returns the name as in the text form: "second GRANT to client 0 object
     /// 1".
     pub fn what(&self) -> String {
         let Named { which, message, client, item, .. } = self;
@@ -54,7 +54,7 @@ impl Named {
         names::kind(&message.kind) == self.message && message.client == self.client && item
     }
 
-    /// Returns the place of the one that is meant.
+    /// Returns the place of the message meant.
     pub fn place(&self, under_way: &[Message]) -> Option<usize> {
         let fitting = under_way.iter().enumerate().filter(|(_, message)| self.fits(message));
         self.which.pick(fitting).map(|(place, _)| place)

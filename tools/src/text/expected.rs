@@ -1,4 +1,4 @@
-//! What a text expects of a step: `=> shown 7`, both ways.
+//! What a text expects of a step, `=> shown 7`, read and written.
 
 use model::limits::{NO_NUMBER_LEFT, OBJECTS, UNSOUND};
 
@@ -7,7 +7,7 @@ use crate::listed::Listed;
 
 const AN_ANSWER: &str = "`done`, `shown V`, `ask first`, `completed N` or `refused N`";
 
-/// What stands behind a step.
+/// Returns what follows a step on its line.
 pub fn suffix(expected: &Option<Listed>) -> String {
     match expected {
         None => String::new(),
@@ -16,7 +16,7 @@ pub fn suffix(expected: &Option<Listed>) -> String {
     }
 }
 
-/// The rest of a line after its step.
+/// Reads the rest of a line after its step.
 pub fn parse(words: &mut Words) -> Result<Option<Listed>, Wrong> {
     let Some(first) = words.peek() else {
         return Ok(None);

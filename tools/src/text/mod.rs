@@ -1,4 +1,4 @@
-//! The text form of a run: notes, setup, then one step a line.
+//! The text form of a run: notes, setup, then one step per line.
 
 pub mod actions;
 pub mod expected;
@@ -23,18 +23,19 @@ pub use file::{from_file, to_file, workload_file};
 pub use reader::{script, without_steps};
 use words::Trouble;
 
-/// The run of a text, or what is wrong with its lines.
+/// Returns the run of a text, or what is wrong with its lines.
 pub fn parse(text: &[u8]) -> Result<Run, Vec<Trouble>> {
     let written = script(text)?.written_out().map_err(|trouble| vec![trouble])?;
     Ok(written.run)
 }
 
-/// The run in canonical form: the one text for each run.
+/// Returns the run in canonical form: the one text for each run.
 pub fn print(run: &Run) -> String {
     canonical(&run.note, &run.setup, None, run.steps.iter().map(steps::line))
 }
 
-/// The length of a tick comes behind the setup.
+/// Returns the parts of a text in canonical form. The length of a tick follows
+/// the setup.
 fn canonical(
     note: &[u8],
     setup: &Setup,

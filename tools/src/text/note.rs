@@ -1,10 +1,10 @@
-//! Note lines, both ways. A note may hold any bytes: printable text is
-//! quoted, line by line; anything else stands in hex. The lines of a note
-//! follow one another without a gap.
+//! Note lines, read and written. A note may hold any bytes: printable text is
+//! quoted, line by line; anything else is in hex. The lines of a note are
+//! joined without a gap.
 
 use super::words::{quoted, Words, Wrong};
 
-/// Most characters of a quoted line and bytes of a hex line.
+/// The most characters on a quoted line, and bytes on a hex line.
 const CHARACTERS: usize = 100;
 const BYTES: usize = 32;
 
@@ -19,8 +19,8 @@ pub fn lines(note: &[u8]) -> Vec<String> {
     }
 }
 
-/// Returns the note's first line for a title: the text alone, or its bytes in
-/// hex where they are no text. Nothing if there is nothing to read.
+/// Returns the note's first line as a title: plain text, or bytes in hex if
+/// they are not text. Nothing if there is nothing to read.
 pub fn title(note: &[u8]) -> Option<String> {
     match std::str::from_utf8(note) {
         Ok(text) if text.chars().all(printable) => {
@@ -30,8 +30,9 @@ pub fn title(note: &[u8]) -> Option<String> {
     }
 }
 
-/// Whether a quoted note may hold the character. What `escape_debug` leaves
-/// alone can be seen; marks that join the one before them cannot, alone.
+/// Returns whether a quoted note may hold the character. What `escape_debug`
+/// leaves alone is visible; a mark that joins the character before it is not
+/// visible by itself.
 fn printable(c: char) -> bool {
     "\n\r\t\"\\'".contains(c) || c.escape_debug().count() == 1
 }
@@ -73,7 +74,7 @@ fn hex(bytes: &[u8]) -> String {
     hex.join(" ")
 }
 
-/// What follows the word `note`, added to the note's bytes.
+/// Reads what follows the word `note` and adds it to the note's bytes.
 pub fn parse(rest: &str, note: &mut Vec<u8>) -> Result<(), Wrong> {
     let rest = rest.trim_start();
     match rest.strip_prefix('"') {

@@ -1,4 +1,4 @@
-//! Reads a whole text: each bad line is told, and then no script comes of it.
+//! Reads a whole text. Every bad line is reported, and then there is no script.
 
 use model::limits::FILE_BYTES;
 use model::runfile::distance;
@@ -14,10 +14,10 @@ use crate::voice::Voice;
 
 const NO_STEP: &str = "no step: the seed gives the steps";
 
-/// Some editors put it before a text.
+/// Some editors put this before a text.
 const BYTE_ORDER_MARK: &[u8] = b"\xef\xbb\xbf";
 
-/// The parts of a text in their order.
+/// The parts of a text, in order.
 #[derive(Clone, Copy, Default, PartialEq, PartialOrd)]
 enum Part {
     #[default]
@@ -35,24 +35,24 @@ struct Reader {
     last: Part,
     note: Vec<u8>,
     setup: Partial,
-    /// Those of the first such word that is not in the note.
+    /// The vocabulary of the first such word outside the note.
     words: Option<Vocabulary>,
     tick: Option<Tick>,
     lines: Vec<Line>,
-    /// Comments that wait for the line that they stand before.
+    /// Comments that belong to the line that follows them.
     comments: Vec<String>,
     opening: Vec<String>,
-    /// Where a missing setup line is told: the first step's line.
+    /// Where a missing setup line is reported: the first step's line.
     first_step: Option<usize>,
     troubles: Vec<Trouble>,
 }
 
-/// What a text says, or what is wrong with its lines.
+/// Returns what a text says, or what is wrong with its lines.
 pub fn script(text: &[u8]) -> Result<Script, Vec<Trouble>> {
     read(text, Part::Steps)
 }
 
-/// The same of a text in which a step is a bad line.
+/// Does the same, but treats a step as a bad line.
 pub fn without_steps(text: &[u8]) -> Result<Script, Vec<Trouble>> {
     read(text, Part::Volumes)
 }
@@ -112,9 +112,9 @@ impl Reader {
         }
     }
 
-    /// The line's part, if it may come now: parts come in their order, and
-    /// counts and ticks have one line each. That none is left out is asked
-    /// at the end, so that a misspelt line is told once.
+    /// Returns the line's part, if it may come now: parts come in order, and
+    /// counts and ticks have one line each. Whether one is missing is checked
+    /// at the end, so that a misspelt line is reported once.
     fn next_part(&self, first: &str, line: &str) -> Result<Part, Wrong> {
         let expected = match self.part {
             Part::Note => format!("a note or {}", setup::COUNTS),
@@ -132,7 +132,7 @@ impl Reader {
         }
     }
 
-    /// Reads the length of a tick, which may stand anywhere before the first
+    /// Reads the length of a tick, which may come anywhere before the first
     /// step.
     fn read_tick(&mut self, words: &mut Words) -> Result<(), Wrong> {
         self.opening.append(&mut self.comments);
@@ -174,7 +174,8 @@ impl Reader {
     }
 }
 
-/// Returns what is written before expectation and comment, with single spaces.
+/// Returns what is written before the expectation and the comment, with single
+/// spaces.
 fn written(line: &str) -> String {
     let step = line.split('#').next().and_then(|words| words.split(ARROW).next());
     step.into_iter().flat_map(str::split_whitespace).collect::<Vec<_>>().join(" ")
@@ -185,7 +186,8 @@ fn comment(line: &str) -> Option<String> {
     line.split_once('#').map(|(_, comment)| comment.trim().into())
 }
 
-/// `volume lease` and `volume 0` begin alike.
+/// Returns the part that a line with this first word belongs to. `volume lease`
+/// and `volume 0` begin alike.
 fn part_of(first: &str, line: &str) -> Option<Part> {
     match plain(first) {
         "clients" => Some(Part::Counts),

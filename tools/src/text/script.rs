@@ -16,7 +16,7 @@ pub struct Script {
     pub setup: Setup,
     pub voice: Voice,
     pub lines: Vec<Line>,
-    /// Comments among note and setup, on lines of their own.
+    /// Comments among the note and setup, on lines of their own.
     pub opening: Vec<String>,
     /// Comments after the last step.
     pub ending: Vec<String>,
@@ -25,19 +25,19 @@ pub struct Script {
 /// A line of the text that stands for steps.
 #[derive(Clone, Debug)]
 pub struct Line {
-    /// Its number in the text, from 1.
+    /// The line's number in the text, from 1.
     pub number: usize,
     pub action: Action,
     pub expected: Option<Listed>,
-    /// What is written there, without expectation and comment.
+    /// What is written there, without the expectation and the comment.
     pub written: String,
     /// The comments on the lines before it, without their `#`.
     pub before: Vec<String>,
-    /// The comment behind it.
+    /// The comment at the end of the line.
     pub behind: Option<String>,
 }
 
-/// A run with what its text says of each step.
+/// A run with what its text says about each step.
 pub struct WrittenOut {
     pub run: Run,
     pub steps: Vec<Written>,
@@ -45,10 +45,10 @@ pub struct WrittenOut {
     pub stopped: Option<Trouble>,
 }
 
-/// A step of a run that was a text.
+/// A step of a run made from a text.
 pub struct Written {
     pub step: Step,
-    /// The place of its line among the script's.
+    /// The index of its line in the script.
     pub line: usize,
     pub expected: Option<Listed>,
     /// The model's answer.
@@ -56,7 +56,7 @@ pub struct Written {
 }
 
 impl Script {
-    /// In canonical form.
+    /// Returns the text in canonical form.
     pub fn print(&self) -> String {
         let line = |line: &Line| actions::line(&line.action) + &expected::suffix(&line.expected);
         canonical(&self.note, &self.setup, self.voice.tick, self.lines.iter().map(line))
@@ -78,13 +78,15 @@ impl Script {
         WrittenOut { run, steps, stopped }
     }
 
-    /// Writes every line out as steps, or tells the first one that cannot be.
+    /// Writes every line out as steps, or returns what is wrong with the first
+    /// one that cannot be.
     pub fn written_out(&self) -> Result<WrittenOut, Trouble> {
         let mut written = self.as_far_as_it_goes();
         written.stopped.take().map_or(Ok(written), Err)
     }
 
-    /// In canonical form, each step as the run file has it.
+    /// Returns the text in canonical form, with each step as the run file has
+    /// it.
     pub fn expanded(&self, written: &WrittenOut) -> String {
         let line = |written: &Written| {
             actions::line(&Action::Step(written.step)) + &expected::suffix(&written.expected)

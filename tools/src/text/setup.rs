@@ -1,4 +1,4 @@
-//! Setup lines, both ways: the counts, the ticks, then each volume's
+//! Setup lines, read and written: the counts, the ticks, then each volume's
 //! objects.
 
 use model::limits::{CLIENTS, OBJECTS, OBJECT_LEASE, TIMEOUT, VOLUMES, VOLUME_LEASE};
@@ -26,7 +26,7 @@ pub fn lines(setup: &Setup) -> Vec<String> {
     lines
 }
 
-/// The setup as far as its lines were read.
+/// The setup, as far as its lines have been read.
 #[derive(Default)]
 pub struct Partial {
     pub counts: Option<(u8, u8, u8)>,
@@ -59,8 +59,8 @@ impl Partial {
         Ok(())
     }
 
-    /// Where the line of counts was a bad one, the largest counts hold, so
-    /// that one mistake is told once.
+    /// Reads a volume's objects. After a bad line of counts the largest counts
+    /// are assumed, so that one mistake is reported once.
     pub fn read_volume(&mut self, words: &mut Words) -> Result<(), Wrong> {
         let (_, volumes, objects) = self.counts.unwrap_or((CLIENTS as u8, VOLUMES as u8, OBJECTS as u8));
         words.word("volume")?;
@@ -79,7 +79,7 @@ impl Partial {
         Ok(())
     }
 
-    /// The whole setup, or the line that is missing.
+    /// Returns the whole setup, or the line that is missing.
     pub fn whole(&self) -> Result<Setup, Wrong> {
         let missing = |line: &str| Wrong::new("no such line before", line);
         let (clients, volumes, objects) = self.counts.ok_or_else(|| missing(COUNTS))?;

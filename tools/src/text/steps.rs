@@ -1,4 +1,4 @@
-//! Step lines, both ways.
+//! Step lines, read and written.
 
 use model::step_record::*;
 
@@ -7,8 +7,8 @@ use crate::vocabulary::plain;
 
 pub const A_STEP: &str = "a step: clock, read, ask, write, deliver, lose, double, restart, kind or join";
 
-/// The line of a step whose kind leaves no unused field: as every step of
-/// an accepted run file. An unknown kind shows all its fields.
+/// Returns the line of a step without unused fields, as in any accepted run
+/// file. An unknown kind shows all its fields.
 pub fn line(step: &Step) -> String {
     let Step { kind, client, object, place, clock, value } = *step;
     match kind {
@@ -63,8 +63,8 @@ fn restart(words: &mut Words) -> Result<Step, Wrong> {
     }
 }
 
-/// A known kind is turned away here: it has a line of its own, and unused
-/// fields could make the run file a refused one.
+/// Reads a step of an unknown kind. Known kinds have lines of their own and are
+/// rejected here, since with an unused field set the run file would be refused.
 fn unknown(words: &mut Words) -> Result<Step, Wrong> {
     let kind = words.byte("a kind")?;
     if (CLOCK..=RESTART_CLIENT).contains(&kind) {

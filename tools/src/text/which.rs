@@ -1,5 +1,5 @@
-//! Which of several messages of a name is meant: `second`, `11th`, `last`,
-//! both ways. Without such a word it is the first.
+//! Which of several messages with the same name is meant: `second`, `11th`,
+//! `last`, read and written. Without such a word it is the first.
 
 use model::limits::QUEUE;
 
@@ -9,7 +9,7 @@ const LAST: &str = "last";
 
 #[derive(Clone, Copy, Debug, PartialEq, Eq)]
 pub enum Which {
-    /// In the order of their places, from 1.
+    /// By place, counted from 1.
     Nth(usize),
     Last,
 }
@@ -17,7 +17,7 @@ pub enum Which {
 impl Which {
     pub const FIRST: Which = Which::Nth(1);
 
-    /// Returns which one the word means, if it is such a word.
+    /// Returns which message the word means, if it is such a word.
     pub fn of(word: &str) -> Option<Which> {
         let nth = || (1..=QUEUE).find(|&nth| ordinal(nth) == word || numeral(nth) == word);
         if word == LAST {
@@ -27,7 +27,7 @@ impl Which {
         }
     }
 
-    /// Returns the word with a space behind it; nothing for the first.
+    /// Returns the word followed by a space; nothing for the first.
     pub fn prefix(self) -> String {
         match self {
             Which::FIRST => String::new(),
@@ -36,7 +36,7 @@ impl Which {
         }
     }
 
-    /// Returns the one that is meant.
+    /// Returns the one meant.
     pub fn pick<T>(self, mut all: impl Iterator<Item = T>) -> Option<T> {
         match self {
             Which::Nth(nth) => all.nth(nth - 1),

@@ -17,7 +17,8 @@ impl Wrong {
         Wrong { found: found.into(), expected: expected.into() }
     }
 
-    /// Says the same in the user's words, but for what is quoted of the text.
+    /// Returns the same in the user's words, except for what is quoted from the
+    /// text.
     fn said(&self, words: Vocabulary) -> Wrong {
         let parts = self.found.split('`').enumerate();
         let found = parts.map(|(place, part)| if place % 2 == 1 { part.into() } else { words.said(part) });
@@ -31,7 +32,7 @@ impl fmt::Display for Wrong {
     }
 }
 
-/// The same with the line's number, from 1.
+/// A bad place with the line's number, from 1.
 #[derive(Clone, Debug, PartialEq, Eq)]
 pub struct Trouble {
     pub line: usize,
@@ -39,12 +40,12 @@ pub struct Trouble {
 }
 
 impl Trouble {
-    /// Tells it with what is written on the line.
+    /// Returns the trouble with what is written on the line.
     pub fn at(&self, written: &str) -> String {
         format!("line {}, {written}: {}", self.line, self.wrong)
     }
 
-    /// Says the same in the user's words.
+    /// Returns the same in the user's words.
     pub fn said(&self, words: Vocabulary) -> Trouble {
         Trouble { line: self.line, wrong: self.wrong.said(words) }
     }
@@ -56,7 +57,7 @@ impl fmt::Display for Trouble {
     }
 }
 
-/// What stands between a step and what is expected of it.
+/// Separates a step from what is expected of it.
 pub const ARROW: &str = "=>";
 
 #[derive(Clone)]
@@ -65,7 +66,8 @@ pub struct Words<'a> {
 }
 
 impl<'a> Words<'a> {
-    /// The words before a comment. An arrow is a word wherever it stands.
+    /// Splits a line into the words before its comment. An arrow is always a
+    /// word of its own.
     pub fn new(line: &'a str) -> Words<'a> {
         let before = line.split('#').next().unwrap_or("");
         let mut rest = VecDeque::new();
@@ -80,12 +82,12 @@ impl<'a> Words<'a> {
         self.rest.front().copied()
     }
 
-    /// The word after the next one.
+    /// Returns the word after the next one.
     pub fn second(&self) -> Option<&'a str> {
         self.rest.get(1).copied()
     }
 
-    /// Returns what the first word that has any gives.
+    /// Returns the first result that `of` gives for a word.
     pub fn find<T>(&self, of: impl Fn(&str) -> Option<T>) -> Option<T> {
         self.rest.iter().find_map(|word| of(word))
     }
@@ -104,7 +106,7 @@ impl<'a> Words<'a> {
         }
     }
 
-    /// Decimal digits alone, from `least` to `most`.
+    /// Reads a number of decimal digits only, from `least` to `most`.
     pub fn number(&mut self, what: &str, least: u64, most: u64) -> Result<u64, Wrong> {
         let expected = format!("{what} from {least} to {most}");
         let found = self.next(&expected)?;
@@ -119,7 +121,7 @@ impl<'a> Words<'a> {
         Ok(self.number(what, 0, u8::MAX.into())? as u8)
     }
 
-    /// A field: its name, then a number.
+    /// Reads a field: its name, then a number.
     pub fn named_byte(&mut self, name: &str) -> Result<u8, Wrong> {
         self.word(name)?;
         self.byte(&format!("a number of the {name}"))
@@ -133,7 +135,7 @@ impl<'a> Words<'a> {
     }
 }
 
-/// A word of the input as an error shows it, cut where it is long.
+/// Returns a word of the input as an error shows it, cut if it is long.
 pub fn quoted(found: &str) -> String {
     const MOST: usize = 40;
     let shown: String = found.chars().take(MOST).flat_map(char::escape_debug).collect();

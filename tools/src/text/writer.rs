@@ -1,4 +1,4 @@
-//! Writes lines out as exact steps, by the state that the steps before them
+//! Writes lines out as exact steps, in the state that the steps before them
 //! have led to.
 
 use model::limits::{FILE_BYTES, STEPS};
@@ -27,7 +27,7 @@ impl<'a> Writer<'a> {
         Writer { walk: Walk::fresh(setup, voice), note_len, steps: Vec::new() }
     }
 
-    /// Takes the steps of the line that is at this place of the script.
+    /// Takes the steps of the line at this index of the script.
     pub fn write(&mut self, at: usize, line: &Line) -> Result<(), Wrong> {
         let expected = line.expected;
         match line.action {
@@ -53,7 +53,8 @@ impl<'a> Writer<'a> {
         Ok(seen)
     }
 
-    /// A run file has a most of steps, and a most of bytes with its note.
+    /// Checks that there is room for one more step: a run file has limits on
+    /// its steps and, with the note, on its bytes.
     fn has_room(&self) -> Result<(), Wrong> {
         let count = self.steps.len() + 1;
         if count > STEPS {
@@ -93,8 +94,8 @@ impl<'a> Writer<'a> {
     }
 }
 
-/// The step that follows this one of a join. A client that drops its leases
-/// asks once more; a GRANT is the end.
+/// Returns the next step of a join. A client that drops its leases asks once
+/// more; a GRANT ends the join.
 fn following(moment: &Moment, ask: Step) -> Result<Option<Step>, Wrong> {
     let sent = moment.sent().first().map(|message| message.kind);
     match (moment.taken().map(|message| message.kind), sent) {

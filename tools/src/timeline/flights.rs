@@ -1,4 +1,4 @@
-//! Each message from sending to its end.
+//! Each message, from the step that sent it to the step that ended it.
 
 use model::limits::QUEUE;
 use model::message::{Kind, Message};
@@ -21,7 +21,7 @@ pub struct Flight {
     pub message: Message,
     /// The step that sent or doubled it.
     pub sent: usize,
-    /// The place in the list of flights of the one that it is a copy of.
+    /// The index in the list of flights of the message that this is a copy of.
     pub copy_of: Option<usize>,
     pub end: End,
 }
@@ -40,12 +40,13 @@ impl Flight {
 #[derive(Default)]
 pub struct Flights {
     pub all: Vec<Flight>,
-    /// The flights in the queue, place by place.
+    /// The flights in the queue, in order.
     under_way: Vec<usize>,
 }
 
 impl Flights {
-    /// Call for each step in turn.
+    /// Follows the flights through one step. To be called for each step in
+    /// turn.
     pub fn follow(&mut self, moment: &Moment) {
         if moment.refused() {
             return;
@@ -66,15 +67,15 @@ impl Flights {
         }
     }
 
-    /// The messages under way, in queue order.
+    /// Returns the messages under way, in queue order.
     pub fn queue(&self) -> impl Iterator<Item = Message> + '_ {
         self.under_way.iter().map(|&flight| self.all[flight].message)
     }
 }
 
-/// Messages sent to a full queue. The tables tell how many were sent: one by
-/// an ask or a double, one to each client that a write waits for. A delivery
-/// has made room first for the one that it may send.
+/// Returns the messages sent to a full queue. The tables tell how many were
+/// sent: one by an ask or a double, one to each client that a write waits for.
+/// A delivery first makes room for the one that it may send.
 fn turned_away(moment: &Moment) -> Vec<Message> {
     if moment.after.tables.queue.len < QUEUE {
         return Vec::new();

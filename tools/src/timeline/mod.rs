@@ -1,6 +1,5 @@
-//! A run over time: its steps, the way of each message, and how long each
-//! lease, copy, write, guard and mark lasted. All of it is read off the
-//! model's tables.
+//! A run over time: its steps, the path of each message, and how long each
+//! lease, copy, write, guard and mark lasted, all read from the model's tables.
 
 pub mod flights;
 pub mod spans;
@@ -29,14 +28,14 @@ pub struct StepView {
     pub clock: u32,
     /// The message that the step delivered, lost or doubled.
     pub message: Option<Message>,
-    /// What fixes the latest end of the write that the step opened, if it
-    /// stands after it.
+    /// What fixes the latest end of the write that the step opened, if it still
+    /// stands after the step.
     pub cause: Option<Cause>,
-    /// Its line of the explained listing.
+    /// The step's line of the explained listing.
     pub line: String,
-    /// As its text has it, or as the text form does.
+    /// The step as its text has it, or in the text form.
     pub written: String,
-    /// The number of the line of the text that it comes from.
+    /// The number of its line in the text.
     pub text_line: Option<usize>,
     pub expectation: Option<Expectation>,
 }
@@ -61,7 +60,7 @@ impl StepView {
         }
     }
 
-    /// Whether something else was expected of it.
+    /// Returns whether something else was expected of it.
     pub fn failed(&self) -> bool {
         self.expectation.is_some_and(|expectation| !expectation.holds())
     }
@@ -72,16 +71,16 @@ pub struct Timeline {
     pub voice: Voice,
     /// How many of a text's expectations hold.
     pub verdict: Option<String>,
-    /// Why it ends before its text does.
+    /// Why the run ends before its text does.
     pub stopped: Option<String>,
-    /// Step k of the listing is at place k - 1.
+    /// Step k of the listing is at index k - 1.
     pub steps: Vec<StepView>,
     pub flights: Vec<Flight>,
     pub spans: Vec<Span>,
 }
 
 impl Timeline {
-    /// Of a run without a text.
+    /// Makes the timeline of a run without a text.
     pub fn new(run: &Run) -> Timeline {
         Timeline::of(&run.clone().into())
     }
@@ -106,13 +105,14 @@ impl Timeline {
         }
     }
 
-    /// The step with this number of the listing.
+    /// Returns the step with this number in the listing.
     pub fn step(&self, number: usize) -> &StepView {
         &self.steps[number - 1]
     }
 
-    /// Where in a step's column a time lies: from 0, the clock before it, to
-    /// 1, the clock that it set. Nothing for a time that it did not pass.
+    /// Returns where in a step's column a time lies: from 0, the clock before
+    /// it, to 1, the clock that it set. Nothing for a time that the step did
+    /// not pass.
     pub fn passed(&self, number: usize, time: u32) -> Option<f64> {
         let view = self.step(number);
         let inside = view.clock_before < time && time <= view.clock;

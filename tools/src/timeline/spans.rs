@@ -1,4 +1,4 @@
-//! From the step that began something to the step that ended it.
+//! Spans, from the step that began something to the step that ended it.
 
 use std::collections::BTreeMap;
 
@@ -9,7 +9,7 @@ pub struct Span {
     pub track: Track,
     pub detail: Detail,
     pub from: usize,
-    /// The step after which it is no more; none where it lasts to the end.
+    /// The step that ended it; none if it lasts to the end.
     pub to: Option<usize>,
 }
 
@@ -20,7 +20,8 @@ pub struct Spans {
 }
 
 impl Spans {
-    /// Call for each step in turn, with what stands after it.
+    /// Follows the spans through one step, after which `now` is there. To be
+    /// called for each step in turn.
     pub fn follow(&mut self, step: usize, now: BTreeMap<Track, Detail>) {
         let ended = &mut self.ended;
         self.open.retain(|track, span| {
@@ -35,7 +36,7 @@ impl Spans {
         }
     }
 
-    /// All of them, in the order of their tracks.
+    /// Returns all spans, in the order of their tracks.
     pub fn whole(self) -> Vec<Span> {
         let mut spans = self.ended;
         spans.extend(self.open.into_values());

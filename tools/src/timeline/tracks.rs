@@ -1,4 +1,4 @@
-//! What lasts over steps, as it stands in the model's tables at a moment.
+//! What lasts over several steps, as the model's tables have it at one moment.
 
 use std::collections::BTreeMap;
 
@@ -6,13 +6,13 @@ use model::setup::Setup;
 use model::state::State;
 use model::tables::alive;
 
-/// Whose it is and what, so that each track holds one at a time.
+/// What it is and whose, so that a track holds one at a time.
 #[derive(Clone, Copy, Debug, PartialEq, Eq, PartialOrd, Ord)]
 pub enum Track {
     /// The server's, by volume or object.
     Guard(usize),
     Write(usize),
-    /// What the server notes of a client, by client and volume or object.
+    /// What the server records about a client, by client and volume or object.
     ServerVolumeLease(usize, usize),
     ServerObjectLease(usize, usize),
     Unreachable(usize, usize),
@@ -22,20 +22,20 @@ pub enum Track {
     Copy(usize, usize),
 }
 
-/// What tells one on a track from the next one there.
+/// What tells one span on a track from the next.
 #[derive(Clone, Copy, Debug, Default, PartialEq, Eq)]
 pub struct Detail {
-    /// Expiry, latest end or guard.
+    /// An expiry, a latest end or a guard.
     pub until: u32,
-    /// Version of a copy or after a write; epoch of a volume.
+    /// The version of a copy, or after a write; the epoch of a volume.
     pub version: u32,
     pub value: u64,
 }
 
 type Tracks = BTreeMap<Track, Detail>;
 
-/// Leases that are alive, copies, standing writes, guards that still hold
-/// writes back, unreachable marks.
+/// Returns live leases, copies, standing writes, guards that still hold writes
+/// back, and unreachable marks.
 pub fn of(setup: &Setup, state: &State) -> Tracks {
     let mut tracks = Tracks::new();
     server(setup, state, &mut tracks);

@@ -1,4 +1,4 @@
-//! Rooms with straight sides and no notch, by their corners in turn.
+//! Convex areas, given by their corners in turn.
 
 pub type Corner = (f64, f64);
 
@@ -9,7 +9,7 @@ pub fn bounds(corners: &[Corner]) -> (Corner, Corner) {
     })
 }
 
-/// Whether no side of either has the two on different sides of it.
+/// Returns whether the two overlap: no side of either separates them.
 pub fn meet(one: &[Corner], other: &[Corner]) -> bool {
     let parted = |sides: &[Corner]| {
         (0..sides.len()).any(|side| {
@@ -27,7 +27,8 @@ fn reach(corners: &[Corner], way: Corner) -> (f64, f64) {
     along.fold((f64::INFINITY, f64::NEG_INFINITY), |(low, high), at| (low.min(at), high.max(at)))
 }
 
-/// Whether a point lies inside, or no farther outside than pictures round.
+/// Returns whether a point lies inside, or outside by no more than pictures are
+/// rounded.
 pub fn holds(room: &[Corner], point: Corner) -> bool {
     let sides = (0..room.len()).map(|side| {
         let (a, b) = (room[side], room[(side + 1) % room.len()]);

@@ -1,5 +1,5 @@
-//! The room that each text of a picture takes, read off the picture and its
-//! style alone.
+//! The room that each text of a picture takes, read only from the picture and
+//! its style.
 
 use std::collections::BTreeMap;
 
@@ -11,31 +11,31 @@ pub use corners::Corner;
 pub use shapes::Shape;
 use style::Style;
 
-/// Of the size, in the widest of the common fixed-width fonts, and how far
-/// letters reach above and below their line.
+/// As parts of the size, in the widest of the common fixed-width fonts: the
+/// advance of a letter, and how far letters reach above and below their line.
 const ADVANCE: f64 = 0.602;
 const ABOVE: f64 = 0.76;
 const BELOW: f64 = 0.24;
 
-/// A text, with its four corners in its part's coordinates.
+/// A text, with its four corners in the coordinates of its part.
 #[derive(Clone, Debug)]
 pub struct Text {
     pub class: String,
     pub words: String,
     pub corners: [Corner; 4],
-    /// Its line of the picture: what has a higher one is drawn over it.
+    /// Its line in the picture; what comes later is drawn over it.
     pub place: usize,
 }
 
-/// A part of the picture, which cuts off what is outside.
+/// A part of the picture, which cuts off what is outside it.
 #[derive(Default)]
 pub struct Part {
     pub name: String,
     pub size: Corner,
     pub texts: Vec<Text>,
-    /// All that is drawn but texts.
+    /// Everything drawn except texts.
     pub shapes: Vec<Shape>,
-    /// The groups: what opens each, then its elements, line by line.
+    /// The groups: the line that opens each, then its elements, line by line.
     pub groups: Vec<Vec<String>>,
 }
 
@@ -49,7 +49,7 @@ pub fn number(element: &str, name: &str) -> f64 {
     value.parse().unwrap_or_else(|_| panic!("{name} of {element}"))
 }
 
-/// The whole picture first, then each of its parts.
+/// Returns the whole picture first, then each of its parts.
 pub fn parts(svg: &str) -> Vec<Part> {
     let style = Style::of(svg);
     let mut parts = vec![Part::default()];
@@ -97,7 +97,7 @@ fn text(style: &Style, line: &str, place: usize) -> Text {
     Text { class, words, corners, place }
 }
 
-/// Where an element begins and which way it goes.
+/// Where an element begins, and its direction.
 struct Turn {
     from: Corner,
     way: Corner,
@@ -152,7 +152,7 @@ fn bounds_meet(one: (Corner, Corner), other: (Corner, Corner)) -> bool {
 }
 
 impl Part {
-    /// Each text with the shapes whose bounds meet its own.
+    /// Returns each text with the shapes whose bounds meet its own.
     pub fn near(&self) -> Vec<(&Text, Vec<&Shape>)> {
         let mut columns: BTreeMap<i64, Vec<&Shape>> = BTreeMap::new();
         for shape in &self.shapes {
@@ -174,7 +174,7 @@ impl Part {
         self.texts.iter().map(|text| (text, near(text))).collect()
     }
 
-    /// Two texts that share some room, if any do.
+    /// Returns two texts that overlap, if there are any.
     pub fn overlap(&self) -> Option<(&Text, &Text)> {
         let mut sorted: Vec<(f64, f64, &Text)> =
             self.texts.iter().map(|text| (text.bounds().0 .0, text.bounds().1 .0, text)).collect();

@@ -1,5 +1,5 @@
-//! What is drawn but texts: lines as wide as they are, rectangles, circles and
-//! closed shapes.
+//! Everything drawn except texts: lines with their width, rectangles, circles
+//! and closed shapes.
 
 use super::corners::{self, holds, meet, Corner};
 use super::style::Style;
@@ -18,7 +18,7 @@ pub struct Shape {
     pub class: String,
     form: Form,
     corners: Vec<Corner>,
-    /// Its line of the picture, as a text's.
+    /// Its line in the picture, as for a text.
     pub place: usize,
 }
 
@@ -44,21 +44,23 @@ impl Shape {
         self.class.split(' ').any(|one| one == class)
     }
 
-    /// Paper, shaded columns and the ruling behind everything may lie under
-    /// words; bars may too, but for their words' grounds.
+    /// Returns whether the shape runs through a text. Paper, shaded columns and
+    /// the ruling behind everything may lie under words, and so may bars, since
+    /// their words have grounds.
     pub fn runs_through(&self, text: &Text) -> bool {
         let ruling = ["row", "column", "edge"].iter().any(|class| self.is(class));
         !ruling && self.form != Form::Rectangle && meet(&self.corners, &text.corners)
     }
 
-    /// Hides what is drawn before it, all over the text's room.
+    /// Returns whether this hides what is drawn before it everywhere in the
+    /// text's room.
     pub fn is_ground_of(&self, text: &Text) -> bool {
         let filled = self.is("ground") || self.is("ask-first");
         filled && self.place < text.place && text.corners.iter().all(|&corner| holds(&self.corners, corner))
     }
 
-    /// Whether it is a ground that lies over a head, a diamond, a cross, a
-    /// ring or a spot.
+    /// Returns whether it is a ground over a head, a diamond, a cross, a ring
+    /// or a spot.
     pub fn hides(&self, other: &Shape) -> bool {
         let cross = ["lost-mark", "refused"].iter().any(|class| other.is(class));
         let mark = cross || matches!(other.form, Form::Circle | Form::Closed);
@@ -93,7 +95,7 @@ fn rectangle(line: &str) -> Vec<Corner> {
     turn(line).rectangle((0.0, 0.0), (number(line, "width"), number(line, "height"))).to_vec()
 }
 
-/// Eight corners on the outside of its line.
+/// Returns eight corners on the outside of a circle's line.
 fn circle(line: &str, stroke: f64) -> Vec<Corner> {
     let (x, y, r) = (number(line, "cx"), number(line, "cy"), number(line, "r") + stroke / 2.0);
     let angles = (0..8).map(|eighth| f64::from(eighth) * std::f64::consts::FRAC_PI_4);

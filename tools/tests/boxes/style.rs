@@ -1,4 +1,4 @@
-//! What the picture's style says of a class.
+//! What the picture's style says about a class.
 
 use std::collections::BTreeMap;
 
@@ -22,7 +22,7 @@ impl Style {
         Style(rules)
     }
 
-    /// Where the style says nothing, what holds for every text and line.
+    /// Returns a property of a class, or the default for all texts and lines.
     pub fn value(&self, class: &str, name: &str) -> &str {
         let classes: Vec<&str> = class.split(' ').collect();
         let fits = |selector: &[String]| selector.iter().all(|one| classes.contains(&one.as_str()));

@@ -1,4 +1,4 @@
-// What a page of a generated run must do, asked of its own state.
+// What a page of a generated run must do, checked on its own state.
 
 check('the address names a step', () => same(chosen, 7, 'step'));
 
@@ -180,7 +180,7 @@ check('the page is as wide as the screen, and says so to a phone', () => {
   same(document.documentElement.scrollWidth <= innerWidth, true, 'nothing to scroll sideways');
 });
 
-// How large the letters of each text in sight are.
+// Returns how large the letters of each visible text are.
 function sizes() {
   const texts = [...document.querySelectorAll('svg text')].filter(seen).map(text => {
     const svg = text.closest('svg');
@@ -204,7 +204,7 @@ check('nothing is smaller than 11 pixels on a narrow screen, or than drawn on ot
   get('signs').open = false;
 });
 
-// A point at which it is on top, if there is one in sight.
+// Returns a visible point at which the group is on top, if there is one.
 function pointOn(group) {
   for (const shape of [...group.children].filter(child => child.tagName !== 'title')) {
     const { left, top, width, height } = bounds(shape);
@@ -289,7 +289,7 @@ check('on paper each step is in one strip, with its words, and all fit a page', 
       inside ? whole++ : cut++;
     }
   }
-  // A label that has no other room is cut, as its line is.
+  // A label that has no other room is cut, like its line.
   same(cut <= whole / 200, true, `${cut} cut, ${whole} whole`);
   get('paper').style.display = '';
   window.dispatchEvent(new Event('afterprint'));

@@ -1,5 +1,5 @@
-// What the checks of a page have in common. tools/browser-test puts this after
-// the page's script, then checks, then verdicts.js.
+// What the checks of a page share. tools/browser-test puts this after the
+// page's script, then the checks, then verdicts.js.
 const checks = [];
 
 function check(words, test) {
@@ -20,7 +20,7 @@ const seen = element => element.getClientRects().length > 0;
 const press = (key, shiftKey = false) =>
   document.dispatchEvent(new KeyboardEvent('keydown', { key, shiftKey, bubbles: true }));
 const button = answer => document.querySelector(`[data-seek="${answer}"]`);
-// Steps with such an answer, by the words of the listing.
+// Returns the steps with this answer, by the words of the listing.
 const answered = word => lines.filter(line => new RegExp(`^[0-9]+ [^:]*: ${word}`).test(line.textContent));
 const numbers = some => some.map(line => +line.dataset.step);
 const some = all => all.filter((_, place) => place % Math.ceil(all.length / 50) === 0);
@@ -32,7 +32,7 @@ function pick(id, value) {
   get(id).dispatchEvent(new Event('change'));
 }
 
-// Goes on while there is a step to go to.
+// Returns the steps visited, for as long as there is a step to go to.
 function visited(go) {
   const steps = [];
   for (go(); get('said').textContent === '' && steps.length < 100; go()) steps.push(chosen);

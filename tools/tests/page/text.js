@@ -1,4 +1,4 @@
-// What a page of text.runtext must do, asked of its own state.
+// What a page of text.runtext must do, checked on its own state.
 const failed = () => numbers(lines.filter(line => line.textContent.includes('FAILED: expected')));
 
 check('the count of expectations is at the top', () => {

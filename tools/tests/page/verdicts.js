@@ -1,4 +1,4 @@
-// Runs the checks; each makes a line.
+// Runs the checks and prints a line for each.
 const verdicts = (async () => {
   const lines = [];
   for (const [words, test] of checks) {
