@@ -7,7 +7,7 @@ pub enum Answer {
     Done,
     Shown(u64),
     AskFirst,
-    /// A clock or write step in which so many writes completed.
+    /// A clock or write step in which this many writes completed.
     Completed(u32),
     /// A delivery: the message delivered, and how many writes it completed.
     Delivered {
@@ -18,7 +18,7 @@ pub enum Answer {
 }
 
 impl Answer {
-    /// The answer of a step in which this many writes completed.
+    /// Returns the answer of a step in which this many writes completed.
     pub fn after(completed: u32) -> Answer {
         match completed {
             0 => Answer::Done,
@@ -26,8 +26,8 @@ impl Answer {
         }
     }
 
-    /// The two numbers of a listing line: answer and value
-    /// (01, Frame, run file and listing).
+    /// Returns the two numbers of a listing line: answer and value (01, Frame,
+    /// run file and listing).
     pub fn numbers(&self) -> (u8, u64) {
         match *self {
             Answer::Done | Answer::Delivered { completed: 0, .. } => (0, 0),

@@ -1,6 +1,6 @@
-//! Small sets kept as bits: bit k stands for item k.
+//! Small sets as bits: bit k stands for item k.
 
-/// The members of a set, lowest first.
+/// Returns the members of a set, lowest first.
 #[inline]
 pub fn members(mut set: u32) -> impl Iterator<Item = usize> {
     std::iter::from_fn(move || {
@@ -13,7 +13,7 @@ pub fn members(mut set: u32) -> impl Iterator<Item = usize> {
     })
 }
 
-/// The set of all items below `count`, for a count of at most 32.
+/// Returns the set of all items below `count`, which is at most 32.
 #[inline]
 pub fn below(count: u8) -> u32 {
     ((1u64 << count) - 1) as u32

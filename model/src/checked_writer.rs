@@ -7,7 +7,7 @@ use crate::step_record::Step;
 use crate::unchecked_writer::write;
 use crate::workload;
 
-/// The file, for an output of so many bytes.
+/// Returns the file, for an output of `room` bytes, or the refusal.
 pub fn write_checked(note: &[u8], setup: &Setup, steps: &[Step], room: usize) -> Result<Vec<u8>, u8> {
     setup.check()?;
     let len = note.len() + distance(steps.len());
@@ -18,7 +18,7 @@ pub fn write_checked(note: &[u8], setup: &Setup, steps: &[Step], room: usize) ->
     Ok(write(note, setup, steps))
 }
 
-/// The same from setup and step records as a run file has them, which is how
+/// Does the same with the setup and steps as bytes of a run file, which is how
 /// a caller in C lends them.
 pub fn written(note: &[u8], setup: &[u8], records: &[u8], room: usize) -> Result<Vec<u8>, u8> {
     let setup = lent_setup(setup)?;
@@ -29,14 +29,15 @@ pub fn written(note: &[u8], setup: &[u8], records: &[u8], room: usize) -> Result
     write_checked(note, &setup, &steps, room)
 }
 
-/// The file of a workload, from a setup lent likewise.
+/// Returns the file of a workload, with the setup lent in the same way.
 pub fn workload_file(seed: u32, note: &[u8], setup: &[u8], count: u32, room: usize) -> Result<Vec<u8>, u8> {
     let setup = lent_setup(setup)?;
     let steps = workload::steps(seed, &setup, count as usize)?;
     write_checked(note, &setup, &steps, room)
 }
 
-/// Of another length, or with another fourth byte than 0, it is no setup.
+/// Reads a lent setup. Bytes of another length, or with a fourth byte other
+/// than 0, are not a setup.
 fn lent_setup(bytes: &[u8]) -> Result<Setup, u8> {
     if bytes.len() != SETUP_BYTES {
         return Err(BAD_SETUP);

@@ -4,7 +4,7 @@ use std::fmt::{Display, Formatter, Result};
 
 use crate::limits::{CLIENTS, OBJECTS};
 
-/// Version 0 is no copy (01, Tables).
+/// A client's copy of an object. Version 0 is no copy (01, Tables).
 #[derive(Clone, Copy, Debug, Default, PartialEq, Eq)]
 pub struct ObjectCopy {
     pub version: u32,

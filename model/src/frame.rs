@@ -3,7 +3,7 @@
 use crate::limits::{BAD_FRAME, FRAME_BYTES};
 use crate::message::{Grant, Kind, Message};
 
-/// All fields that a frame has room for; a kind's missing ones are 0.
+/// All fields of a frame; those that a kind lacks are 0.
 #[derive(Clone, Copy, Default)]
 struct Fields {
     item: u8,
@@ -16,7 +16,7 @@ struct Fields {
     value: u64,
 }
 
-/// Writes the frame into the first 32 bytes; what lies past them stays.
+/// Writes the frame into the first 32 bytes and leaves the rest.
 pub fn encode(message: &Message, output: &mut [u8]) -> Result<(), u8> {
     let frame = output.get_mut(..FRAME_BYTES).ok_or(BAD_FRAME)?;
     let fields = fields_of(&message.kind);
@@ -33,8 +33,8 @@ pub fn encode(message: &Message, output: &mut [u8]) -> Result<(), u8> {
     Ok(())
 }
 
-/// Reads a frame of exactly 32 bytes. Every message has exactly one frame:
-/// so the bytes must be those that encoding what was read gives again.
+/// Reads a frame of exactly 32 bytes. Every message has exactly one frame, so
+/// encoding what was read must give the same bytes.
 pub fn decode(frame: &[u8]) -> Result<Message, u8> {
     let frame: &[u8; FRAME_BYTES] = frame.try_into().map_err(|_| BAD_FRAME)?;
     let kind = kind_of(frame[0], &read_fields(frame)).ok_or(BAD_FRAME)?;

@@ -1,8 +1,8 @@
 //! A plain Rust model of the lease protocol, written from documents 01 and 02
 //! alone.
 //!
-//! It shares no code with the product. Its listings are what the product's
-//! `roadrun` is compared with, byte for byte.
+//! It shares no code with the product. The product's `roadrun` is compared with
+//! its listings, byte for byte.
 
 pub mod answer;
 pub mod bits;

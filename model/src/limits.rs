@@ -1,24 +1,25 @@
-//! The fixed sizes and bounds of 01.
+//! The fixed sizes and limits of 01.
 
-/// Most clients, volumes and objects of a setup (01, Tables).
+/// The most clients, volumes and objects of a setup (01, Tables).
 pub const CLIENTS: usize = 16;
 pub const VOLUMES: usize = 8;
 pub const OBJECTS: usize = 32;
 
-/// Most ticks of volume lease, object lease and message timeout (01, Tables).
+/// The most ticks of volume lease, object lease and message timeout (01,
+/// Tables).
 pub const VOLUME_LEASE: u32 = 3_600;
 pub const OBJECT_LEASE: u32 = 1_000_000;
 pub const TIMEOUT: u32 = 60;
 
-/// Most messages under way (01, Tables).
+/// The most messages under way (01, Tables).
 pub const QUEUE: usize = 64;
 
-/// Largest clock, and largest expiry, guard or latest end: the clock's
-/// bound plus the longest object lease (01, Questions at the gate).
+/// The largest clock, and the largest expiry, guard or latest end: the largest
+/// clock plus the longest object lease (01, Questions at the gate).
 pub const CLOCK_MAX: u32 = 2_147_483_647;
 pub const EXPIRY_MAX: u32 = 2_148_483_647;
 
-/// Sizes of frame and run file in bytes, and its most steps
+/// The sizes of frames and run files in bytes, and the most steps of a file
 /// (01, Frame, run file and listing).
 pub const FRAME_BYTES: usize = 32;
 pub const FILE_BYTES: usize = 65_536;
@@ -38,5 +39,5 @@ pub const BAD_SETUP: u8 = 7;
 pub const BAD_FRAME: u8 = 8;
 pub const BAD_FILE: u8 = 9;
 
-/// The refusal of what is not written: a workload or a run file (02, A5).
+/// The refusal of a workload or a run file that is not written (02, A5).
 pub const NOT_WRITTEN: u8 = 10;

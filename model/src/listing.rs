@@ -10,17 +10,17 @@ use crate::runfile::{read, RunFile};
 const HEADER: &[u8] = b"step answer value\n";
 const REFUSED_FILE: &[u8] = b"0 4 9\n";
 
-/// The listing of a file's bytes, question 1 asked before every step.
+/// Returns the listing of a file's bytes. Asks question 1 before every step.
 pub fn listing(file: &[u8]) -> Vec<u8> {
     list(file, |run, each| run_asking(&run.setup, run.steps(), each))
 }
 
-/// The same, question 1 not asked again.
+/// Returns the same without asking question 1 again.
 pub fn listing_trusting(file: &[u8]) -> Vec<u8> {
     list(file, |run, each| run_trusting(&run.setup, run.steps(), each))
 }
 
-/// The listing of a model that makes these mistakes.
+/// Returns the listing of a model that makes these mistakes.
 pub fn listing_with(mistakes: Mistakes, file: &[u8]) -> Vec<u8> {
     list(file, |run, each| run_under(mistakes, &run.setup, run.steps(), each))
 }

@@ -1,20 +1,19 @@
 //! Messages: a client and one kind with that kind's fields.
 
-/// The message names its client, whichever way it goes
-/// (01, Messages received).
+/// A message. It names its client in either direction (01, Messages received).
 #[derive(Clone, Copy, Debug, PartialEq, Eq)]
 pub struct Message {
     pub client: u8,
     pub kind: Kind,
 }
 
-/// The six kinds in the order of their frame numbers.
+/// The six kinds, in the order of their frame numbers.
 #[derive(Clone, Copy, Debug, PartialEq, Eq)]
 pub enum Kind {
     /// Client to server; epoch is the known one, version the held one.
     Renew { object: u8, number: u32, epoch: u32, version: u32 },
-    /// Server to client. The value is there or not: two cases, so that a
-    /// grant without a value cannot carry one.
+    /// Server to client. The value is there or not: two cases, so that a grant
+    /// without a value cannot carry one.
     Grant(Grant),
     /// Server to client; version is the one after the write.
     Invalidate { object: u8, epoch: u32, version: u32 },
@@ -38,7 +37,7 @@ pub struct Grant {
 }
 
 impl Kind {
-    /// 1 to 6, as in the frame.
+    /// Returns the kind's number in a frame, 1 to 6.
     pub fn code(&self) -> u8 {
         match self {
             Kind::Renew { .. } => 1,

@@ -5,7 +5,7 @@ use crate::message::{Kind, Message};
 
 const EMPTY: Message = Message { client: 0, kind: Kind::Dropped { volume: 0, number: 0, epoch: 0 } };
 
-/// Places from `len` on are free: nobody asks what they hold.
+/// The message list. Places from `len` on are free; nobody reads them.
 #[derive(Clone, Copy, Debug, PartialEq, Eq)]
 pub struct Queue {
     pub len: usize,
@@ -21,7 +21,7 @@ impl Queue {
         &self.places[..self.len]
     }
 
-    /// A message sent to a full list is lost.
+    /// Appends a message. A message sent to a full list is lost.
     #[inline]
     pub fn send(&mut self, message: Message) {
         if self.len < QUEUE {
@@ -30,7 +30,7 @@ impl Queue {
         }
     }
 
-    /// A removal closes the gap.
+    /// Removes and returns a message. A removal closes the gap.
     #[inline]
     pub fn remove(&mut self, place: usize) -> Message {
         let message = self.places[place];

@@ -1,4 +1,4 @@
-//! A client's request counter and standing request: one lent record each.
+//! A client's request counter and standing request: one lent record per client.
 
 use crate::limits::CLIENTS;
 
@@ -20,8 +20,8 @@ pub const NO_REQUESTS: [Request; CLIENTS] = [Request::FRESH; CLIENTS];
 impl Request {
     pub const FRESH: Request = Request { next: 1, standing: None };
 
-    /// Takes the next number for an ask of this object, replacing whatever
-    /// stood (01, Steps 3).
+    /// Takes the next number for an ask for this object, which replaces the
+    /// standing request (01, Steps 3).
     pub fn take(&mut self, object: u8) -> u32 {
         let number = self.next;
         self.next += 1;
@@ -33,7 +33,7 @@ impl Request {
         self.standing = None;
     }
 
-    /// Whether an answer with this number is for the standing request.
+    /// Returns whether an answer with this number is for the standing request.
     pub fn waits_for(&self, number: u32) -> bool {
         self.standing.is_some_and(|standing| standing.number == number)
     }

@@ -8,7 +8,7 @@ use crate::step_call::{step, step_sound};
 use crate::step_record::Step;
 use crate::world::World;
 
-/// Asks question 1 before every step.
+/// Runs the steps, asking question 1 before each.
 pub fn run_asking(setup: &Setup, steps: impl Iterator<Item = Step>, mut each: impl FnMut(Answer)) {
     let mut state = State::fresh();
     let (tables, copies, requests) = state.parts(setup);
@@ -17,8 +17,8 @@ pub fn run_asking(setup: &Setup, steps: impl Iterator<Item = Step>, mut each: im
     }
 }
 
-/// Does not ask question 1 again: fresh tables are sound and steps keep
-/// them so. The setup must be in range.
+/// Runs the steps without asking question 1 again: fresh tables are sound, and
+/// steps keep them so. The setup must be in range.
 pub fn run_trusting(setup: &Setup, steps: impl Iterator<Item = Step>, mut each: impl FnMut(Answer)) {
     let mut state = State::fresh();
     let (tables, copies, requests) = state.parts(setup);
@@ -27,7 +27,7 @@ pub fn run_trusting(setup: &Setup, steps: impl Iterator<Item = Step>, mut each: 
     }
 }
 
-/// A run under other rules, to see what a mistake changes.
+/// Runs the steps under other rules, to see what a mistake changes.
 pub fn run_under(
     rules: Mistakes,
     setup: &Setup,

@@ -4,13 +4,13 @@ use crate::limits::{BAD_FILE, FILE_BYTES, OBJECTS, SETUP_BYTES, STEPS, STEP_BYTE
 use crate::setup::{OutOfRange, Setup};
 use crate::step_record::Step;
 
-/// The parts of a run file; note and step records are parts of the
-/// caller's bytes.
+/// The parts of a run file; note and step records are slices of the caller's
+/// bytes.
 #[derive(Clone, Copy, Debug, PartialEq, Eq)]
 pub struct RunFile<'a> {
     pub note: &'a [u8],
     pub setup: Setup,
-    /// All but the trailer, so that a place here is one in the file.
+    /// Everything before the trailer, so that an index here is one in the file.
     body: &'a [u8],
 }
 
@@ -23,7 +23,7 @@ impl<'a> RunFile<'a> {
         self.len() == 0
     }
 
-    /// Where the setup begins: the note is all that stands before it.
+    /// Returns where the setup begins: everything before it is the note.
     pub fn setup_place(&self) -> usize {
         self.note.len()
     }
@@ -33,8 +33,8 @@ impl<'a> RunFile<'a> {
     }
 }
 
-/// Goes over the step records with a running place (02, A2). Whole records
-/// stand between setup and trailer, so it ends at the trailer.
+/// Iterates over the step records with a running place (02, A2). Setup and
+/// trailer have whole records between them, so it ends at the trailer.
 #[derive(Clone, Debug)]
 pub struct Steps<'a> {
     body: &'a [u8],
@@ -42,8 +42,8 @@ pub struct Steps<'a> {
 }
 
 impl Steps<'_> {
-    /// Where the next record begins in the file; past the last one, the
-    /// trailer.
+    /// Returns where the next record begins in the file; after the last one,
+    /// the trailer.
     pub fn place(&self) -> usize {
         self.place
     }
@@ -67,20 +67,20 @@ impl Iterator for Steps<'_> {
 
 impl ExactSizeIterator for Steps<'_> {}
 
-/// Distance from the file's end back to the setup.
+/// Returns the distance from the file's end back to the setup.
 pub fn distance(count: usize) -> usize {
     SETUP_BYTES + TRAILER_BYTES + STEP_BYTES * count
 }
 
-/// Why a file is refused: the first thing that is wrong with it. The numbers
-/// are what was found.
+/// Why a file is refused: the first thing wrong with it. The numbers are what
+/// was found.
 #[derive(Clone, Copy, Debug, PartialEq, Eq)]
 pub enum Fault {
     TooLong(usize),
     TooShort(usize),
-    /// The trailer's step count, over the most.
+    /// The trailer's step count is above the limit.
     Count(u32),
-    /// The trailer's distance, another one than its count makes.
+    /// The trailer's distance does not match its count.
     Distance {
         count: usize,
         found: u32,
@@ -93,20 +93,20 @@ pub enum Fault {
     /// The setup's fourth byte is not 0.
     Spare(u8),
     Setup(OutOfRange),
-    /// A field that the step's kind does not use is not 0; steps from 1.
+    /// A field that the step's kind does not use is not 0; steps count from 1.
     Unused {
         number: usize,
         step: Step,
     },
 }
 
-/// The file's parts, or refusal 9.
+/// Returns the file's parts, or refusal 9.
 pub fn read(file: &[u8]) -> Result<RunFile<'_>, u8> {
     parts(file).map_err(|_| BAD_FILE)
 }
 
-/// The same with the reason. The trailer is read first: the note may have
-/// any length, so only the distance tells where the setup begins.
+/// Returns the same with the reason. The trailer is read first: the note may
+/// have any length, so only the distance tells where the setup begins.
 pub fn parts(file: &[u8]) -> Result<RunFile<'_>, Fault> {
     if file.len() > FILE_BYTES {
         return Err(Fault::TooLong(file.len()));
@@ -125,7 +125,7 @@ pub fn parts(file: &[u8]) -> Result<RunFile<'_>, Fault> {
     }
 }
 
-/// The distance that the trailer tells, if it is right.
+/// Returns the distance that the trailer gives, if it is right.
 fn distance_back(trailer: &[u8], len: usize) -> Result<usize, Fault> {
     let (count, found) = (word(trailer, 0), word(trailer, 4));
     if count as usize > STEPS {
@@ -141,7 +141,7 @@ fn distance_back(trailer: &[u8], len: usize) -> Result<usize, Fault> {
     Ok(distance(count))
 }
 
-/// Of its 48 bytes.
+/// Reads a setup from its 48 bytes.
 pub fn read_setup(bytes: &[u8]) -> Result<Setup, Fault> {
     let mut volume_of = [0; OBJECTS];
     volume_of.copy_from_slice(&bytes[16..SETUP_BYTES]);

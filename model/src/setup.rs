@@ -8,11 +8,11 @@ pub struct Setup {
     pub clients: u8,
     pub volumes: u8,
     pub objects: u8,
-    /// tv: ticks that a volume lease lives.
+    /// tv: how many ticks a volume lease lives.
     pub volume_lease: u32,
-    /// t: ticks that an object lease lives.
+    /// t: how many ticks an object lease lives.
     pub object_lease: u32,
-    /// m: ticks that a write waits for messages at least.
+    /// m: how many ticks a write waits for messages, at least.
     pub timeout: u32,
     /// Each object's volume, 0 past the object count.
     pub volume_of: [u8; OBJECTS],
@@ -30,7 +30,7 @@ pub enum Field {
     VolumeOf(usize),
 }
 
-/// A field with what it holds and what it may hold.
+/// A field, with its value and the values that it may have.
 #[derive(Clone, Copy, Debug, PartialEq, Eq)]
 pub struct OutOfRange {
     pub field: Field,
@@ -40,7 +40,7 @@ pub struct OutOfRange {
 }
 
 impl Setup {
-    /// The refusal of every call but step and run file: 7.
+    /// Returns the refusal of every call except step and run file: 7.
     pub fn check(&self) -> Result<(), u8> {
         if self.in_range() {
             Ok(())
@@ -53,7 +53,7 @@ impl Setup {
         self.out_of_range().is_none()
     }
 
-    /// The first field that is out of its range.
+    /// Returns the first field that is out of range.
     pub fn out_of_range(&self) -> Option<OutOfRange> {
         let fields = [
             (Field::Clients, self.clients.into(), CLIENTS as u32),
@@ -70,8 +70,8 @@ impl Setup {
         }
     }
 
-    /// With the counts in range: an object's volume that does not exist, or a
-    /// volume past the object count.
+    /// Returns an object's volume that does not exist, or a volume past the
+    /// object count. The counts must be in range.
     fn volume_out_of_range(&self) -> Option<OutOfRange> {
         let last = |object| if object < usize::from(self.objects) { self.volumes - 1 } else { 0 };
         let object = (0..OBJECTS).find(|&object| self.volume_of[object] > last(object))?;
@@ -84,7 +84,7 @@ impl Setup {
         self.volume_of[object] as usize
     }
 
-    /// The clients that exist, as a set. Slots past the count are free, so
+    /// Returns the set of clients that exist. Slots past the count are free, so
     /// every set of clients is cut down to this one before it is used.
     #[inline]
     pub fn all_clients(&self) -> u16 {
@@ -96,8 +96,8 @@ impl Setup {
         below(self.objects)
     }
 
-    /// The place of a copy in the lent list: client by client, in object
-    /// order (01, Tables).
+    /// Returns the place of a copy in the lent list: client by client, in
+    /// object order (01, Tables).
     #[inline]
     pub fn copy_place(&self, client: usize, object: usize) -> usize {
         client * self.objects as usize + object

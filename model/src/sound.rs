@@ -1,8 +1,8 @@
 //! Question 1: are setup and tables sound (01, Questions at the gate)?
 //!
-//! It asks about what exists: items below the counts, messages below the
-//! list's length. Slots past them are free. The scans have no early end, so
-//! that the compiler can make vectors of them.
+//! It asks about what exists: items below the counts, and messages below the
+//! list's length. Slots past them are free. The scans do not stop early, so
+//! that the compiler can vectorise them.
 
 use crate::bits::members;
 use crate::copies::ObjectCopy;
@@ -39,7 +39,7 @@ fn server_sound(setup: &Setup, server: &Server) -> bool {
         && writes_sound(setup, server)
 }
 
-/// A version with a standing write must be able to grow.
+/// Returns whether the version of each object with a standing write can grow.
 fn writes_sound(setup: &Setup, server: &Server) -> bool {
     members(server.standing & setup.all_objects())
         .all(|object| server.write[object].latest_end <= EXPIRY_MAX && server.version[object] < u32::MAX)
@@ -80,8 +80,8 @@ fn in_bound(values: &[u32]) -> bool {
     values.iter().fold(0, |bad, &value| bad | u32::from(value > EXPIRY_MAX)) == 0
 }
 
-/// Scans whole rows of fixed width and lets a mask choose the slots asked
-/// about: a loop of fixed length needs no remainder.
+/// Scans whole rows of fixed width, with a mask for the slots asked about: a
+/// loop of fixed length needs no remainder.
 fn rows_in_bound<const N: usize>(rows: &[[u32; N]], width: usize) -> bool {
     let mut asked = [0; N];
     asked[..width].fill(u32::MAX);

@@ -27,7 +27,7 @@ impl State {
         &self.requests[..setup.clients.into()]
     }
 
-    /// The parts as a step call wants them, for a setup in range.
+    /// Returns the parts as a step call takes them, for a setup in range.
     pub fn parts(&mut self, setup: &Setup) -> (&mut Tables, &mut [ObjectCopy], &mut [Request]) {
         let copies = &mut self.copies[..setup.copy_count()];
         (&mut self.tables, copies, &mut self.requests[..setup.clients.into()])

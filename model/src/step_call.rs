@@ -11,7 +11,8 @@ use crate::step_record::Step;
 use crate::tables::Tables;
 use crate::world::World;
 
-/// Asks all six questions. A refused step leaves everything as it was.
+/// Takes a step after asking all six questions. A refused step leaves
+/// everything as it was.
 pub fn step(
     setup: &Setup,
     tables: &mut Tables,
@@ -25,7 +26,7 @@ pub fn step(
     step_sound(setup, tables, copies, requests, step)
 }
 
-/// The same for tables known to be sound: question 1 is not asked again.
+/// Does the same for tables known to be sound, without asking question 1 again.
 /// Every step keeps sound tables sound.
 pub fn step_sound(
     setup: &Setup,

@@ -1,4 +1,4 @@
-//! One step as a run file holds it (01, Steps; Frame, run file and listing).
+//! A step as a run file holds it (01, Steps; Frame, run file and listing).
 
 pub const CLOCK: u8 = 1;
 pub const READ: u8 = 2;
@@ -10,7 +10,8 @@ pub const DOUBLE: u8 = 7;
 pub const RESTART_SERVER: u8 = 8;
 pub const RESTART_CLIENT: u8 = 9;
 
-/// The kind is any byte: an unknown one is refused when the step is taken.
+/// A step. The kind is any byte; an unknown one is refused when the step is
+/// taken.
 #[derive(Clone, Copy, Debug, Default, PartialEq, Eq)]
 pub struct Step {
     pub kind: u8,
@@ -58,7 +59,7 @@ impl Step {
         Step { kind: RESTART_CLIENT, client, ..Step::default() }
     }
 
-    /// The same step with every field that its kind does not use set to 0;
+    /// Returns the step with every field that its kind does not use set to 0;
     /// an unknown kind keeps all its fields.
     pub fn used_fields(&self) -> Step {
         match self.kind {

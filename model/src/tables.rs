@@ -1,5 +1,6 @@
-//! The tables of server and clients (01, Tables). Fixed arrays; rows go by
-//! volume or object first, so that what a write scans lies together.
+//! The tables of the server and the clients (01, Tables). They are fixed
+//! arrays, with rows by volume or object first, so that what a write scans is
+//! contiguous.
 
 use crate::limits::{CLIENTS, OBJECTS, VOLUMES};
 use crate::queue::Queue;
@@ -18,7 +19,7 @@ pub struct Server {
     pub epoch: [u32; VOLUMES],
     /// VE: the largest volume expiry given out.
     pub volume_latest: [u32; VOLUMES],
-    /// Until then, leases given before a restart may still live.
+    /// Until then, leases given before a restart may still be alive.
     pub guard: [u32; VOLUMES],
     /// Per client: the highest request number seen.
     pub seen: [u32; CLIENTS],
@@ -34,7 +35,7 @@ pub struct Server {
     pub object_latest: [u32; OBJECTS],
     /// The set of objects with a standing write.
     pub standing: u32,
-    /// Per object, the standing write; free where none stands.
+    /// Per object, the standing write; free if none stands.
     pub write: [Write; OBJECTS],
     /// Per object and client.
     pub object_expiry: [[u32; CLIENTS]; OBJECTS],
@@ -67,7 +68,8 @@ impl Tables {
 }
 
 impl Server {
-    /// Epochs and versions begin at 1, all else at 0, none or no.
+    /// Returns fresh tables: epochs and versions begin at 1, all else at 0,
+    /// none or no.
     pub const fn fresh() -> Server {
         Server {
             epoch: [1; VOLUMES],
@@ -96,7 +98,7 @@ impl Write {
     pub const NONE: Write = Write { value: 0, latest_end: 0, waiting: 0 };
 }
 
-/// A lease is alive when its expiry is greater than the clock.
+/// Returns whether a lease is alive: its expiry is greater than the clock.
 #[inline]
 pub fn alive(expiry: u32, clock: u32) -> bool {
     expiry > clock

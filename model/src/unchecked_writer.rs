@@ -1,5 +1,5 @@
-//! Makes run files for tests. It writes what it is given, in range or not, so
-//! that it can make refused files too. The writer that refuses is
+//! Makes run files for tests. It writes whatever it is given, in range or not,
+//! so it can make refused files, too. The writer that refuses is
 //! `checked_writer`.
 
 use crate::limits::STEP_BYTES;

@@ -1,17 +1,18 @@
-//! A workload for the endurance rig: from a 32-bit seed the same steps every
+//! A workload for the endurance rig: a 32-bit seed gives the same steps every
 //! time (02, A5).
 
 use crate::limits::{NOT_WRITTEN, QUEUE, STEPS};
 use crate::setup::Setup;
 use crate::step_record::{Step, CLOCK};
 
-/// The numbers after the seed, without end; the seed itself is not drawn.
+/// Returns the numbers after the seed, without end; the seed itself is not
+/// drawn.
 pub fn draws(seed: u32) -> impl Iterator<Item = u32> {
     let next = |last: &u64| Some((1_664_525 * last + 1_013_904_223) % (1 << 32));
     std::iter::successors(next(&seed.into()), next).map(|draw| draw as u32)
 }
 
-/// So many steps, or refusal 7 or 10.
+/// Returns this many steps, or refusal 7 or 10.
 pub fn steps(seed: u32, setup: &Setup, count: usize) -> Result<Vec<Step>, u8> {
     setup.check()?;
     if count > STEPS {
@@ -21,8 +22,8 @@ pub fn steps(seed: u32, setup: &Setup, count: usize) -> Result<Vec<Step>, u8> {
     Ok((0..count).map(|_| step(setup, &mut draws, &mut total)).collect())
 }
 
-/// Draws five times, whatever its kind uses. The total grows in clock steps
-/// alone.
+/// Draws a step: five times, whatever its kind uses. The total grows only in
+/// clock steps.
 fn step(setup: &Setup, draws: &mut impl Iterator<Item = u32>, total: &mut u32) -> Step {
     let mut draw = |count: u32| draws.next().expect("draws have no end") % count;
     let kind = 1 + draw(9) as u8;

@@ -24,13 +24,13 @@ impl World<'_> {
         &mut self.copies[self.setup.copy_place(client, object)]
     }
 
-    /// The objects with a standing write, as a set.
+    /// Returns the set of objects with a standing write.
     #[inline]
     pub fn standing(&self) -> u32 {
         self.tables.server.standing & self.setup.all_objects()
     }
 
-    /// The clients that the object's standing write waits for, as a set.
+    /// Returns the set of clients that the object's standing write waits for.
     #[inline]
     pub fn waiting(&self, object: usize) -> u16 {
         self.tables.server.write[object].waiting & self.setup.all_clients()
@@ -50,7 +50,8 @@ impl World<'_> {
         self.store_write(object, Write::NONE);
     }
 
-    /// The set's members past the client count are free slots: they stay.
+    /// Stores a write. Members of the set past the client count are free slots
+    /// and stay.
     #[inline]
     fn store_write(&mut self, object: usize, write: Write) {
         let slot = &mut self.tables.server.write[object];

@@ -5,7 +5,8 @@ mod common;
 use common::Bench;
 use model::step_record::Step;
 
-/// One client holding object 0 from clock 0, leases to 10 and 100.
+/// Returns one client that holds object 0 from clock 0 on, with leases to 10
+/// and 100.
 fn holding() -> Bench {
     let mut bench = Bench::fresh();
     bench.hold(0, 0);
@@ -51,8 +52,8 @@ fn latest_end_10_stands_at_10_and_is_complete_at_11() {
     assert_eq!(bench.state.tables.server.value[0], 7);
 }
 
-/// A row has the clock, the guard, each client's volume and object expiry, the
-/// set of those marked, and the end. VE and OE are far off in all of them.
+/// Each row has the clock, the guard, each client's volume and object expiry,
+/// the set of those marked, and the end. VE and OE are far off in all of them.
 #[test]
 fn latest_end_by_the_clients_waited_for() {
     const NO: (u32, u32) = (0, 0);

@@ -21,7 +21,7 @@ fn stored_files_and_listings_are_the_models() {
     }
 }
 
-/// The lines, honest and mistaken, in which the listings differ.
+/// Returns the lines, right and mistaken, in which the listings differ.
 fn differences(name: &str, mistakes: Mistakes) -> Vec<(String, String)> {
     let file = stored(&format!("{name}.run"));
     let honest = String::from_utf8(stored(&format!("{name}.listing"))).unwrap();

@@ -76,7 +76,7 @@ fn another_kind_is_refused() {
     }
 }
 
-/// The bytes that a kind has, of those a frame has: from 01's list.
+/// Returns whether a kind has this byte of a frame, from 01's list.
 fn has(kind: u8, place: usize) -> bool {
     match place {
         0..=2 => true,

@@ -6,7 +6,7 @@ use common::Bench;
 use model::answer::Answer;
 use model::step_record::*;
 
-/// The refusal, and that nothing was changed by it.
+/// Returns the refusal, and checks that it changed nothing.
 fn refused(bench: &mut Bench, record: Step) -> Option<u8> {
     let before = bench.state;
     match bench.step(record) {
@@ -111,8 +111,8 @@ fn question_2_before_3() {
     assert_eq!(refused(&mut bench, Step { client: 9, object: 99, place: 64, ..of_kind(10) }), Some(2));
 }
 
-/// No step uses both an item and a time, so 3 and 4 meet only in a field
-/// that is not used, and is not asked about.
+/// No step uses both an item and a time, so 3 and 4 meet only in a field that
+/// is not used and not asked about.
 #[test]
 fn question_3_beside_4() {
     let mut bench = Bench::fresh();
@@ -121,7 +121,7 @@ fn question_3_beside_4() {
     assert_eq!(refused(&mut bench, Step { client: 9, clock: 4, ..of_kind(CLOCK) }), Some(4));
 }
 
-/// 4 is about the clock step alone and 5 about the write alone.
+/// 4 is only about the clock step, and 5 only about the write.
 #[test]
 fn question_4_beside_5() {
     let mut bench = Bench::fresh();
@@ -139,8 +139,8 @@ fn question_3_before_5() {
     assert_eq!(refused(&mut bench, Step::write(4, 1)), Some(3));
 }
 
-/// A standing write at the last version is unsound already, so 5 and 6
-/// cannot both be "no"; one below it, 5 is asked and 6 would be "yes".
+/// A standing write at the last version is already unsound, so 5 and 6 cannot
+/// both be "no"; one below it, 5 is asked and 6 would be "yes".
 #[test]
 fn question_5_before_6() {
     let mut bench = Bench::fresh();

@@ -1,4 +1,4 @@
-//! What holds along the generated runs, and what they reach.
+//! What holds in the generated runs, and what they reach.
 
 use std::collections::BTreeSet;
 

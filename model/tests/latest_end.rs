@@ -1,4 +1,4 @@
-//! A3 of document 02: what holds of the latest end along the generated runs.
+//! A3 of document 02: what holds for the latest end in the generated runs.
 
 use model::gen::runs::run;
 use model::mistakes::former::old_leases_end;
@@ -6,8 +6,8 @@ use model::rules::{LatestEnd, Papers, Rules, WriteRules};
 use model::state::State;
 use model::world::World;
 
-/// Every object in every state on the way of runs of several seeds, the fresh
-/// one included.
+/// Calls `each` for every object in every state of runs of several seeds,
+/// including the fresh one.
 fn each_object(mut each: impl FnMut(&World, usize)) {
     for run in [1, 5, 11, 21].into_iter().flat_map(|seed| (0..200).map(move |number| run(seed, number))) {
         let mut state = State::fresh();
@@ -22,7 +22,7 @@ fn each_object(mut each: impl FnMut(&World, usize)) {
     }
 }
 
-/// That of a write that would be accepted now.
+/// Returns the latest end of a write that would be accepted now.
 fn latest_end(world: &World, object: usize) -> u32 {
     Papers.latest_end(world, object, Papers.to_wait_for(world, object))
 }

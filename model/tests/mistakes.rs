@@ -1,4 +1,4 @@
-//! For every mistake that a run can show, the runs of the fixed seed hold one
+//! For every mistake that a run can show, the runs of the fixed seed have one
 //! whose listing it changes; the others change none.
 
 use model::gen::runs::run;

@@ -95,7 +95,7 @@ fn unused_fields_of_a_known_kind_must_be_0() {
     }
 }
 
-/// Each file has one thing wrong, and that is told.
+/// Each file has one thing wrong, and that is the reason given.
 #[test]
 fn the_reason_is_the_first_thing_wrong() {
     let file = write(b"a note", &common::setup(), &steps(2));

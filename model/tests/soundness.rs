@@ -27,7 +27,7 @@ fn stand(bench: &mut Bench, object: usize, latest_end: u32) {
     bench.state.tables.server.write[object].latest_end = latest_end;
 }
 
-/// Tables with leases, a standing write and messages under way.
+/// Returns tables with leases, a standing write and messages under way.
 fn in_use() -> Bench {
     let mut bench = Bench::fresh();
     bench.hold(1, 0);
@@ -36,8 +36,8 @@ fn in_use() -> Bench {
     bench
 }
 
-/// A step that no later question refuses. Its answer is not 1 exactly when
-/// the tables are sound.
+/// Returns whether the changed tables are sound, by a step that no later
+/// question refuses: its answer is 1 exactly if they are not.
 fn is_sound(change: Change) -> bool {
     let mut bench = in_use();
     change(&mut bench);

@@ -1,5 +1,5 @@
-//! The program `test_step_cases` prints what the model answers to the same cases and
-//! leaves, and the cases would show each mistake.
+//! The program `test_step_cases` prints what the model answers and leaves for
+//! the same cases, and the cases would show each mistake.
 
 use std::fs;
 use std::path::Path;
@@ -26,12 +26,13 @@ fn every_mistake_changes_the_lines() {
     assert!(missed.is_empty(), "not found: {missed:?}");
 }
 
-/// A row in use that is no message, at the first, the last and other places.
+/// Returns whether a row in use is no message: the first, the last or another
+/// one.
 fn has_wrong_row(case: u32) -> bool {
     (1501..=1536).contains(&case) || (1601..=1653).contains(&case)
 }
 
-/// Such a row past the list's length.
+/// Returns whether such a row is past the list's length.
 fn has_wrong_free_row(case: u32) -> bool {
     (1541..=1556).contains(&case) || (1654..=1657).contains(&case)
 }

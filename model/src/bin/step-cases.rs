@@ -1,4 +1,5 @@
-//! Prints the model's answers to the cases on standard input, and what it left.
+//! Prints the model's answers to the cases on standard input, and what each
+//! step left.
 
 use std::io::{self, Read};
 

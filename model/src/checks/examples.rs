@@ -1,12 +1,12 @@
-//! The runs stored in the repository's examples folder: 01's own, one for
-//! each line of the customer's test sheet, and the notice desk's of 02, A3.
+//! The runs in the repository's examples folder: 01's own, one for each line of
+//! the customer's test sheet, and the notice desk's of 02, A3.
 
 use crate::gen::runs::Run;
 use crate::gen::setups::sized;
 use crate::step_record::Step;
 
 pub struct Example {
-    /// The files' name, without what follows the dot.
+    /// The name of the files, without the extension.
     pub name: &'static str,
     pub run: Run,
 }
@@ -34,7 +34,7 @@ fn example(
 }
 
 /// Asks and delivers at this place until the client holds the object: twice,
-/// since a client that knows no epoch is made an offer first.
+/// since a client that knows no epoch gets an offer first.
 fn hold(client: u8, object: u8, place: u8) -> Vec<Step> {
     let (ask, deliver) = (Step::ask(client, object), Step::deliver(place));
     vec![ask, deliver, deliver, deliver, ask, deliver, deliver]
@@ -47,9 +47,9 @@ fn document() -> Vec<Step> {
     [&[read][..], &hold(0, 0, 0), &change].concat()
 }
 
-/// Away from 10 to 130, an object written meanwhile. The volume lease lasts
-/// one minute, the object lease five. Afterwards the volume is renewed by
-/// another object.
+/// A client is away from 10 to 130, and an object is written meanwhile. The
+/// volume lease lasts one minute, the object lease five. Afterwards the volume
+/// is renewed through another object.
 fn one_lease_alone() -> Example {
     let read = Step::read(0, 0);
     let away = [Step::clock(10), Step::write(0, 7), Step::lose(0), Step::clock(61), Step::clock(130), read];
@@ -62,7 +62,8 @@ fn one_lease_alone() -> Example {
     example
 }
 
-/// Object 0 is written at 2, its INVALIDATE lost, object 1 renewed at 8.
+/// Object 0 is written at 2 and its INVALIDATE is lost; object 1 is renewed at
+/// 8.
 fn renew_while_waiting() -> Vec<Step> {
     let both = [&hold(0, 0, 0)[..], &[Step::ask(0, 1), Step::deliver(0), Step::deliver(0), Step::read(0, 0)]]
         .concat();

@@ -1,6 +1,6 @@
 //! Plausible mistakes, to show that the generated runs would find each of them
-//! or, where no run can, the stored cases of single steps. A mistake is a small
-//! type with a rule of its own in place of one of the papers'.
+//! or, if no run can, the stored cases of single steps. A mistake is a small
+//! type that replaces one of the papers' rules.
 
 use crate::answer::Answer;
 use crate::cases::RowRules;
@@ -9,7 +9,7 @@ use crate::step_record::Step;
 use crate::world::World;
 
 /// Rules chosen at run time: the papers' or those of a mistake. The choice is
-/// made once, where a step is taken; the rules themselves know of none.
+/// made once, where a step is taken; the rules themselves know nothing of it.
 #[derive(Clone, Copy)]
 pub struct Mistakes {
     step: fn(&mut World, &Step) -> Answer,
@@ -19,10 +19,10 @@ pub struct Mistakes {
 impl Mistakes {
     pub const NONE: Mistakes = Mistakes { step: |world, step| Papers.step(world, step), rows: &Papers };
 
-    /// Those that change the listings of runs.
+    /// The mistakes that change the listings of runs.
     pub const IN_RUNS: &'static [(&'static str, Mistakes)] = Self::EACH.split_at(SHOWN).0;
 
-    /// Those that change nothing in any state that a run reaches.
+    /// The mistakes that change nothing in any state that a run reaches.
     pub const NOT_IN_RUNS: &'static [(&'static str, Mistakes)] = Self::EACH.split_at(SHOWN).1;
 
     pub fn named(name: &str) -> Mistakes {
@@ -170,8 +170,8 @@ list! {
     }
 
     rows {
-        // A row of the message list that is in use and is no message. Only tables
-        // that are handed over have one.
+        // A row of the message list that is in use but is no message. Only
+        // tables that are handed over have one.
         row_of_kind_0,
         row_of_kind_above_6,
         row_kind_low_byte,

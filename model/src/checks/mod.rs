@@ -1,6 +1,6 @@
-//! What model and product are checked by, apart from the model itself: runs and
-//! calls that are generated, cases of single steps, stored examples, mistakes
-//! that all of these must find, and what makes a failing file small.
+//! What model and product are checked with, apart from the model itself:
+//! generated runs and calls, cases of single steps, stored examples, mistakes
+//! that all of these must find, and a way to make a failing file small.
 
 pub mod cases;
 pub mod examples;

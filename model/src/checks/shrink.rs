@@ -5,7 +5,7 @@ use crate::setup::Setup;
 use crate::step_record::Step;
 use crate::unchecked_writer::write;
 
-/// How often the failure may be tried: each try may start a program.
+/// How often the failure may be tried, since each try may start a program.
 const TRIES: usize = 3_000;
 
 struct Shrinker<F> {
@@ -13,7 +13,7 @@ struct Shrinker<F> {
     tries: usize,
 }
 
-/// The smallest file found for which `fails` still holds.
+/// Returns the smallest file found for which `fails` still holds.
 pub fn shrink(file: &[u8], fails: impl FnMut(&[u8]) -> bool) -> Vec<u8> {
     let mut shrinker = Shrinker { fails, tries: TRIES };
     match read(file) {
@@ -58,8 +58,8 @@ impl<F: FnMut(&[u8]) -> bool> Shrinker<F> {
     }
 }
 
-/// Drops pieces, half of the list at first, then ever smaller ones. It goes
-/// from the end, since what comes late hangs on what comes before.
+/// Drops pieces, first half of the list, then smaller and smaller ones. It
+/// starts from the end, since later steps depend on earlier ones.
 fn drop_pieces<T: Clone>(mut list: Vec<T>, mut still: impl FnMut(&[T]) -> bool) -> Vec<T> {
     let mut size = list.len().div_ceil(2).max(1);
     loop {
@@ -79,7 +79,8 @@ fn drop_pieces<T: Clone>(mut list: Vec<T>, mut still: impl FnMut(&[T]) -> bool) 
     }
 }
 
-/// Drops two steps at a time: an ask and its delivery go only together.
+/// Drops two steps at a time, since an ask and its delivery can only go
+/// together.
 fn drop_pairs(mut steps: Vec<Step>, mut still: impl FnMut(&[Step]) -> bool) -> Vec<Step> {
     let mut first = 0;
     while first < steps.len() && steps.len() <= 40 {
@@ -97,7 +98,7 @@ fn drop_pairs(mut steps: Vec<Step>, mut still: impl FnMut(&[Step]) -> bool) -> V
     steps
 }
 
-/// Drops a step that sends: later places move down by one.
+/// Drops a step that sends, and moves later places down by one.
 fn drop_senders(mut steps: Vec<Step>, mut still: impl FnMut(&[Step]) -> bool) -> Vec<Step> {
     for place in (0..steps.len()).rev() {
         let mut fewer = steps.clone();
@@ -110,7 +111,7 @@ fn drop_senders(mut steps: Vec<Step>, mut still: impl FnMut(&[Step]) -> bool) ->
     steps
 }
 
-/// Each field of each step as 0, each value as 1.
+/// Sets each field of each step to 0, each value to 1.
 fn simpler_steps(mut steps: Vec<Step>, mut still: impl FnMut(&[Step]) -> bool) -> Vec<Step> {
     let changes: [fn(&mut Step); 6] = [
         |step| step.client = 0,
@@ -132,7 +133,7 @@ fn simpler_steps(mut steps: Vec<Step>, mut still: impl FnMut(&[Step]) -> bool) -
     steps
 }
 
-/// Fewer clients, volumes and objects, and 01's ticks.
+/// Tries fewer clients, volumes and objects, and 01's ticks.
 fn simpler_setup(mut setup: Setup, mut still: impl FnMut(&Setup) -> bool) -> Setup {
     let changes: [fn(&mut Setup); 6] = [
         |setup| setup.clients -= 1,
@@ -155,7 +156,7 @@ fn simpler_setup(mut setup: Setup, mut still: impl FnMut(&Setup) -> bool) -> Set
     setup
 }
 
-/// The last object goes, and with it its volume byte.
+/// Removes the last object and its volume byte.
 fn one_object_less(setup: &mut Setup) {
     setup.objects -= 1;
     setup.volume_of[usize::from(setup.objects)] = 0;
@@ -176,7 +177,8 @@ mod tests {
         let short = shrink(&long, fails);
         assert!(fails(&short));
         let steps = read(&short).unwrap().len();
-        // Nine are needed: ask, deliver thrice, ask, deliver twice, write, clock.
+        // Nine are needed: an ask, three deliveries, an ask, two deliveries, a
+        // write and a clock step.
         assert!(steps <= 12, "{steps} steps");
     }
 

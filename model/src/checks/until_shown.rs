@@ -1,8 +1,8 @@
 //! How soon a client shows an object again (02, A1): it asks, everything is
 //! delivered at place 0, and it asks once more after a DROPPED.
 //!
-//! The claim is about reachable states, which only the caller can know of:
-//! where the premises hold, the read is shown after the steps claimed.
+//! The claim is about reachable states, which only the caller knows: if the
+//! premises hold, the read is shown after the steps claimed.
 
 use crate::answer::Answer;
 use crate::bits::members;
@@ -11,25 +11,27 @@ use crate::mistakes::Mistakes;
 use crate::step_record::Step;
 use crate::world::World;
 
-/// Far past every claim. It ends here under any mistake, and from a full list.
+/// Far beyond every claim. It ends here under any mistake, and from a full
+/// list.
 const MOST_STEPS: u32 = 64;
 
-/// The last next number from which two asks are accepted: question 6 asks
-/// each of them for one below 4,294,967,295.
+/// The last next number from which two asks are accepted: question 6 wants each
+/// of them below 4,294,967,295.
 const LAST_NEXT: u32 = u32::MAX - 2;
 
-/// An ask that is granted: RENEW and GRANT are delivered.
+/// The steps of an ask that is granted: RENEW and GRANT are delivered.
 const GRANTED: u32 = 3;
 
-/// An ask that is offered: RENEW, OFFER and DROPPED are delivered.
+/// The steps of an ask that is offered: RENEW, OFFER and DROPPED are delivered.
 const OFFERED: u32 = 4;
 
-/// How it went, and what the read answered then.
+/// How it went, and what the read then answered.
 #[derive(Clone, Copy, Debug, PartialEq, Eq)]
 pub struct Ending {
-    /// Asks and deliveries that were accepted.
+    /// The asks and deliveries that were accepted.
     pub steps: u32,
-    /// The first ask or delivery that was not ends it.
+    /// The refusal of the first ask or delivery that was not accepted, which
+    /// ends it.
     pub refused: Option<u8>,
     /// The message delivered last.
     pub delivered: Option<Message>,
@@ -45,7 +47,7 @@ impl Ending {
         self.refused.is_none() && self.steps < MOST_STEPS
     }
 
-    /// Takes in the answer of an ask or a delivery.
+    /// Counts the answer to an ask or a delivery.
     fn count(&mut self, answer: Answer) {
         match answer {
             Answer::Refused(number) => {
@@ -60,7 +62,8 @@ impl Ending {
 }
 
 impl World<'_> {
-    /// What 02 asks of the state beside its being reachable.
+    /// Returns whether the state meets 02's premises, except that it is
+    /// reachable.
     pub fn until_shown_premises(&self, client: u8, object: u8) -> bool {
         let volume = self.setup.volume(object.into());
         self.tables.queue.len == 0
@@ -72,8 +75,8 @@ impl World<'_> {
         members(self.standing()).any(|object| self.setup.volume(object) == volume)
     }
 
-    /// The asks and deliveries that 02 claims to be enough. The mark is what
-    /// the server holds, the known epoch what the client does.
+    /// Returns how many asks and deliveries are enough according to 02. The
+    /// mark is what the server holds, the known epoch what the client does.
     pub fn until_shown_claim(&self, client: u8, object: u8) -> u32 {
         let (client, volume) = (usize::from(client), self.setup.volume(object.into()));
         let server = &self.tables.server;
@@ -87,8 +90,8 @@ impl World<'_> {
     }
 }
 
-/// Asks, delivers, and does so once more after a DROPPED of this client. It
-/// asks although the copy may be alive, or a request stand.
+/// Asks and delivers, and does so once more after a DROPPED of this client. It
+/// asks even if the copy is alive or a request stands.
 pub fn until_shown(rules: Mistakes, world: &mut World, client: u8, object: u8) -> Ending {
     let mut ending = Ending::NONE;
     let dropped = ask_and_deliver(rules, world, client, object, &mut ending);
@@ -100,7 +103,8 @@ pub fn until_shown(rules: Mistakes, world: &mut World, client: u8, object: u8) -
     ending
 }
 
-/// Whether a DROPPED of this client was among the deliveries.
+/// Asks and delivers everything. Returns whether a DROPPED of this client was
+/// among the deliveries.
 fn ask_and_deliver(rules: Mistakes, world: &mut World, client: u8, object: u8, ending: &mut Ending) -> bool {
     let mut dropped = false;
     ending.count(rules.step(world, &Step::ask(client, object)));

@@ -1,4 +1,5 @@
-//! GRANT at the client (01, Messages received, as A4 of document 02 has it).
+//! GRANT at the client (01, Messages received, as changed by A4 of document
+//! 02).
 
 use crate::message::Grant;
 use crate::world::World;

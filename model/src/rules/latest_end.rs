@@ -1,4 +1,4 @@
-//! The latest end of a write (01, Steps 4, as A3 of document 02 has it).
+//! The latest end of a write (01, Steps 4, as changed by A3 of document 02).
 
 use crate::bits::members;
 use crate::world::World;
@@ -13,7 +13,7 @@ pub trait LatestEnd {
         timeout.max(guard).max(self.leases_end(world, object, waiting))
     }
 
-    /// The greatest "over the waiting dashes".
+    /// Returns the greatest "over the waiting dashes".
     fn leases_end(&self, world: &World, object: usize, waiting: u16) -> u32 {
         let server = &world.tables.server;
         let by_volume = &server.volume_expiry[world.setup.volume(object)];

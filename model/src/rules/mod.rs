@@ -1,7 +1,7 @@
 //! The rules of document 01, with A3 and A4 of document 02: a trait for each
-//! part of the papers, a method for each rule, in the papers' words. A method
-//! can be overridden, and that is what a mistake does (`mistakes`). The rules
-//! are a type, so a call of one costs what a call of a plain function does.
+//! part of the papers, a method for each rule, in the papers' words. A mistake
+//! overrides a method (`mistakes`). The rules are a type, so calling one costs
+//! no more than calling a plain function.
 
 mod client;
 mod gate;
@@ -24,7 +24,7 @@ use crate::message::{Kind, Message};
 use crate::step_record::*;
 use crate::world::World;
 
-/// All of the rules, and which of them a step or a message calls for.
+/// All the rules, and which of them a step or a message calls for.
 pub trait Rules: Gate + ClientRules + GrantRules + ServerRules {
     /// Asks questions 2 to 6, then takes the step.
     fn step(&self, world: &mut World, step: &Step) -> Answer {
@@ -61,8 +61,8 @@ pub trait Rules: Gate + ClientRules + GrantRules + ServerRules {
         Answer::Delivered { message, completed }
     }
 
-    /// Gives a message to whom it is for, and counts the writes that this
-    /// completes. "Each message names its dash."
+    /// Hands a message to its receiver and returns the number of writes that
+    /// this completes. "Each message names its dash."
     fn receive(&self, world: &mut World, message: &Message) -> u32 {
         let client = usize::from(message.client);
         match message.kind {

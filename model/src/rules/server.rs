@@ -59,8 +59,8 @@ pub trait ServerRules: WriteRules {
         self.send(world, client, Kind::Offer { volume: volume as u8, number, epoch });
     }
 
-    /// The lowest object of the volume whose standing write waits for this
-    /// client.
+    /// Returns the lowest object of the volume whose standing write waits for
+    /// this client.
     fn lowest_waited(&self, world: &World, client: usize, volume: usize) -> Option<usize> {
         waited_in(world, client, volume).next()
     }
@@ -179,8 +179,8 @@ pub trait ServerRules: WriteRules {
     }
 }
 
-/// The objects of the volume whose standing writes wait for this client, the
-/// lowest first.
+/// Returns the objects of the volume whose standing writes wait for this
+/// client, lowest first.
 pub fn waited_in<'a>(world: &'a World, client: usize, volume: usize) -> impl Iterator<Item = usize> + 'a {
     members(world.standing())
         .filter(move |&object| world.setup.volume(object) == volume)

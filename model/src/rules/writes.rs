@@ -1,5 +1,5 @@
-//! Writes: how they begin, whom they wait for, and when they complete (01,
-//! Steps 1 and 4, and the paragraph below the steps).
+//! Writes: how they begin, which clients they wait for, and when they complete
+//! (01, Steps 1 and 4, and the paragraph below the steps).
 
 use crate::bits::members;
 use crate::limits::CLIENTS;
@@ -77,7 +77,8 @@ pub trait WriteRules: NetworkRules + LatestEnd {
         alive_set(&world.tables.server.volume_expiry[volume], world.tables.clock)
     }
 
-    /// The version is the one that the write will give the object.
+    /// Sends an INVALIDATE with the version that the write will give the
+    /// object.
     fn send_invalidate(&self, world: &mut World, client: usize, object: usize) {
         let server = &world.tables.server;
         let epoch = server.epoch[world.setup.volume(object)];
@@ -85,7 +86,8 @@ pub trait WriteRules: NetworkRules + LatestEnd {
         self.send(world, client, Kind::Invalidate { object: object as u8, epoch, version });
     }
 
-    /// "Complete if none waits and the clock is at or past guard": 1 if so.
+    /// "Complete if none waits and the clock is at or past guard." Returns 1 if
+    /// it did.
     #[inline]
     fn complete_if_free(&self, world: &mut World, object: usize) -> u32 {
         let free = self.is_free(world, object);
@@ -109,7 +111,7 @@ pub trait WriteRules: NetworkRules + LatestEnd {
     }
 }
 
-/// The slots whose lease is alive, as a set.
+/// Returns the set of slots whose lease is alive.
 #[inline]
 pub fn alive_set(expiries: &[u32; CLIENTS], clock: u32) -> u16 {
     let mut set = 0;

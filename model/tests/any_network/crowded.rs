@@ -33,7 +33,7 @@ fn pairs() -> impl Iterator<Item = (u8, u8)> {
     (0..CLIENTS).flat_map(|client| (0..OBJECTS).map(move |object| (client, object)))
 }
 
-/// Lets these messages arrive, and gives those that were sent meanwhile.
+/// Lets these messages arrive, and returns those that were sent meanwhile.
 fn arrive(run: &mut Watched, places: impl Iterator<Item = usize>) -> Vec<usize> {
     let before = run.network.sent.len();
     for place in places {
@@ -50,8 +50,8 @@ fn all_differ(messages: &[Message]) -> bool {
     messages.iter().enumerate().all(|(place, message)| !messages[..place].contains(message))
 }
 
-/// Of a client's RENEWs that come last first, the server answers one; when they
-/// come again, it answers none.
+/// Of a client's RENEWs that arrive last first, the server answers one; when
+/// they arrive again, it answers none.
 #[test]
 fn eighty_renews_arrive_the_last_first() {
     let mut run = fresh();
@@ -81,7 +81,7 @@ fn all_hold_all(run: &mut Watched) {
 }
 
 /// Every INVALIDATE of five writes arrives, and so does every ACK: each write
-/// is complete with its last one.
+/// completes with its last one.
 #[test]
 fn five_writes_wait_for_eighty_acks() {
     let mut run = fresh();
@@ -103,7 +103,7 @@ fn five_writes_wait_for_eighty_acks() {
     assert!(most_under_way(&run) >= ALL);
 }
 
-/// The same in the list of 64: the INVALIDATEs past its end are lost, and the
+/// The same with the list of 64: the INVALIDATEs past its end are lost, and the
 /// last write is left waiting.
 #[test]
 fn the_list_of_64_loses_some_of_them() {

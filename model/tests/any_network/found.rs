@@ -8,7 +8,7 @@ use crate::random_runs::plain;
 use crate::scenes::{all, Scene};
 use crate::watched::Watched;
 
-/// A scene is played so often, and has to show a wrong value in most of them.
+/// How often a scene is played. It must show a wrong value in most of the runs.
 const SEEDS: u64 = 400;
 const FLOOR: usize = 300;
 
@@ -25,8 +25,9 @@ const AIMED_AT: [&str; 7] = [
     "client_restart_resets_number",
 ];
 
-/// Wrong rules that moves by chance find often enough: what a client may show
-/// and take, whom a write waits for, and what the server keeps at a restart.
+/// Wrong rules that random moves find often enough: what a client may show and
+/// take, which clients a write waits for, and what the server keeps at a
+/// restart.
 const BY_CHANCE: [&str; 21] = [
     "read_without_volume_lease",
     "read_without_object_lease",
@@ -51,8 +52,8 @@ const BY_CHANCE: [&str; 21] = [
     "time_goes_back",
 ];
 
-/// The very moves that led a wrong rule astray break nothing under the right
-/// ones, nor does the scene as the right rules play it.
+/// Checks that the moves that led a wrong rule astray break nothing under the
+/// right ones, and neither does the scene as the right rules play it.
 fn right_rules_hold(scene: &Scene, seed: u64, mistaken: &Watched) {
     for run in [mistaken.again(Mistakes::NONE), scene.run(Mistakes::NONE, seed)] {
         assert_eq!(run.breach, None, "{}, seed {seed}: {:?}", scene.mistake, run.moves);
@@ -81,7 +82,8 @@ fn there_is_a_scene_for_each() {
     }
 }
 
-/// The first random run that breaks such a promise under the wrong rule.
+/// Returns the first random run that breaks such a promise under the wrong
+/// rule.
 fn found_by_chance(mistake: &str, such: fn(Breach) -> bool) -> Option<u64> {
     let rules = Mistakes::named(mistake);
     (0..300).find(|&seed| plain(rules, seed).breach.is_some_and(|(_, breach)| such(breach)))
@@ -96,7 +98,7 @@ fn random_moves_find_more_wrong_rules() {
     }
 }
 
-/// Writes that last too long, get lost, or are another than was accepted.
+/// Writes that last too long, get lost, or differ from what was accepted.
 #[test]
 fn random_moves_find_what_breaks_other_promises() {
     let late = found_by_chance("waits_forever", |breach| matches!(breach, Breach::Late { .. }));
@@ -105,8 +107,8 @@ fn random_moves_find_what_breaks_other_promises() {
     assert!(late.is_some() && sum.is_some() && other.is_some(), "{late:?} {sum:?} {other:?}");
 }
 
-/// Where a mistake changes nothing in any run of the list, it changes nothing
-/// here either.
+/// If a mistake changes nothing in any run of the list, it changes nothing here
+/// either.
 #[test]
 fn what_no_run_shows_is_not_shown_here() {
     for seed in 0..20 {

@@ -15,8 +15,8 @@ pub struct Open {
     pub latest_end: u32,
 }
 
-/// Learns from the server which writes stand, and never what it has stored.
-/// So a wrong rule is held to what it completed itself.
+/// Learns from the server which writes stand, but never what it has stored. So
+/// a wrong rule is compared with what it completed itself.
 #[derive(Clone, Debug, PartialEq, Eq)]
 pub struct Ledger {
     pub posted: [u64; OBJECTS],
@@ -24,7 +24,7 @@ pub struct Ledger {
     pub accepted: usize,
     pub completed: usize,
     pub cut_off: usize,
-    /// Completed writes that the answers told of.
+    /// Completed writes that the answers reported.
     pub reported: usize,
 }
 
@@ -35,12 +35,12 @@ pub enum Breach {
     Shown { client: u8, object: u8, shown: u64, posted: u64 },
     /// The server's value is not the posted one.
     Value { object: u8, value: u64, posted: u64 },
-    /// Where the ledger has an open write the server has none, or another one,
-    /// or the other way round.
+    /// Where the ledger has an open write the server has none, or a different
+    /// one, or the other way round.
     Standing { object: u8 },
     /// A write is open after a clock step past its latest end.
     Late { object: u8, latest_end: u32, clock: u32 },
-    /// More or fewer completed writes than the answers told of.
+    /// More or fewer completed writes than the answers reported.
     Reported { completed: usize, reported: usize },
     /// Accepted is not completed + cut off + open.
     Sum { accepted: usize, completed: usize, cut_off: usize, open: usize },
@@ -64,8 +64,8 @@ impl Ledger {
         self.open.iter().flatten().count()
     }
 
-    /// Books a move. The latest end is that of a write, by the tables before it.
-    /// A refused move changes nothing.
+    /// Books a move. `latest_end` is that of a write, from the tables before
+    /// it. A refused move changes nothing.
     pub fn book(&mut self, next: Move, answer: Answer, latest_end: u32, server: &Server) {
         match (next, answer) {
             (_, Answer::Refused(_)) => return,
@@ -85,7 +85,7 @@ impl Ledger {
         }
     }
 
-    /// An open write that stands no longer has completed.
+    /// Closes each open write that no longer stands: it has completed.
     fn close(&mut self, server: &Server) {
         for object in 0..OBJECTS {
             if let Some(open) = self.open[object].take_if(|_| !server.stands(object)) {
@@ -96,8 +96,9 @@ impl Ledger {
     }
 }
 
-/// The latest end of a write accepted now (02, A3): the greatest of clock + m,
-/// guard and, of each client waited for, the lesser of its two leases.
+/// Returns the latest end of a write accepted now (02, A3): the greatest of
+/// clock + m, guard and, over the clients waited for, the lesser of the two
+/// leases.
 pub fn latest_end(setup: &Setup, tables: &Tables, object: usize) -> u32 {
     let (volume, server) = (setup.volume(object), &tables.server);
     let ends = members(setup.all_clients().into()).map(|client| {

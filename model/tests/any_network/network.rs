@@ -22,7 +22,7 @@ pub enum Move {
 }
 
 /// Keeps every message ever sent, so any of them may arrive at any time, any
-/// number of times, or never. Server and clients go by the model's own steps.
+/// number of times, or never. Server and clients take the model's own steps.
 #[derive(Clone)]
 pub struct Network {
     pub rules: Mistakes,
@@ -43,8 +43,8 @@ impl Network {
     }
 
     /// Takes a step of the model, with all six questions, on a list that holds
-    /// what arrives and nothing else. What was not sent cannot arrive: that is
-    /// refused with 3.
+    /// only what arrives. What was not sent cannot arrive: that is refused with
+    /// 3.
     pub fn make(&mut self, next: Move) -> Answer {
         let step = match next {
             Move::Own(step) => step,
@@ -67,8 +67,8 @@ impl Network {
         sound(setup, &state.tables, state.copies(setup), state.requests(setup))
     }
 
-    /// Keeps what the step sent: at most one message to each client, so the list
-    /// never gets full and loses nothing.
+    /// Keeps what the step sent: at most one message to each client, so the
+    /// list never gets full and loses nothing.
     fn keep_sent(&mut self) {
         let messages = self.state.tables.queue.messages();
         assert!(messages.len() <= CLIENTS, "{} messages in one step", messages.len());

@@ -1,5 +1,6 @@
-//! What the network's promise asks of the world outside, each shown by hand
-//! where it is broken, and what storage may do instead of keeping everything.
+//! What the network's promise demands of the outside world, each premise shown
+//! by hand where it is broken, and what storage may do instead of keeping
+//! everything.
 
 use model::answer::Answer;
 use model::gen::rng::Rng;
@@ -14,14 +15,15 @@ use crate::random_moves;
 use crate::scenes::acknowledged_write;
 use crate::stage::Stage;
 
-/// One client that holds the one object.
+/// Returns a stage with one client that holds the one object.
 fn holding() -> Stage {
     let mut stage = Stage::new(Rng::new(0), Mistakes::NONE, sized(1, 1, 1));
     stage.hold(0, 0).expect("held");
     stage
 }
 
-/// The write ended without the client, which still has the old copy.
+/// Returns a stage after a write ended without the client, which still has the
+/// old copy.
 fn written_without_client() -> Stage {
     let mut stage = holding();
     stage.write(0);
@@ -45,8 +47,8 @@ fn a_message_that_nobody_sent() {
     assert!(stage.run.shows_wrong());
 }
 
-/// A client reads by a time that is not before the server's clock. By any such
-/// time it shows no old copy, by an earlier one it does.
+/// A client reads at a time that is not before the server's clock. At any such
+/// time it shows no old copy, at an earlier one it does.
 #[test]
 fn a_client_whose_clock_is_behind() {
     let mut stage = written_without_client();
@@ -73,7 +75,7 @@ fn a_value_stored_without_its_version() {
     assert!(stage.run.shows_wrong());
 }
 
-/// Tables that anybody else has written to are noticed.
+/// Tables that somebody else has written to are noticed.
 #[test]
 fn tables_changed_from_outside() {
     let mut stage = holding();
@@ -86,8 +88,8 @@ fn tables_changed_from_outside() {
     assert!(matches!(stage.run.breach, Some((_, Breach::Refused(1)))));
 }
 
-/// Before a restart: the server takes any VE up to clock + tv for the one it
-/// had, and a client any higher number for its next one.
+/// Before a restart, lets the server take any VE up to clock + tv for the one
+/// it had, and a client any higher number for its next one.
 fn store_loosely(stage: &mut Stage, kind: u8, client: u8) {
     let (setup, now) = (*stage.setup(), stage.now());
     let (rng, network) = (&mut stage.rng, &mut stage.run.network);

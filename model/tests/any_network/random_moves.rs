@@ -1,4 +1,4 @@
-//! Moves by chance.
+//! Random moves.
 
 use model::step_record::Step;
 
@@ -24,7 +24,7 @@ fn ask(stage: &mut Stage) -> Move {
     Move::Own(Step::ask(stage.any_client(), stage.any_object()))
 }
 
-/// Writes, clock steps, restarts, and steps that change nothing.
+/// Returns writes, clock steps, restarts, and steps that change nothing.
 fn own(stage: &mut Stage) -> Move {
     let (client, object) = (stage.any_client(), stage.any_object());
     Move::Own(match stage.rng.below(20) {
@@ -38,7 +38,8 @@ fn own(stage: &mut Stage) -> Move {
     })
 }
 
-/// Mostly one of the newest messages, often any one, seldom one not sent yet.
+/// Returns mostly one of the newest messages, often any one, seldom one not
+/// sent yet.
 fn arrival(stage: &mut Stage) -> Move {
     let len = stage.sent().len();
     let back = match stage.rng.below(20) {
@@ -50,9 +51,9 @@ fn arrival(stage: &mut Stage) -> Move {
     Move::Arrival(len.saturating_sub(back))
 }
 
-/// Many steps of clients and server while nothing arrives; then most of what
-/// was sent, and of what comes of it, in any order, with older messages in
-/// between.
+/// Takes many steps of clients and server while nothing arrives; then most of
+/// what was sent, and of what follows from it, in any order, with older
+/// messages in between.
 pub fn storm(stage: &mut Stage, steps: usize) {
     let before = stage.sent().len();
     for _ in 0..steps {

@@ -14,7 +14,7 @@ use crate::stage::Stage;
 use crate::under_way::{arrivals, most_under_way};
 use crate::watched::Watched;
 
-/// Messages in no order at all, in setups of every size.
+/// Runs messages in no order at all, in setups of every size.
 pub fn plain(rules: Mistakes, seed: u64) -> Watched {
     let mut rng = Rng::new(seed);
     let setup = setups::any(&mut rng);
@@ -23,7 +23,7 @@ pub fn plain(rules: Mistakes, seed: u64) -> Watched {
     stage.run
 }
 
-/// Sixteen clients, and many more messages under way than 64.
+/// Runs sixteen clients, with many more than 64 messages under way.
 fn storms(rules: Mistakes, seed: u64) -> Watched {
     let mut rng = Rng::new(seed);
     let mut setup = setups::any(&mut rng);
@@ -35,13 +35,13 @@ fn storms(rules: Mistakes, seed: u64) -> Watched {
     stage.run
 }
 
-/// What runs reached together.
+/// What the runs reached together.
 #[derive(Debug, Default)]
 struct Reached {
     runs: usize,
     moves: usize,
-    /// Messages sent, those of them that never arrived, and arrivals past the
-    /// first one.
+    /// Messages sent, those of them that never arrived, and arrivals after the
+    /// first.
     sent: usize,
     lost: usize,
     again: usize,
@@ -69,7 +69,8 @@ impl AddAssign<&Watched> for Reached {
     }
 }
 
-/// Past every latest end, all that was accepted is complete or cut off.
+/// Checks that past every latest end, all that was accepted is complete or cut
+/// off.
 fn finish(run: &mut Watched) {
     let last = run.ledger.open.iter().flatten().map(|open| open.latest_end).max();
     let clock = run.network.state.tables.clock;

@@ -1,5 +1,5 @@
 //! Runs of the list of 64, replayed on the network: the same answers. What is
-//! delivered arrives, what is lost never does, and what is doubled may come
+//! delivered arrives, what is lost never does, and what is doubled may arrive
 //! once more.
 
 use model::answer::Answer;
@@ -19,7 +19,7 @@ struct Both {
     setup: Setup,
     listed: State,
     watched: Watched,
-    /// For each place of the list, where its message stands among all sent.
+    /// For each place of the list, the index of its message among all sent.
     places: Vec<usize>,
 }
 
@@ -35,7 +35,8 @@ impl Both {
         (listed, self.replay(record))
     }
 
-    /// A step that finds its message is an arrival, or no move at all.
+    /// Replays a step. One that finds its message is an arrival, or no move at
+    /// all.
     fn replay(&mut self, record: &Step) -> Answer {
         let (place, sent) = (usize::from(record.place), self.watched.network.sent.len());
         let found = self.places.get(place).copied();
@@ -59,7 +60,8 @@ impl Both {
         answer
     }
 
-    /// Everything but the list is the same, and the list has the same messages.
+    /// Returns whether everything except the list is the same, and the list has
+    /// the same messages.
     fn same(&self) -> bool {
         let mut replayed = self.watched.network.state;
         replayed.tables.queue = self.listed.tables.queue;

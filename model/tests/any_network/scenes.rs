@@ -11,7 +11,7 @@ use crate::watched::Watched;
 use crate::{random_moves, scenes_answers, scenes_requests, scenes_traps};
 
 pub struct Scene {
-    /// The wrong rule that it finds.
+    /// The wrong rule that the scene finds.
     pub mistake: &'static str,
     /// Volume lease, object lease and timeout.
     pub ticks: fn(&mut Rng) -> (u32, u32, u32),
@@ -31,8 +31,8 @@ pub fn all() -> impl Iterator<Item = &'static Scene> {
 }
 
 impl Scene {
-    /// Plays it under these rules, with a setup, moves before it and moves in
-    /// between by this seed.
+    /// Plays the scene under these rules, with the setup, the moves before it
+    /// and the moves in between from this seed.
     pub fn run(&self, rules: Mistakes, seed: u64) -> Watched {
         let mut rng = Rng::new(seed);
         let setup = self.setup(&mut rng);
@@ -43,12 +43,12 @@ impl Scene {
         let (client, object) = (stage.any_client(), stage.rng.below(2) as u8);
         (stage.noise, stage.spared) = (stage.rng.pick(&[0, 15, 40]), Some(client));
         let cast = Cast { client, object, other: 1 - object };
-        // Where the moves in between take a message away, the scene just ends.
+        // If the moves in between take a message away, the scene just ends.
         let _ = (self.play)(&mut stage, cast);
         stage.run
     }
 
-    /// Objects 0 and 1 are always in one volume.
+    /// Returns a setup. Objects 0 and 1 are always in one volume.
     fn setup(&self, rng: &mut Rng) -> Setup {
         let (clients, volumes) = (rng.pick(&[2, 3, 16]), rng.pick(&[1, 2]));
         let mut setup = sized(clients, volumes, rng.range(2, 5) as u8);
@@ -60,12 +60,12 @@ impl Scene {
     }
 }
 
-/// Object leases that outlast several volume leases.
+/// Returns object leases that outlast several volume leases.
 pub fn long_copies(rng: &mut Rng) -> (u32, u32, u32) {
     (rng.range(8, 20), rng.range(60, 120), rng.range(1, 5))
 }
 
-/// Object leases that end before their volume's.
+/// Returns object leases that end before their volume's.
 pub fn short_copies(rng: &mut Rng) -> (u32, u32, u32) {
     (rng.range(25, 40), rng.range(8, 12), rng.range(1, 3))
 }
@@ -79,8 +79,8 @@ pub fn acknowledged_write(s: &mut Stage, client: u8, object: u8) -> Option<()> {
 }
 
 /// Leaves the client marked unreachable while its volume lease and its lease on
-/// the other object live: the write that marked it ended with the lease on its
-/// own object. Wants short copies.
+/// the other object are alive: the write that marked it ended with the lease on
+/// its own object. Needs short copies.
 pub fn marked_with_a_live_volume(s: &mut Stage, Cast { client, object, other }: Cast) -> Option<()> {
     s.hold(client, object)?;
     let expiry = s.server().object_expiry[usize::from(object)][usize::from(client)];

@@ -1,4 +1,4 @@
-//! Makes the moves of a scene or of chance, one after another.
+//! Makes the moves of a scene, or random ones, one after another.
 
 use model::answer::Answer;
 use model::gen::random_steps::time;
@@ -16,11 +16,12 @@ use crate::watched::Watched;
 pub struct Stage {
     pub rng: Rng,
     pub run: Watched,
-    /// Where the messages that have arrived stand among all sent.
+    /// The indices, among all messages sent, of those that have arrived.
     arrived: Vec<usize>,
-    /// In percent, how likely one more random move is before a scene's own.
+    /// How likely one more random move is before each of a scene's own, in
+    /// percent.
     pub noise: usize,
-    /// The client that random moves leave alone, as a scene is about it.
+    /// The client that random moves leave alone, since a scene is about it.
     pub spared: Option<u8>,
     last_value: u64,
 }
@@ -51,7 +52,7 @@ impl Stage {
         &self.run.network.sent
     }
 
-    /// Makes a move and no other.
+    /// Makes this move and no other.
     pub fn make(&mut self, next: Move) -> Answer {
         match next {
             Move::Arrival(place) if place < self.sent().len() => self.arrived.push(place),
@@ -68,24 +69,25 @@ impl Stage {
         self.rng.below(self.setup().objects.into()) as u8
     }
 
-    /// A value that no write had before, so that a read of an old one shows.
+    /// Returns a value that no write had before, so that reading an old one
+    /// shows.
     pub fn new_value(&mut self) -> u64 {
         self.last_value += 1 + (self.rng.draw() >> 60);
         self.last_value
     }
 
-    /// A random time, mostly near one at which something ends.
+    /// Returns a random time, mostly near one at which something ends.
     pub fn any_time(&mut self) -> u32 {
         time(&mut self.rng, &self.run.network.state.tables)
     }
 
-    /// The place of a message that has arrived before.
+    /// Returns the index of a message that has arrived before.
     pub fn any_arrived(&mut self) -> Option<usize> {
         (!self.arrived.is_empty()).then(|| self.rng.pick(&self.arrived))
     }
 
-    /// Makes random moves that seldom spoil a scene: messages that come again,
-    /// reads, refused steps, and the other clients' traffic.
+    /// Makes random moves that seldom spoil a scene: messages that arrive
+    /// again, reads, refused steps, and the other clients' traffic.
     fn fill(&mut self) {
         while self.rng.percent(self.noise) {
             let (client, object) = (self.any_client(), self.any_object());
@@ -104,13 +106,13 @@ impl Stage {
         }
     }
 
-    /// A scene's own move, after some of chance.
+    /// Makes a scene's own move, after some random ones.
     fn play(&mut self, next: Move) -> Answer {
         self.fill();
         self.make(next)
     }
 
-    /// Asks, and gives the place of the RENEW.
+    /// Asks, and returns the index of the RENEW.
     pub fn ask(&mut self, client: u8, object: u8) -> usize {
         self.play(Move::Own(Step::ask(client, object)));
         self.sent().len() - 1
@@ -121,7 +123,7 @@ impl Stage {
         self.play(Move::Own(Step::write(object, value)));
     }
 
-    /// Sets the clock, unless it is past that time already.
+    /// Sets the clock, unless it is already past that time.
     pub fn clock(&mut self, time: u32) {
         self.play(Move::Own(Step::clock(time.max(self.now()))));
     }
@@ -142,19 +144,19 @@ impl Stage {
         self.play(Move::Arrival(place));
     }
 
-    /// The newest message of this kind to or from the client.
+    /// Returns the newest message of this kind to or from the client.
     pub fn newest(&self, client: u8, kind: u8) -> Option<usize> {
         self.sent().iter().rposition(|message| message.client == client && message.kind.code() == kind)
     }
 
-    /// Lets the newest message of this kind arrive, and gives its place.
+    /// Lets the newest message of this kind arrive, and returns its index.
     pub fn arrive_newest(&mut self, client: u8, kind: u8) -> Option<usize> {
         let place = self.newest(client, kind)?;
         self.arrive(place);
         Some(place)
     }
 
-    /// Asks, and lets everything arrive that comes of it.
+    /// Asks, and lets everything arrive that follows from it.
     pub fn exchange(&mut self, client: u8, object: u8) {
         let mut place = self.ask(client, object);
         while place < self.sent().len() {

@@ -24,7 +24,7 @@ impl<M: Copy + PartialEq> Rule<M> {
         self.0 == Some(mistake)
     }
 
-    /// One number or, with the mistake, another.
+    /// Returns one number or, with the mistake, the other.
     pub fn number<T>(self, right: T, mistake: M, wrong: T) -> T {
         if self.has(mistake) {
             wrong
@@ -36,7 +36,7 @@ impl<M: Copy + PartialEq> Rule<M> {
 
 type File = Result<Vec<u8>, u8>;
 
-/// Each mistake makes another file of some call than the right one.
+/// Checks that each mistake makes a different file for some call.
 pub fn assert_each_found<C, M: Copy + Debug>(
     each: &[M],
     calls: &[C],
@@ -52,7 +52,8 @@ pub fn assert_each_found<C, M: Copy + Debug>(
     }
 }
 
-/// Files and both refusals, so that no answer alone would do.
+/// Checks that there are files and both refusals, so that no single answer
+/// would do.
 pub fn assert_every_answer(files: &[File]) {
     let count = |fits: fn(&File) -> bool| files.iter().filter(|file| fits(file)).count();
     let answers = [count(|file| file.is_ok()), count(|file| *file == Err(7)), count(|file| *file == Err(10))];

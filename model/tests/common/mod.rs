@@ -8,7 +8,8 @@ use model::state::State;
 use model::step_call::step;
 use model::step_record::Step;
 
-/// Three clients, two volumes, four objects: 0, 1, 3 in volume 0, 2 in 1.
+/// Returns a setup of three clients, two volumes and four objects: 0, 1, 3 in
+/// volume 0, and 2 in volume 1.
 pub fn setup() -> Setup {
     let mut volume_of = [0; 32];
     volume_of[2] = 1;
@@ -34,7 +35,7 @@ impl Bench {
         step(&self.setup, tables, copies, requests, &record)
     }
 
-    /// The listing's two numbers.
+    /// Takes a step and returns the listing's two numbers.
     pub fn line(&mut self, record: Step) -> (u8, u64) {
         self.step(record).numbers()
     }

@@ -1,4 +1,4 @@
-//! On tables made by hand, which no run reaches.
+//! Tables made by hand, which no run reaches.
 
 use model::copies::ObjectCopy;
 use model::message::{Grant, Kind, Message};
@@ -36,7 +36,8 @@ fn place() -> usize {
     setup().copy_place(CLIENT, OBJECT.into())
 }
 
-/// Tables in which the GRANT is under way, and a request of this number stands.
+/// Returns tables in which the GRANT is under way and a request with this
+/// number stands.
 fn with(held: ObjectCopy, number: u32, object: u8) -> Bench {
     let mut bench = Bench::fresh();
     let (tables, copies, requests) = bench.state.parts(&bench.setup);
@@ -48,7 +49,8 @@ fn with(held: ObjectCopy, number: u32, object: u8) -> Bench {
     bench
 }
 
-/// All but the value is stored, and the request ends, whichever object it is for.
+/// Everything except the value is stored, and the request ends, whichever
+/// object it is for.
 #[test]
 fn stored_whatever_is_held() {
     for held in HELD {

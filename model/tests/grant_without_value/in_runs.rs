@@ -1,5 +1,5 @@
-//! Along the generated runs it names the version held, so that the test which
-//! 01 had changed nothing.
+//! In the generated runs it names the version held, so the test that 01 had
+//! changes nothing.
 
 use std::ops::ControlFlow;
 
@@ -12,10 +12,10 @@ use crate::met::{along, Met};
 const SEEDS: [u64; 4] = [1, 5, 11, 21];
 const RUNS: usize = 1_000;
 
-/// Each case is met at least so often.
+/// Each case is met at least this often.
 const FLOOR: usize = 100;
 
-/// Circumstances in which a GRANT without a value whose number stands is met.
+/// Circumstances in which a GRANT without a value meets its standing number.
 const CASES: [(&str, fn(&Met) -> bool); 7] = [
     ("any", |_| true),
     ("both leases alive", |met| volume_alive(met) && alive(met.copy().expiry, met.state.tables.clock)),
@@ -77,8 +77,8 @@ fn a_standing_number_meets_its_version() {
     assert!(other >= FLOOR, "{other}: without the standing number it would not hold");
 }
 
-/// With 01's test and without it, and likewise with every mistake that is said
-/// to change nothing in a run, its delivery leaves the same.
+/// Its delivery leaves the same with 01's test and without it, and with every
+/// mistake that is said to change nothing in a run.
 #[test]
 fn the_old_test_changes_nothing() {
     assert!(Mistakes::NOT_IN_RUNS.iter().any(|(name, _)| *name == "no_value_needs_version"));
@@ -97,8 +97,8 @@ fn the_old_test_changes_nothing() {
     assert!(compared >= FLOOR, "{compared}");
 }
 
-/// What it rests on: a request is forgotten where its copy goes, and no number
-/// is used twice.
+/// The claim rests on this: a request is forgotten when its copy goes, and no
+/// number is used twice.
 #[test]
 fn mistakes_that_break_it_are_found() {
     for mistake in

@@ -1,5 +1,5 @@
-//! 02, A4: a GRANT without a value whose number stands. On the states of the
-//! generated runs, and on tables that no run reaches.
+//! 02, A4: a GRANT without a value whose number stands, in the states of the
+//! generated runs and on tables that no run reaches.
 
 #[path = "../common/mod.rs"]
 mod common;

@@ -25,22 +25,22 @@ impl Met<'_> {
         &self.state.requests(self.setup)[self.client]
     }
 
-    /// Whether it answers the standing request.
+    /// Returns whether it answers the standing request.
     pub fn stands(&self) -> bool {
         self.request().waits_for(self.grant.number)
     }
 
-    /// What the client holds of the object.
+    /// Returns what the client holds of the object.
     pub fn copy(&self) -> &ObjectCopy {
         &self.state.copies(self.setup)[self.setup.copy_place(self.client, self.grant.object.into())]
     }
 
-    /// What 02 says of it where its number stands.
+    /// Returns whether what 02 says about it holds, if its number stands.
     pub fn meets_its_version(&self) -> bool {
         self.copy().version != 0 && names_held_version(&self.grant, self.copy())
     }
 
-    /// What its delivery leaves. The run itself stays where it is.
+    /// Returns what its delivery leaves. The run itself stays where it is.
     pub fn delivered(&self, rules: Mistakes) -> State {
         let mut state = *self.state;
         let (tables, copies, requests) = state.parts(self.setup);
@@ -50,7 +50,7 @@ impl Met<'_> {
     }
 }
 
-/// All of them, after every step of the run.
+/// Calls `each` for all of them, after every step of the run.
 pub fn along(rules: Mistakes, run: &Run, mut each: impl FnMut(&Met) -> ControlFlow<()>) -> ControlFlow<()> {
     let mut state = State::fresh();
     for step in &run.steps {

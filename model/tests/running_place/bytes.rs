@@ -6,12 +6,12 @@ fn number(bytes: &[u8]) -> u64 {
     bytes.iter().rev().fold(0, |number, &byte| number << 8 | u64::from(byte))
 }
 
-/// As the trailer tells it.
+/// Returns the step count that the trailer gives.
 pub fn step_count(file: &[u8]) -> usize {
     number(&file[file.len() - 8..file.len() - 4]) as usize
 }
 
-/// By the trailer's distance.
+/// Returns where the setup begins, by the trailer's distance.
 pub fn setup_place(file: &[u8]) -> usize {
     file.len() - number(&file[file.len() - 4..]) as usize
 }

@@ -1,5 +1,5 @@
-//! 02, A2: the running place by which the step records of a run file are
-//! found. On generated files, on files by hand, and beside readers whose
+//! 02, A2: the running place by which the step records of a run file are found,
+//! on generated files, on files made by hand, and compared with readers whose
 //! place goes wrong.
 
 #[path = "../common/mod.rs"]

@@ -7,8 +7,8 @@ use model::step_record::Step;
 use crate::reader::Reader;
 use crate::refused::scene;
 
-/// With a field in the last record that should be 0: a refused file, so that a
-/// check that does not get there is seen too.
+/// Returns the run with a field in the last record that should be 0. That file
+/// is refused, so a check that does not get there is noticed, too.
 fn odd_at_its_end(mut run: Run) -> Run {
     if let Some(last) = run.steps.last_mut() {
         *last = Step { place: 1, ..Step::clock(0) };
@@ -16,7 +16,8 @@ fn odd_at_its_end(mut run: Run) -> Run {
     run
 }
 
-/// The wrong readers, each with how many of the files it lists otherwise.
+/// Returns the wrong readers, each with the number of files that it lists
+/// differently.
 fn noticed(runs: impl Iterator<Item = Run>) -> Vec<(Reader, usize)> {
     let mut noticed: Vec<_> = Reader::wrong().into_iter().map(|reader| (reader, 0)).collect();
     for run in runs {

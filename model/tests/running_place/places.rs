@@ -1,4 +1,4 @@
-//! The place before each record and past the last, and the records found.
+//! The place before each record and after the last, and the records found.
 
 use model::gen::damage;
 use model::gen::runs::run;
@@ -10,8 +10,9 @@ use model::unchecked_writer::write;
 use crate::bytes::{setup_place, step_count, step_in};
 use crate::common;
 
-/// Before record k the setup's place + 48 + 16 × k; past the last record the
-/// trailer's place, also when another one is asked for.
+/// Checks that the place before record k is the setup's place + 48 + 16 × k,
+/// and after the last record the trailer's, also if another record is asked
+/// for.
 fn assert_places(file: &[u8]) {
     let run = read(file).expect("an accepted file");
     let (setup, count) = (setup_place(file), step_count(file));
@@ -28,7 +29,8 @@ fn assert_places(file: &[u8]) {
     }
 }
 
-/// Counted back from the trailer, so without the setup's place.
+/// Returns the records counted back from the trailer, without the setup's
+/// place.
 fn records_from_behind(file: &[u8]) -> Vec<Step> {
     let body = &file[..file.len() - 8];
     let mut steps: Vec<Step> = body.rchunks_exact(16).take(step_count(file)).map(step_in).collect();
@@ -36,7 +38,7 @@ fn records_from_behind(file: &[u8]) -> Vec<Step> {
     steps
 }
 
-/// Every record another one, so that none passes for its neighbour.
+/// Returns steps that are all different, so that none passes for its neighbour.
 fn different(count: usize) -> Vec<Step> {
     (0..count).map(|k| Step::write(k as u8, !(k as u64))).collect()
 }
@@ -72,8 +74,8 @@ fn records_are_those_counted_back_from_the_trailer() {
     }
 }
 
-/// The shape check goes over the same places: it finds a field that should be
-/// 0 wherever the record stands, and tells the first one.
+/// The shape check goes over the same places: it finds a field that should be 0
+/// in any record, and reports the first one.
 #[test]
 fn an_unused_field_is_found_in_every_record() {
     let odd = |place| Step { place, ..Step::clock(0) };

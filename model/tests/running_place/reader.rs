@@ -1,5 +1,5 @@
-//! A small reader of its own, which may make a mistake in its running place.
-//! It is meant for files whose trailer and setup are right.
+//! A small separate reader, which may make a mistake in its running place. It
+//! is for files whose trailer and setup are right.
 
 use std::io::Write;
 
@@ -18,7 +18,7 @@ pub enum Mistake {
     AddsFirst,
     /// Begins at the setup, without the 48.
     StartsAtSetup,
-    /// Adds nothing after a refused step. The shape check takes none; there
+    /// Adds nothing after a refused step. The shape check takes no steps; there
     /// it is a record of an unknown kind, of which nothing is asked.
     StaysAtRefused,
 }
@@ -40,7 +40,7 @@ impl<'a> Running<'a> {
         Running { file, place: setup_place(file) + setup_bytes, mistake }
     }
 
-    /// None where the record would reach past the file.
+    /// Returns none if the record would reach past the file.
     fn record(&mut self) -> Option<Step> {
         if self.mistake == Some(Mistake::AddsFirst) {
             self.place += 16;
@@ -69,7 +69,7 @@ impl Reader {
     pub const RIGHT: Reader = Reader { check: None, run: None };
     pub const STAYS: Reader = Reader { check: None, run: Some(Mistake::StaysAtRefused) };
 
-    /// Each mistake in the check alone, in the run alone, and in both.
+    /// Returns each mistake in the check alone, in the run alone, and in both.
     pub fn wrong() -> Vec<Reader> {
         let readers = |mistake| {
             let check = Some(mistake);
@@ -78,7 +78,8 @@ impl Reader {
         Mistake::EACH.into_iter().flat_map(readers).collect()
     }
 
-    /// Both passes go by the step count, so they end whatever the place does.
+    /// Returns the listing. Both passes go by the step count, so they end
+    /// whatever the place does.
     pub fn listing(self, setup: &Setup, file: &[u8]) -> Vec<u8> {
         let mut lines = b"step answer value\n".to_vec();
         if self.shaped(file) {

@@ -1,4 +1,4 @@
-//! A scene by hand: refused steps stand first, between and last.
+//! A scene by hand: refused steps come first, in the middle and last.
 
 use model::gen::runs::Run;
 use model::gen::setups::sized;
@@ -35,8 +35,8 @@ step answer value
 21 4 3
 ";
 
-/// One client, one object. The client is made an offer, then granted 7; the
-/// write of 8 waits for its ACK.
+/// Returns a run of one client and one object. The client gets an offer, then
+/// is granted 7; the write of 8 waits for its ACK.
 pub fn scene() -> Run {
     let (read, ask, deliver) = (Step::read(0, 0), Step::ask(0, 0), Step::deliver(0));
     let unknown = Step { kind: 255, client: 255, object: 255, place: 255, clock: u32::MAX, value: u64::MAX };
@@ -48,14 +48,15 @@ pub fn scene() -> Run {
     Run { note: b"refused".to_vec(), setup: sized(1, 1, 1), steps }
 }
 
-/// By its line in the listing; steps from 1.
+/// Returns whether the step is refused, by its line in the listing; steps count
+/// from 1.
 fn refused(number: usize) -> bool {
     let line = LISTING.lines().nth(number).expect("a line for each step");
     line.split(' ').nth(1) == Some("4")
 }
 
-/// The scene with this one of its refused steps alone. They change nothing, so
-/// the others answer as before.
+/// Returns the scene with only this one of its refused steps. They change
+/// nothing, so the others answer as before.
 fn with_alone(number: usize) -> Run {
     let mut run = scene();
     let stays = |other: usize| other == number || !refused(other);
@@ -70,8 +71,8 @@ fn the_listing_is_the_one_by_hand() {
     assert_eq!(listing_trusting(&file), LISTING.as_bytes());
 }
 
-/// One that stays reads the same record again, and it is refused again. Only
-/// past the last step is there nothing left that it would miss.
+/// A place that stays reads the same record again, and it is refused again.
+/// Only after the last step is there nothing left to miss.
 #[test]
 fn every_refused_step_is_passed_over() {
     let stays = |run: &Run| Reader::STAYS.listing(&run.setup, &run.file());
@@ -85,7 +86,7 @@ fn every_refused_step_is_passed_over() {
     assert!(refused(1) && refused(count));
 }
 
-/// That it moves past the last one too is seen at the place alone.
+/// That it moves past the last one, too, shows only at the place.
 #[test]
 fn the_place_moves_on_after_each_step_refused_or_not() {
     let file = scene().file();

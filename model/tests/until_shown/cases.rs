@@ -62,8 +62,9 @@ pub fn cases(trial: &Trial) -> impl Iterator<Item = Case> {
     [Some(sort), Some(way)].into_iter().chain(beside(trial)).flatten()
 }
 
-/// A mark without an offer is a completed write's: the number of an offer
-/// stays until a DROPPED or a restart of the server ends the mark as well.
+/// Returns why an offer comes. A mark without an offer comes from a completed
+/// write: the number of an offer stays until a DROPPED or a restart of the
+/// server ends the mark, too.
 fn reason_to_offer(trial: &Trial) -> Case {
     let (client, volume) = (usize::from(trial.client), trial.volume());
     let tables = &trial.from.state.tables;
@@ -78,7 +79,8 @@ fn reason_to_offer(trial: &Trial) -> Case {
     }
 }
 
-/// As the last message says: the GRANT has no value for the version held.
+/// Returns what the GRANT finds, by the last message: it has no value if the
+/// version is held.
 fn found_by_grant(trial: &Trial) -> Case {
     match trial.ending.delivered.map(|message| message.kind) {
         Some(Kind::Grant(Grant { value: None, .. })) => Case::SameVersion,

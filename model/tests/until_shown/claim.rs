@@ -1,4 +1,4 @@
-//! The claim holds on the states of the generated runs, and mistakes about it
+//! The claim holds in the states of the generated runs, and mistakes about it
 //! would be found there.
 
 use std::collections::BTreeMap;
@@ -11,7 +11,7 @@ use crate::trial::{along, Breach};
 
 const RUNS: usize = 1_000;
 
-/// Each case is met at least so often.
+/// Each case is met at least this often.
 const FLOOR: usize = 2_000;
 
 #[test]
@@ -31,7 +31,7 @@ fn shown_in_the_steps_claimed() {
     }
 }
 
-/// Whether a generated run leads this mistake to such a breach.
+/// Returns whether a generated run leads this mistake to such a breach.
 fn breaks(mistake: &str, such: fn(Breach) -> bool) -> bool {
     let mistakes = Mistakes::named(mistake);
     let broken = |number| {

@@ -10,8 +10,9 @@ use model::step_record::*;
 use model::until_shown::{until_shown, Ending};
 use model::world::World;
 
-/// Posted values are followed by the steps and by which writes stand, never by
-/// the server's values, so that a read can be held to them.
+/// A run whose posted values are followed by its steps and by which writes
+/// stand, never by the server's values, so that a read can be checked against
+/// them.
 #[derive(Clone, Copy)]
 pub struct Followed {
     pub rules: Mistakes,
@@ -52,8 +53,8 @@ impl Followed {
         answer
     }
 
-    /// A write that stands no longer has completed, unless a restart of the
-    /// server cut it off (01, The ledger of a run).
+    /// Follows a step. A write that no longer stands has completed, unless a
+    /// restart of the server cut it off (01, The ledger of a run).
     fn follow(&mut self, step: &Step) {
         match step.kind {
             WRITE => {
@@ -71,7 +72,7 @@ impl Followed {
 
     /// Goes on to a state without messages and without a write in the object's
     /// volume: what is under way is lost, and the clock passes the latest ends.
-    /// These are steps like others, so the state is reachable too.
+    /// These are steps like others, so the state is reachable, too.
     pub fn quieten(&mut self, object: u8) -> Quieted {
         let mut quieted = Quieted::AsItWas;
         while let Some(last) = self.state.tables.queue.len.checked_sub(1) {
@@ -85,7 +86,7 @@ impl Followed {
         quieted
     }
 
-    /// Of the writes that stand in the object's volume.
+    /// Returns the latest end of the writes that stand in the object's volume.
     fn latest_end(&self, object: u8) -> Option<u32> {
         let (setup, server) = (&self.setup, &self.state.tables.server);
         let volume = setup.volume(object.into());
@@ -93,8 +94,8 @@ impl Followed {
         here.map(|at| server.write[at].latest_end).max()
     }
 
-    /// The steps that 02 claims and how it ended, where its premises hold. The
-    /// run itself stays where it is.
+    /// Returns the steps that 02 claims and how it ended, if its premises hold.
+    /// The run itself stays where it is.
     pub fn until_shown(&self, client: u8, object: u8) -> Option<(u32, Ending)> {
         let mut from = *self;
         let mut world = from.world();

@@ -1,5 +1,5 @@
-//! 02, A1: how soon a client shows an object again. On the states of the
-//! generated runs, and on runs by hand.
+//! 02, A1: how soon a client shows an object again, in the states of the
+//! generated runs and in runs made by hand.
 
 #[path = "../common/mod.rs"]
 mod common;

@@ -1,4 +1,4 @@
-//! Runs by hand: each case of the claim, and that each of its premises is
+//! Runs made by hand: each case of the claim, and that each of its premises is
 //! needed.
 
 use model::answer::Answer;
@@ -9,7 +9,7 @@ use model::world::World;
 
 use crate::common::Bench;
 
-/// Whether the premises hold, the steps claimed, and how it ended.
+/// Returns whether the premises hold, the steps claimed, and how it ended.
 fn until_shown(bench: &mut Bench, client: u8, object: u8) -> (bool, u32, Ending) {
     let (tables, copies, requests) = bench.state.parts(&bench.setup);
     let mut world = World { setup: &bench.setup, tables, copies, requests };
@@ -25,7 +25,7 @@ fn shown(bench: &mut Bench, client: u8, object: u8, steps: u32, value: u64) {
     assert_eq!((ending.refused, ending.messages, ending.read), (None, 0, Answer::Shown(value)));
 }
 
-/// Without its premises: the steps claimed, those taken, and the read.
+/// Returns, without the premises, the steps claimed, those taken, and the read.
 fn without(bench: &mut Bench, client: u8, object: u8) -> (u32, u32, Answer) {
     let (premises, claimed, ending) = until_shown(bench, client, object);
     assert!(!premises);
@@ -54,8 +54,8 @@ fn each_case_in_turn() {
     shown(&mut bench, 0, 0, 3, 6);
 }
 
-/// After these clients were granted these objects one is written, and its
-/// INVALIDATE lost, so that the list is empty while the write stands.
+/// Grants these objects to these clients, then writes one and loses its
+/// INVALIDATE, so that the list is empty while the write stands.
 fn written(granted: &[(u8, u8)], object: u8) -> Bench {
     let mut bench = Bench::fresh();
     granted.iter().for_each(|&(client, object)| bench.hold(client, object));
@@ -85,7 +85,7 @@ fn a_write_in_another_volume_does_not_matter() {
     shown(&mut bench, 1, 0, 7, 0);
 }
 
-/// An INVALIDATE that comes twice ends the request, so that its GRANT is for
+/// An INVALIDATE that arrives twice ends the request, so its GRANT is for
 /// nobody.
 #[test]
 fn a_message_under_way_that_ends_the_request() {
@@ -97,7 +97,7 @@ fn a_message_under_way_that_ends_the_request() {
     shown(&mut bench, 0, 0, 3, 5);
 }
 
-/// An older RENEW is made an offer too: shown, but after 9.
+/// An older RENEW gets an offer, too: shown, but after 9.
 #[test]
 fn a_message_under_way_that_takes_time() {
     let mut bench = Bench::fresh();
@@ -105,7 +105,7 @@ fn a_message_under_way_that_takes_time() {
     assert_eq!(without(&mut bench, 0, 0), (7, 9, Answer::Shown(0)));
 }
 
-/// Only made by hand: no run takes so many numbers.
+/// Made by hand only: no run takes that many numbers.
 #[test]
 fn two_request_numbers() {
     for (next, left) in [(4_294_967_293, true), (4_294_967_294, false)] {

@@ -1,4 +1,4 @@
-//! Trials of the claim along a generated run.
+//! Trials of the claim in a generated run.
 
 use std::ops::ControlFlow;
 
@@ -21,12 +21,12 @@ pub struct Trial<'a> {
     pub quieted: Quieted,
     pub client: u8,
     pub object: u8,
-    /// The asks and deliveries that 02 gives it.
+    /// The asks and deliveries that 02 allows it.
     pub claimed: u32,
     pub ending: Ending,
 }
 
-/// How the claim is broken; the first of these that fits.
+/// How the claim is broken; the first of these that applies.
 #[derive(Clone, Copy, Debug, PartialEq, Eq)]
 pub enum Breach {
     Refused(u8),
@@ -41,14 +41,15 @@ impl Trial<'_> {
         self.from.setup.volume(self.object.into())
     }
 
-    /// What the client holds before it asks.
+    /// Returns what the client holds before it asks.
     pub fn copy(&self) -> &ObjectCopy {
         let setup = &self.from.setup;
         &self.from.state.copies(setup)[setup.copy_place(self.client.into(), self.object.into())]
     }
 
-    /// Stricter than 02's "at most": they have to be as many as claimed, so that
-    /// a claim with steps to spare is seen as well.
+    /// Returns how the claim is broken. Stricter than 02's "at most": there
+    /// must be as many steps as claimed, so that a claim with steps to spare is
+    /// noticed, too.
     pub fn breach(&self) -> Option<Breach> {
         let Ending { steps: taken, refused, messages, read, .. } = self.ending;
         let (claimed, posted) = (self.claimed, self.from.posted[usize::from(self.object)]);
@@ -62,9 +63,9 @@ impl Trial<'_> {
     }
 }
 
-/// Tries along the run of this number: after each step that changes anything
-/// the client that asked last, for that object, and one by chance; at the end
-/// every client for every object.
+/// Tries in the run of this number: after each step that changes anything, the
+/// client that asked last, for that object, and a random one; at the end every
+/// client for every object.
 pub fn along<B>(
     rules: Mistakes,
     number: usize,
@@ -88,7 +89,8 @@ pub fn along<B>(
     all.try_for_each(|pair| attempt(&at, pair, &mut each))
 }
 
-/// The premises do not hold where a write ends past the last clock.
+/// Makes one trial. The premises do not hold if a write ends past the last
+/// clock.
 fn attempt<B>(
     at: &Followed,
     (client, object): (u8, u8),

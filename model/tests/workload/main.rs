@@ -1,5 +1,5 @@
-//! 02, A5: the workload of a seed. Against numbers worked out apart from the
-//! model, and what they leave out.
+//! 02, A5: the workload of a seed, compared with numbers worked out apart from
+//! the model, and what it does not reach.
 
 #[path = "../common/mod.rs"]
 mod common;

@@ -1,4 +1,4 @@
-//! A small generator of its own, which may make a mistake.
+//! A small separate generator, which may make a mistake.
 
 use model::checked_writer::written;
 use model::gen::workload_calls::WorkloadCall;
@@ -35,7 +35,7 @@ mistakes! {
     ObjectBeforeClient,
     PlaceBeforeObject,
     AmountFirst,
-    /// Takes the remainder by the object count for the client too.
+    /// Takes the remainder by the object count for the client, too.
     ClientOfObjects,
     PlaceOf63,
     PlaceOf65,
@@ -49,9 +49,9 @@ mistakes! {
     OldTotal,
     /// The amount alone as the clock.
     TotalStartsAgain,
-    /// The amount of a write is added too.
+    /// Adds the amount of a write, too.
     WritesAddToTotal,
-    /// That of every step.
+    /// Adds the amount of every step.
     AllAddToTotal,
     /// The total as the value of a write.
     WriteHasTotal,
@@ -70,7 +70,7 @@ mistakes! {
 use Mistake::*;
 
 impl Mistake {
-    /// Changes no step, only how many there may be.
+    /// Returns whether it changes no step, only how many there may be.
     pub fn is_of_the_count(self) -> bool {
         matches!(self, MostIs3999 | MostIs4001 | CountIn16Bits | CountFirst)
     }
@@ -82,7 +82,8 @@ impl Rule<Mistake> {
         (0..count).map(|_| load.step(setup)).collect()
     }
 
-    /// The file of the call. A step too many is written without a question.
+    /// Returns the file of the call. Steps past the limit are written without a
+    /// question.
     pub fn file(self, call: &WorkloadCall) -> Result<Vec<u8>, u8> {
         let count = self.number(call.count, CountIn16Bits, call.count & 0xffff) as usize;
         let most = self.number(self.number(4_000, MostIs3999, 3_999), MostIs4001, 4_001);
@@ -103,7 +104,7 @@ impl Rule<Mistake> {
     }
 }
 
-/// The five fields that are drawn, by their place in the right order.
+/// The five fields that are drawn, by their index in the right order.
 const KIND: usize = 0;
 const CLIENT: usize = 1;
 const OBJECT: usize = 2;
@@ -123,7 +124,8 @@ impl Rule<Mistake> {
         }
     }
 
-    /// The least of a field, and by what number the remainder is taken.
+    /// Returns the least value of a field, and the number by which the
+    /// remainder is taken.
     fn range(self, field: usize, setup: &Setup) -> (u32, u32) {
         let (clients, objects) = (setup.clients.into(), setup.objects.into());
         match field {

@@ -1,5 +1,5 @@
-//! Every mistake of a generator shows in the steps worked out, and in the
-//! files of the calls that the product is compared by.
+//! Every mistake of a generator shows in the steps worked out, and in the files
+//! of the calls that the product is compared with.
 
 use model::gen::workload_calls::calls;
 use model::workload::steps;

@@ -13,7 +13,8 @@ use model::workload::steps;
 
 use crate::common::Bench;
 
-/// The answers of each kind of step, with the refusal; leases do not run out.
+/// Returns the answers of each kind of step, with the refusal; leases do not
+/// run out.
 fn answers(setup: Setup, seeds: std::ops::Range<u32>) -> BTreeMap<(u8, u8, u64), usize> {
     let setup = Setup { volume_lease: 3_600, object_lease: 1_000_000, timeout: 60, ..setup };
     let mut answers = BTreeMap::new();
@@ -27,8 +28,8 @@ fn answers(setup: Setup, seeds: std::ops::Range<u32>) -> BTreeMap<(u8, u8, u64),
     answers
 }
 
-/// In these workloads no read is shown, every write is complete at once, and
-/// only a place past the list is refused.
+/// In these workloads no read is shown, every write completes at once, and only
+/// a place past the list is refused.
 #[test]
 fn no_lease_is_given() {
     for setup in [sized(1, 1, 1), sized(2, 1, 2), sized(3, 1, 4), sized(16, 1, 32)] {

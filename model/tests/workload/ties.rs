@@ -1,5 +1,5 @@
-//! What a workload does not reach. The low k bits of the draws repeat after
-//! 2^k of them, so what is taken from them hangs together.
+//! What a workload does not reach. The low k bits of the draws repeat after 2^k
+//! of them, so values taken from them are tied together.
 
 use std::collections::BTreeSet;
 
@@ -9,7 +9,7 @@ use model::limits::{CLIENTS, OBJECTS, QUEUE, STEPS};
 use model::step_record::*;
 use model::workload::steps;
 
-/// The reads and asks of many workloads: client with object.
+/// Returns the reads and asks of many workloads: client with object.
 fn pairs(clients: u8, objects: u8) -> BTreeSet<(u8, u8)> {
     let mut rng = Rng::new(u64::from(clients) << 8 | u64::from(objects));
     let mut load = || steps(rng.draw() as u32, &sized(clients, 1, objects), STEPS).unwrap();
@@ -18,7 +18,7 @@ fn pairs(clients: u8, objects: u8) -> BTreeSet<(u8, u8)> {
     all.map(|step| (step.client, step.object)).collect()
 }
 
-/// The greatest power of two that divides both.
+/// Returns the greatest power of two that divides both.
 fn shared(clients: u8, objects: u8) -> u32 {
     1 << clients.trailing_zeros().min(objects.trailing_zeros())
 }
@@ -39,8 +39,8 @@ fn the_pairs_reached_are_those_of_the_shared_power_of_two() {
     }
 }
 
-/// For a client count that the object count divides, a power of two, every
-/// client has one object; for 3 clients each has all four.
+/// If the object count is a power of two and divides the client count, every
+/// client has one object; with 3 clients each has all four.
 #[test]
 fn the_object_is_a_function_of_the_client() {
     for (clients, objects) in [(2, 2), (4, 4), (8, 8), (16, 16), (8, 4), (16, 8), (6, 2), (12, 4)] {
@@ -50,8 +50,8 @@ fn the_object_is_a_function_of_the_client() {
     assert_eq!(pairs(4, 4).into_iter().collect::<Vec<_>>(), [(0, 3), (1, 0), (2, 1), (3, 2)]);
 }
 
-/// The values that a field takes in the steps whose number leaves this
-/// remainder by the field's count; steps from 0.
+/// Returns the values that a field takes in the steps whose number leaves each
+/// remainder by the field's count; steps count from 0.
 fn by_remainder(steps: &[Step], users: &[u8], count: usize, field: fn(&Step) -> u8) -> Vec<BTreeSet<u8>> {
     let mut values = vec![BTreeSet::new(); count];
     for (number, step) in steps.iter().enumerate().filter(|(_, step)| users.contains(&step.kind)) {
@@ -61,7 +61,7 @@ fn by_remainder(steps: &[Step], users: &[u8], count: usize, field: fn(&Step) -> 
 }
 
 /// A count that is a power of two goes through all its values in a fixed order
-/// and begins again: place 0 comes in every 64th step alone.
+/// and starts again: place 0 comes only in every 64th step.
 #[test]
 fn each_field_of_a_power_of_two_repeats_with_the_steps() {
     let mut rng = Rng::new(5);
@@ -78,8 +78,8 @@ fn each_field_of_a_power_of_two_repeats_with_the_steps() {
     }
 }
 
-/// Kind and amount are taken by odd numbers and hang together with nothing:
-/// every kind meets every value of its fields.
+/// Kind and amount are taken by odd numbers and are tied to nothing: every kind
+/// meets every value of its fields.
 #[test]
 fn every_kind_meets_every_value() {
     let mut rng = Rng::new(6);

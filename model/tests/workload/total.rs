@@ -6,12 +6,13 @@ use model::limits::STEPS;
 use model::step_record::{Step, CLOCK};
 use model::workload::{draws, steps};
 
-/// The clocks of a workload's clock steps.
+/// Returns the clocks of a workload's clock steps.
 fn clocks(steps: &[Step]) -> Vec<u32> {
     steps.iter().filter(|step| step.kind == CLOCK).map(|step| step.clock).collect()
 }
 
-/// Counted from the draws: kind is the first of each five, amount the last.
+/// Returns the totals counted from the draws: the kind is the first of each
+/// five, the amount the last.
 fn sums(seed: u32) -> Vec<u32> {
     let drawn: Vec<u32> = draws(seed).take(5 * STEPS).collect();
     let amounts = drawn.chunks(5).filter(|five| five[0] % 9 == 0).map(|five| five[4] % 5);

@@ -1,5 +1,4 @@
-//! Draws and steps worked out with whole numbers of any size, apart from the
-//! model.
+//! Draws and steps worked out with integers of any size, apart from the model.
 
 use model::step_record::Step;
 use model::workload::{draws, steps};

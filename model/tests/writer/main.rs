@@ -1,5 +1,5 @@
-//! 02, A5: the one writer of run files. What comes back from the reader, and
-//! what is refused.
+//! 02, A5: the one writer of run files: what the reader returns, and what is
+//! refused.
 
 #[path = "../common/mod.rs"]
 mod common;

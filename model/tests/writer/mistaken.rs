@@ -1,4 +1,4 @@
-//! A small writer of its own, which may make a mistake.
+//! A small separate writer, which may make a mistake.
 
 use model::gen::writer_calls::WriterCall;
 use model::runfile::{read_setup, read_step};
@@ -28,7 +28,7 @@ mistakes! {
     MostIs4001,
     MostBytes65535,
     MostBytes65537,
-    /// Asks about the records' length alone, not the note's.
+    /// Asks only about the length of the records, not the note's.
     NoteNotCounted,
     /// Needs one byte more than the file has.
     RoomPastTheFile,
@@ -41,11 +41,11 @@ mistakes! {
     UnusedNotAsked,
     UnusedOfFirstNotAsked,
     UnusedOfLastNotAsked,
-    /// Asks about the first and the last step alone.
+    /// Asks only about the first and the last step.
     UnusedBetweenNotAsked,
     /// Writes 0 for an unused field.
     UnusedCleared,
-    /// Asks about the lower half of the value alone.
+    /// Asks only about the lower half of the value.
     ValueHalfAsked,
     /// Wants every field of an unknown kind to be 0.
     UnknownKindAsked,
@@ -55,7 +55,7 @@ mistakes! {
     SetupNotAsked,
     /// Asks about it after all that gives 10.
     SetupAskedLast,
-    /// Asks about it after the sizes, as one who asks for room first.
+    /// Asks about it after the sizes, as if asking for room first.
     SetupAskedAfterSizes,
     SpareNotAsked,
     /// Takes the first 48 bytes of more.
@@ -97,7 +97,7 @@ impl Rule<Mistake> {
         self.has(SetupNotAsked) || setup.len() == 48 && read_setup(&setup).is_ok()
     }
 
-    /// Steps, file and output.
+    /// Returns whether steps, file and output fit.
     fn fits(self, call: &WriterCall) -> bool {
         let count = call.records.len() / 16;
         let len = call.note.len() + 56 + 16 * count;

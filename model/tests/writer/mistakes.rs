@@ -1,5 +1,5 @@
 //! Every mistake of a writer shows in the calls that the product is compared
-//! by.
+//! with.
 
 use model::gen::writer_calls::calls;
 

@@ -52,8 +52,8 @@ fn workloads_come_back() {
     }
 }
 
-/// Whatever file is accepted is the one that is written from its parts, so no
-/// two files of a note have the same ones.
+/// Every accepted file is the one written from its parts, so no two files with
+/// the same note have the same parts.
 #[test]
 fn no_other_file_of_the_note_has_those_parts() {
     let generated = (0..200).map(|number| runs::run(3, number).file());
@@ -71,7 +71,7 @@ fn no_other_file_of_the_note_has_those_parts() {
     assert!(count > 1_000);
 }
 
-/// A small file with each of its bytes changed in every way.
+/// Returns a small file with each of its bytes changed in every way.
 fn one_byte_changed() -> impl Iterator<Item = Vec<u8>> {
     let unknown = Step { kind: 10, client: 1, object: 2, place: 3, clock: 4, value: 5 };
     let steps = [Step::clock(7), Step::write(2, 9), unknown, Step::read(1, 3)];

@@ -11,7 +11,7 @@ use crate::common;
 
 const ROOM: usize = 2 * FILE_BYTES;
 
-/// The length of the file, or the refusal.
+/// Returns the length of the file, or the refusal.
 fn len(note: usize, steps: &[Step], room: usize) -> Result<usize, u8> {
     write_checked(&vec![b'n'; note], &common::setup(), steps, room).map(|file| file.len())
 }
@@ -45,8 +45,8 @@ fn an_output_too_short() {
     }
 }
 
-/// In the first, a middle and the last step. What the step asks for need not
-/// exist, and nothing is asked of an unknown kind.
+/// In the first, a middle and the last step. What a step names need not exist,
+/// and nothing is asked of an unknown kind.
 #[test]
 fn an_unused_field_of_a_known_kind() {
     for kind in 0..=255 {
@@ -69,7 +69,7 @@ fn an_unused_field_of_a_known_kind() {
     }
 }
 
-/// Everything that gives 10 at once, and the setup too.
+/// Everything that gives 10 at once, and the setup, too.
 #[test]
 fn the_setup_is_asked_about_first() {
     let good = common::setup();

@@ -1,5 +1,5 @@
-//! One change, by the number of its field. Places go as in the product's
-//! tables: client * 8 + volume, client * 32 + object.
+//! Applies one change, by the number of its field. Places are numbered as in
+//! the product's tables: client * 8 + volume, client * 32 + object.
 
 use crate::cases::rows::VALUE;
 use crate::cases::tables::CaseTables;

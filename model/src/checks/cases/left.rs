@@ -1,5 +1,5 @@
 //! What a step left: a line for each element of the tables, each message and
-//! each record that is another one than before.
+//! each record that differs from before.
 
 use std::fmt::Display;
 
@@ -8,7 +8,7 @@ use crate::cases::tables::CaseTables;
 use crate::limits::{CLIENTS, OBJECTS, QUEUE, VOLUMES};
 use crate::tables::{ClientVolumes, Server};
 
-/// What was before a step, and what after it.
+/// The same thing before and after a step.
 type Both<'a, T> = [&'a T; 2];
 
 pub fn left(before: &CaseTables, after: &CaseTables) -> Vec<String> {
@@ -58,7 +58,8 @@ fn known(lines: &mut Vec<String>, both: Both<ClientVolumes>) {
     by_client(lines, both, "known expiry", VOLUMES, |clients, client, volume| clients.expiry[client][volume]);
 }
 
-/// A place past the list's length is blank, whatever it holds.
+/// Returns the row at a place; places past the list's length are blank,
+/// whatever they hold.
 fn shown(case: &CaseTables, place: usize) -> Row {
     if place < case.tables.queue.len {
         case.rows[place]
@@ -83,7 +84,7 @@ fn one<S, T: Display + PartialEq>(lines: &mut Vec<String>, both: Both<S>, name: 
     }
 }
 
-/// An element for each place: the ones that differ.
+/// Adds a line for each place whose element differs.
 fn each<S, T: Display + PartialEq>(
     lines: &mut Vec<String>,
     both: Both<S>,
@@ -99,7 +100,7 @@ fn each<S, T: Display + PartialEq>(
     }
 }
 
-/// The same with a row of places for each client.
+/// Does the same with a row of places for each client.
 fn by_client<S, T: Display + PartialEq>(
     lines: &mut Vec<String>,
     both: Both<S>,

@@ -1,4 +1,4 @@
-//! The message list as a step is handed it: a row a place, of which those below
+//! The message list as a step gets it: one row per place, of which those below
 //! the list's length are in use. The others are free, whatever they hold.
 
 use crate::cases::rows::Row;
@@ -9,13 +9,13 @@ use crate::mistakes::Mistakes;
 use crate::queue::Queue;
 use crate::step_record::Step;
 
-/// Stands for a row that is no message where nobody asks about it.
+/// Stands in for a row that is no message where nobody asks about it.
 const SOME_RENEW: Message =
     Message { client: 0, kind: Kind::Renew { object: 0, number: 0, epoch: 0, version: 0 } };
 
 impl CaseTables {
-    /// Reads the rows as messages. Gives the refusal where one that is asked
-    /// about is no message.
+    /// Reads the rows as messages. Returns the refusal if a row asked about is
+    /// no message.
     pub(super) fn list(&self, rules: Mistakes, step: &Step) -> Result<Queue, u8> {
         let len = self.tables.queue.len;
         let mut places = [SOME_RENEW; QUEUE];

@@ -1,6 +1,6 @@
 //! Steps on tables that no run reaches: unsound ones, and ones at or past a
 //! limit. The cases are numbers in a text file that the product's program
-//! `test_step_cases` reads too; what it prints is held to these lines.
+//! `test_step_cases` reads, too; its output is compared with these lines.
 
 mod changes;
 mod free;
@@ -23,13 +23,13 @@ use crate::answer::Answer;
 use crate::mistakes::Mistakes;
 use crate::step_record::Step;
 
-/// A line `case answer value` for each step of each case. Below it, each after
-/// two spaces, the message that was delivered and what the step left.
+/// Returns a line `case answer value` for each step of each case, and below it,
+/// indented by two spaces, the message delivered and what the step left.
 pub fn lines(text: &str) -> String {
     lines_under(Mistakes::NONE, text)
 }
 
-/// The same under other rules, to see what a mistake changes.
+/// Returns the same under other rules, to see what a mistake changes.
 pub fn lines_under(rules: Mistakes, text: &str) -> String {
     let mut numbers = Numbers::of(text);
     let base = changed(&mut numbers, &CaseTables::fresh());
@@ -48,7 +48,8 @@ pub fn lines_under(rules: Mistakes, text: &str) -> String {
     lines
 }
 
-/// A count, then so many changes of three numbers: field, place, value.
+/// Reads a count, then this many changes of three numbers each: field, place,
+/// value.
 fn changed(numbers: &mut Numbers, from: &CaseTables) -> CaseTables {
     let mut tables = from.clone();
     for _ in 0..numbers.need() {

@@ -1,4 +1,4 @@
-//! Numbers among words: whatever is not a digit stands between them.
+//! Reads the numbers in a text. Anything that is not a digit separates them.
 
 pub struct Numbers<'a> {
     parts: Box<dyn Iterator<Item = u64> + 'a>,
@@ -10,7 +10,7 @@ impl<'a> Numbers<'a> {
         Numbers { parts: Box::new(digits.map(|digits| digits.parse().expect("at most 64 bits"))) }
     }
 
-    /// The next number, which has to be there.
+    /// Returns the next number, which must be there.
     pub fn need(&mut self) -> u64 {
         self.next().expect("a number")
     }

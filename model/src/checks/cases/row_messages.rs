@@ -23,37 +23,37 @@ const FIELDS_OF_SOME: [(usize, &[u64]); 6] = [
 ];
 
 impl Row {
-    /// Reads the row as a message. Gives none where a word is too large, the
-    /// kind is unknown or the fields are not right for it.
+    /// Reads the row as a message. Returns none if a word is too large, the
+    /// kind is unknown or the fields are wrong for it.
     pub fn message(&self) -> Option<Message> {
         let right = self.has_bytes() && self.is_of_known_kind() && !self.has_stray() && self.presence_right();
         right.then(|| self.read())
     }
 
-    /// Asks of the first four words, which are bytes in a frame, that none is
-    /// above 255.
+    /// Returns whether the first four words, which are bytes in a frame, are at
+    /// most 255.
     fn has_bytes(&self) -> bool {
         self.fields[..=PRESENT].iter().all(|&word| word <= 255)
     }
 
-    /// Asks of the kind that it is 1 to 6.
+    /// Returns whether the kind is 1 to 6.
     fn is_of_known_kind(&self) -> bool {
         (RENEW..=DROPPED).contains(&self.fields[KIND])
     }
 
-    /// Tells whether a field that the kind lacks is not 0.
+    /// Returns whether a field that the kind lacks is not 0.
     fn has_stray(&self) -> bool {
         FIELDS_OF_SOME.iter().any(|&(field, _)| self.lacks(field) && self.fields[field] != 0)
     }
 
-    /// Tells whether the kind lacks this field.
+    /// Returns whether the kind lacks this field.
     pub fn lacks(&self, field: usize) -> bool {
         let kinds = FIELDS_OF_SOME.iter().find(|(some, _)| *some == field);
         kinds.is_some_and(|(_, kinds)| !kinds.contains(&self.fields[KIND]))
     }
 
-    /// Asks of a GRANT that its presence is 0 or 1, and that its value is 0
-    /// where it has none.
+    /// Returns whether a GRANT's presence is 0 or 1, and its value 0 if it has
+    /// none.
     fn presence_right(&self) -> bool {
         self.fields[KIND] != GRANT
             || match self.fields[PRESENT] {
@@ -98,7 +98,7 @@ mod tests {
 
     const NUMBERS: [u64; 7] = [0, 1, 2, 255, 256, 257, u32::MAX as u64];
 
-    /// Writes the row as a frame, where its first four words are bytes.
+    /// Returns the row as a frame, if its first four words are bytes.
     fn frame(row: &Row) -> Option<Vec<u8>> {
         let (head, words) = row.fields[..VALUE].split_at(4);
         let head = head.iter().map(|&word| word.try_into().ok()).collect::<Option<Vec<u8>>>()?;
@@ -106,7 +106,7 @@ mod tests {
         Some(head.into_iter().chain(words).chain(row.fields[VALUE].to_le_bytes()).collect())
     }
 
-    /// Makes rows of each kind, with up to two fields that are not 0.
+    /// Returns rows of each kind, with up to two nonzero fields.
     fn rows() -> impl Iterator<Item = Row> {
         let fields = || (1..10).flat_map(|field| NUMBERS.map(|number| (field, number)));
         let pairs = move || fields().flat_map(move |first| fields().map(move |second| [first, second]));

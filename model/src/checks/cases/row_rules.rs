@@ -14,14 +14,14 @@ pub trait RowRules {
         row.message()
     }
 
-    /// Tells whether a row is asked about: every one in use is, whatever the
+    /// Returns whether a row is asked about: every one in use is, whatever the
     /// step.
     fn asks_about(&self, len: usize, place: usize, _step: &Step) -> bool {
         place < len
     }
 
-    /// Gives the number for a row that is no message. That is part of question
-    /// 1, so it comes before all others.
+    /// Returns the refusal for a row that is no message. That is part of
+    /// question 1, so it comes before all others.
     fn refusal_of_row(&self, _step: &Step) -> u8 {
         UNSOUND
     }

@@ -5,7 +5,7 @@ use std::fmt::{Display, Formatter, Result};
 
 use crate::message::{Grant, Kind, Message};
 
-/// Where a field stands in a row.
+/// The index of each field in a row.
 pub const KIND: usize = 0;
 pub const CLIENT: usize = 1;
 /// The object or volume.
@@ -17,20 +17,20 @@ pub const VERSION: usize = 7;
 pub const OBJECT_EXPIRY: usize = 8;
 pub const VALUE: usize = 9;
 
-/// Any numbers: a row in use may be no message.
+/// A row of any numbers: even one in use may be no message.
 #[derive(Clone, Copy, Debug, PartialEq, Eq)]
 pub struct Row {
     pub fields: [u64; 10],
 }
 
 impl Row {
-    /// What a place holds at first, which is no message.
+    /// The initial row of a place, which is no message.
     pub const FRESH: Row = Row { fields: [0; 10] };
 
-    /// What a place past the list's length shows: a RENEW of zeros.
+    /// The row shown for a place past the list's length: a RENEW of zeros.
     pub const BLANK: Row = Row { fields: [1, 0, 0, 0, 0, 0, 0, 0, 0, 0] };
 
-    /// The same row with another number in this field.
+    /// Returns the row with another number in this field.
     pub fn with(mut self, field: usize, number: u64) -> Row {
         self.fields[field] = number;
         self

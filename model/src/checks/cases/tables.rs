@@ -1,4 +1,4 @@
-//! All that a step is handed, to be changed field by field.
+//! Everything that a step gets, to be changed field by field.
 
 use crate::answer::Answer;
 use crate::cases::free::settle;
@@ -16,20 +16,20 @@ use crate::world::World;
 #[derive(Clone, Debug)]
 pub struct CaseTables {
     pub(super) setup: Setup,
-    /// Of the message list the length alone counts; its messages are the rows.
+    /// Only the length of the message list counts; its messages are the rows.
     pub(super) tables: Tables,
     pub(crate) rows: [Row; QUEUE],
     pub(super) copies: Vec<ObjectCopy>,
     pub(super) requests: Vec<Request>,
     /// Number and object of each request record, whether it stands or not.
     pub(super) asked: [Standing; CLIENTS],
-    /// How many of the copies and of the requests are lent.
+    /// How many copies and how many requests are lent.
     pub(super) copies_lent: usize,
     pub(super) requests_lent: usize,
 }
 
 impl CaseTables {
-    /// Fresh tables and records, and a setup of zeros.
+    /// Returns fresh tables and records, and a setup of zeros.
     pub fn fresh() -> CaseTables {
         let setup = Setup {
             clients: 0,
@@ -52,14 +52,14 @@ impl CaseTables {
         }
     }
 
-    /// As many records as the setup has, so that a case about the setup is not
-    /// one about their number.
+    /// Lends as many records as the setup has, so that a case about the setup
+    /// is not one about their number.
     pub(super) fn lend_all(&mut self) {
         self.requests_lent = usize::from(self.setup.clients);
         self.copies_lent = self.requests_lent * usize::from(self.setup.objects);
     }
 
-    /// All six questions, then the step.
+    /// Asks all six questions, then takes the step.
     pub fn take(&mut self, rules: Mistakes, record: &Step) -> Answer {
         let before = self.clone();
         let answer = self.asked_and_taken(rules, record);

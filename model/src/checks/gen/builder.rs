@@ -1,4 +1,4 @@
-//! Writes a run step by step, working the honest rules alongside, so that a
+//! Writes a run step by step and works the right rules alongside, so that a
 //! scene can aim: it sees the tables that its steps have led to.
 
 use crate::answer::Answer;
@@ -66,7 +66,7 @@ impl Builder {
         self.rng.below(self.setup.objects.into()) as u8
     }
 
-    /// Another object of the same volume, if there is one.
+    /// Returns another object of the same volume, if there is one.
     pub fn sibling(&mut self, object: u8) -> Option<u8> {
         let volume = self.setup.volume(object.into());
         let same = |&other: &u8| other != object && self.setup.volume(other.into()) == volume;
@@ -79,13 +79,14 @@ impl Builder {
         (count > 1).then(|| (client + 1 + self.rng.below(count as usize - 1) as u8) % count)
     }
 
-    /// The first place of a message of this kind to or from this client.
+    /// Returns the first place of a message of this kind to or from this
+    /// client.
     pub fn find(&self, client: u8, kind: u8) -> Option<u8> {
         let fits = |message: &Message| message.client == client && message.kind.code() == kind;
         self.tables().queue.messages().iter().position(fits).map(|place| place as u8)
     }
 
-    /// The first place of an INVALIDATE or ACK about this object.
+    /// Returns the first place of an INVALIDATE or ACK about this object.
     pub fn find_about(&self, client: u8, kind: u8, about: u8) -> Option<u8> {
         let fits = |message: &Message| {
             message.client == client
@@ -121,7 +122,7 @@ impl Builder {
         self.push(Step::read(client, object)).numbers().0 == 1
     }
 
-    /// A write of a value not seen before, to tell stale copies.
+    /// Writes a value not used before, so that stale copies can be told apart.
     pub fn write(&mut self, object: u8) {
         let value = self.rng.draw() >> self.rng.pick(&[0, 16, 40, 56]);
         self.push(Step::write(object, value));

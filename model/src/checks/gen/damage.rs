@@ -1,4 +1,4 @@
-//! Damaged run files: one thing wrong with each, or just not wrong.
+//! Damaged run files: one thing is wrong with each, or only just right.
 
 use crate::gen::rng::Rng;
 use crate::gen::runs::{run, Run};
@@ -20,7 +20,7 @@ pub fn files(seed: u64) -> Vec<Vec<u8>> {
     files
 }
 
-/// A short run with a note, to damage.
+/// Returns a short run with a note, to be damaged.
 fn base(seed: u64, rng: &mut Rng) -> Run {
     let mut run = run(seed, 10);
     run.steps.truncate(6);
@@ -28,7 +28,7 @@ fn base(seed: u64, rng: &mut Rng) -> Run {
     run
 }
 
-/// Each byte of setup and trailer, by one bit and by chance.
+/// Changes each byte of setup and trailer, by one bit and at random.
 fn flipped(rng: &mut Rng, base: &Run, files: &mut Vec<Vec<u8>>) {
     let file = base.file();
     let setup = base.note.len()..base.note.len() + SETUP_BYTES;
@@ -60,7 +60,8 @@ fn cut_and_longer(rng: &mut Rng, base: &Run, files: &mut Vec<Vec<u8>>) {
     }
 }
 
-/// At the file's limits: most bytes, most steps, and one more of each.
+/// Makes files at the limits: the most bytes, the most steps, and one more of
+/// each.
 fn sizes(base: &Run, files: &mut Vec<Vec<u8>>) {
     let room = FILE_BYTES - distance(base.steps.len());
     for len in [room, room - 1, room + 1, room + 16, 2 * FILE_BYTES, 300_000] {
@@ -78,7 +79,7 @@ fn sizes(base: &Run, files: &mut Vec<Vec<u8>>) {
     }
 }
 
-/// Each field of each kind, used or not, as the only one that is not 0.
+/// Makes each field of each kind, used or not, the only one that is not 0.
 fn unused_fields(base: &Run, files: &mut Vec<Vec<u8>>) {
     for kind in 0..=10 {
         let zero = Step { kind, ..Step::default() };
@@ -95,7 +96,7 @@ fn unused_fields(base: &Run, files: &mut Vec<Vec<u8>>) {
     }
 }
 
-/// Counts and distances that do not agree, or reach past the file.
+/// Makes counts and distances that do not agree, or reach past the file.
 fn trailers(rng: &mut Rng, base: &Run, files: &mut Vec<Vec<u8>>) {
     let file = base.file();
     let body = &file[..file.len() - TRAILER_BYTES];

@@ -10,7 +10,7 @@ pub fn good(rng: &mut Rng) -> Vec<u8> {
     setup_bytes(&any(rng))
 }
 
-/// Every field at both ends of its range.
+/// Returns setups with every field at one end of its range.
 pub fn ends() -> [Vec<u8>; 2] {
     let (volume_lease, object_lease, timeout) = (VOLUME_LEASE, OBJECT_LEASE, TIMEOUT);
     let volume_of = [VOLUMES as u8 - 1; OBJECTS];
@@ -20,7 +20,8 @@ pub fn ends() -> [Vec<u8>; 2] {
     [setup_bytes(&smallest), setup_bytes(&largest)]
 }
 
-/// One thing wrong with each: its length, its fourth byte or one field.
+/// Returns setups with one thing wrong: the length, the fourth byte or one
+/// field.
 pub fn bad(rng: &mut Rng) -> Vec<Vec<u8>> {
     let good = good(rng);
     let mut bad: Vec<_> = [0, 1, 16, 47].map(|len| good[..len].to_vec()).into();
@@ -44,8 +45,8 @@ fn out_of_range(rng: &mut Rng) -> Vec<Setup> {
     OUT_OF_RANGE.iter().map(changed).collect()
 }
 
-/// Each field past each end of its range. A volume past the object count is
-/// not 0 but exists.
+/// Each field past each end of its range. A volume past the object count is not
+/// 0 but exists.
 const OUT_OF_RANGE: [fn(&mut Setup); 22] = [
     |s| s.clients = 0,
     |s| s.clients = 17,

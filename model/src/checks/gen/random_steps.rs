@@ -1,5 +1,5 @@
-//! Steps by chance, weighted so that things happen, with clock steps that
-//! aim at the next edges.
+//! Random steps, weighted so that things happen, with clock steps that aim at
+//! the next edges.
 
 use crate::gen::builder::Builder;
 use crate::gen::rng::Rng;
@@ -43,7 +43,7 @@ fn any(b: &mut Builder) -> Step {
     }
 }
 
-/// Mostly the front or the end of the list, sometimes past it.
+/// Returns mostly the front or the end of the list, sometimes a place past it.
 fn place(b: &mut Builder) -> u8 {
     let len = b.queue_len();
     match b.rng.below(10) {
@@ -54,8 +54,8 @@ fn place(b: &mut Builder) -> u8 {
     }
 }
 
-/// An edge ahead of the clock, or a few ticks. At VE and OE the leases end
-/// that were given last.
+/// Returns an edge ahead of the clock, or a time a few ticks on. At VE and OE
+/// the leases given last end.
 pub fn time(rng: &mut Rng, tables: &Tables) -> u32 {
     let (clock, server) = (tables.clock, &tables.server);
     let ends = server.write.iter().map(|write| write.latest_end);

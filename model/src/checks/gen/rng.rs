@@ -1,4 +1,4 @@
-//! A small seeded generator of numbers (splitmix64).
+//! A small seeded random number generator (splitmix64).
 
 #[derive(Clone, Debug)]
 pub struct Rng(u64);
@@ -16,12 +16,12 @@ impl Rng {
         mixed ^ mixed >> 31
     }
 
-    /// A number below `count`, which is not 0.
+    /// Returns a number below `count`, which is not 0.
     pub fn below(&mut self, count: usize) -> usize {
         (self.draw() % count as u64) as usize
     }
 
-    /// A number from `low` to `high`, both included.
+    /// Returns a number from `low` to `high`, both included.
     pub fn range(&mut self, low: u32, high: u32) -> u32 {
         low + self.below((high - low) as usize + 1) as u32
     }

@@ -1,4 +1,4 @@
-//! Whole runs: scenes one after another, or steps by chance alone.
+//! Whole runs: scenes one after another, or only random steps.
 
 use crate::gen::builder::Builder;
 use crate::gen::rng::Rng;
@@ -23,7 +23,7 @@ impl Run {
     }
 }
 
-/// The run of this number under this seed.
+/// Returns the run with this number for this seed.
 pub fn run(seed: u64, number: usize) -> Run {
     let mut rng = Rng::new(seed.wrapping_mul(0x1_0000_0001).wrapping_add(number as u64));
     let setup = setups::any(&mut rng);
@@ -39,7 +39,7 @@ pub fn run(seed: u64, number: usize) -> Run {
     Run { note, setup, steps: b.steps }
 }
 
-/// A run of the most steps, scenes and chance in turn.
+/// Fills a run with the most steps, scenes and random steps in turn.
 fn fill(b: &mut Builder, count: usize) {
     while b.steps.len() < count {
         scenes(b, 0);
@@ -47,7 +47,7 @@ fn fill(b: &mut Builder, count: usize) {
     }
 }
 
-/// One to four scenes, some of them in the disorder left by the last.
+/// Adds one to four scenes, some in the disorder left by the last.
 fn scenes(b: &mut Builder, place: usize) {
     let scenes = all();
     for _ in 0..b.rng.range(1, 4) {

@@ -1,4 +1,4 @@
-//! What scenes have in common: reaching a state, and looking at it.
+//! What scenes share: reaching a state, and looking at it.
 
 use crate::gen::builder::Builder;
 use crate::gen::{random_steps, scenes_answers, scenes_grants, scenes_latest_end, scenes_leases};
@@ -6,8 +6,7 @@ use crate::gen::{scenes_queue, scenes_restart, scenes_writes};
 use crate::limits::CLOCK_MAX;
 use crate::step_record::Step;
 
-/// A scene adds steps to a run; it leaves off where the setup is too small
-/// for it.
+/// A scene adds steps to a run, or stops if the setup is too small for it.
 pub type Scene = fn(&mut Builder);
 
 pub fn all() -> Vec<Scene> {
@@ -24,7 +23,7 @@ pub fn all() -> Vec<Scene> {
     .concat()
 }
 
-/// Asks and delivers only the messages that come of it, leaving older ones
+/// Asks and delivers only the messages that follow from it, leaving older ones
 /// in the queue.
 pub fn exchange(b: &mut Builder, client: u8, object: u8) {
     let before = b.queue_len();
@@ -45,7 +44,7 @@ pub fn hold(b: &mut Builder, client: u8, object: u8) -> bool {
     false
 }
 
-/// Delivers from the front, at most so many.
+/// Delivers from the front, at most this many.
 pub fn drain(b: &mut Builder, most: usize) {
     for _ in 0..most {
         if b.queue_len() == 0 || b.full() {
@@ -73,7 +72,7 @@ pub fn calm(b: &mut Builder) {
     }
 }
 
-/// Reads, all of them where they are few.
+/// Reads copies, all of them if they are few.
 pub fn reads(b: &mut Builder) {
     if b.setup.copy_count() <= 12 {
         for client in 0..b.setup.clients {
@@ -89,8 +88,8 @@ pub fn reads(b: &mut Builder) {
     }
 }
 
-/// Looks at the state from all sides: a difference in the tables should
-/// change an answer here.
+/// Looks at the state from all sides, so that a difference in the tables
+/// changes an answer.
 pub fn probe(b: &mut Builder) {
     reads(b);
     drain(b, 4);

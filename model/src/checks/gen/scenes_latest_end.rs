@@ -18,8 +18,8 @@ pub const SCENES: &[Scene] = &[
     nobody_waiting,
 ];
 
-/// Writes while nobody hears of it, and looks around the latest end and the
-/// one that VE and OE would give.
+/// Writes while nobody hears of it, and looks around the latest end and the one
+/// that VE and OE would give.
 fn write_unheard(b: &mut Builder, object: u8) {
     let old = old_leases_end(&b.setup, b.server(), object.into());
     b.write(object);
@@ -41,7 +41,7 @@ fn write_unheard(b: &mut Builder, object: u8) {
     probe(b);
 }
 
-/// Another client renews the volume, by an object that is not this one.
+/// Lets another client renew the volume through a different object.
 fn hold_sibling(b: &mut Builder, client: u8, object: u8) {
     let (other, sibling) = (b.other_client(client), b.sibling(object));
     if let (Some(other), Some(sibling)) = (other, sibling) {
@@ -49,21 +49,22 @@ fn hold_sibling(b: &mut Builder, client: u8, object: u8) {
     }
 }
 
-/// Forgets what it holds and says so: at the server VE and OE alone remain.
+/// Lets a client forget what it holds and say so: at the server only VE and OE
+/// remain.
 fn drop_leases(b: &mut Builder, client: u8, object: u8) {
     b.push(Step::restart_client(client));
     exchange(b, client, object);
 }
 
-/// Up to the last tick of a fresh volume lease, or one more: then the waiting
-/// client's lesser lease is dead.
+/// Lets time pass to the last tick of a fresh volume lease, or one more: then
+/// the waiting client's lesser lease is dead.
 fn let_time_pass(b: &mut Builder) {
     let lease = b.setup.volume_lease;
     let ticks = b.rng.pick(&[lease / 2, lease - 1, lease]);
     b.advance(ticks);
 }
 
-/// The notice desk's case: VE is of a client that never held the object.
+/// The notice desk's case: VE comes from a client that never held the object.
 fn never_held(b: &mut Builder) {
     let (client, object) = (b.any_client(), b.any_object());
     hold(b, client, object);
@@ -72,7 +73,7 @@ fn never_held(b: &mut Builder) {
     write_unheard(b, object);
 }
 
-/// VE and OE are of a client that has dropped its leases since.
+/// VE and OE come from a client that has since dropped its leases.
 fn held_last_and_dropped(b: &mut Builder) {
     let (client, object) = (b.any_client(), b.any_object());
     let Some(other) = b.other_client(client) else {
@@ -85,8 +86,8 @@ fn held_last_and_dropped(b: &mut Builder) {
     write_unheard(b, object);
 }
 
-/// Each came at another time, in any order, and some were back for another
-/// object: the lesser leases differ.
+/// Each client came at another time, in any order, and some were back for
+/// another object, so the lesser leases differ.
 fn several_waiting(b: &mut Builder) {
     let object = b.any_object();
     let gap = b.rng.range(1, 4);
@@ -101,8 +102,8 @@ fn several_waiting(b: &mut Builder) {
     write_unheard(b, object);
 }
 
-/// The object lease of one client ends first, of the other the volume lease:
-/// the greatest of each is no client's lesser one.
+/// One client's object lease ends first, the other's volume lease: the greatest
+/// of each is neither client's lesser one.
 fn either_lease_first(b: &mut Builder) {
     let (client, object) = (b.any_client(), b.any_object());
     let (Some(other), Some(sibling)) = (b.other_client(client), b.sibling(object)) else {
@@ -133,8 +134,8 @@ fn marked_but_leased(b: &mut Builder) {
     write_unheard(b, sibling);
 }
 
-/// A guard ahead. Leases given since end before it or after it, by which of
-/// the two leases is the shorter and by how late they were given.
+/// A guard is ahead. Leases given since end before it or after it, depending on
+/// which of the two is shorter and on how late they were given.
 fn guard_and_leases(b: &mut Builder) {
     let (client, object) = (b.any_client(), b.any_object());
     hold(b, client, object);
@@ -147,8 +148,8 @@ fn guard_and_leases(b: &mut Builder) {
     write_unheard(b, object);
 }
 
-/// VE and OE are far off and nobody is waited for: the guard alone, if one is
-/// ahead, puts the end off.
+/// VE and OE are far off and nobody is waited for: only the guard, if one is
+/// ahead, delays the end.
 fn nobody_waiting(b: &mut Builder) {
     let (client, object) = (b.any_client(), b.any_object());
     hold(b, client, object);

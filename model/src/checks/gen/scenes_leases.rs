@@ -7,7 +7,7 @@ use crate::step_record::Step;
 pub const SCENES: &[Scene] =
     &[opening, plain_opening, volume_expiry, object_expiry, one_lease_alone, kept_alive];
 
-/// Some clients get some objects.
+/// Gives some objects to some clients.
 pub fn opening(b: &mut Builder) {
     for _ in 0..b.rng.range(1, 6) {
         let (client, object) = (b.any_client(), b.any_object());
@@ -56,8 +56,8 @@ fn object_expiry(b: &mut Builder) {
     probe(b);
 }
 
-/// Renews the volume by another object again and again, until so many ticks
-/// before the lease on this one ends, or as far as 20 renewals go.
+/// Renews the volume through another object again and again, until `early`
+/// ticks before the lease on this one ends, or for 20 renewals.
 pub fn keep_volume(b: &mut Builder, client: u8, object: u8, other: u8, early: u32) {
     let expiry = b.server().object_expiry[usize::from(object)][usize::from(client)];
     let last = expiry.saturating_sub(early);
@@ -71,7 +71,7 @@ pub fn keep_volume(b: &mut Builder, client: u8, object: u8, other: u8, early: u3
     }
 }
 
-/// Renews the volume by another object until the object's lease ends, then
+/// Renews the volume through another object until the object's lease ends, then
 /// changes the object: its old copy has one lease left.
 fn one_lease_alone(b: &mut Builder) {
     let (client, object) = (b.any_client(), b.any_object());
@@ -89,7 +89,7 @@ fn one_lease_alone(b: &mut Builder) {
     probe(b);
 }
 
-/// Renewals in time, with versions that are equal.
+/// Renews in time, with equal versions.
 fn kept_alive(b: &mut Builder) {
     let (client, object) = (b.any_client(), b.any_object());
     for _ in 0..b.rng.range(2, 6) {

@@ -58,8 +58,8 @@ fn take_out(b: &mut Builder) {
     reads(b);
 }
 
-/// A few different messages, taken out of order: a removal closes the gap
-/// and a copy goes to the end.
+/// Takes a few different messages out of order: a removal closes the gap and a
+/// copy goes to the end.
 fn order(b: &mut Builder) {
     for _ in 0..5 {
         let (client, object) = (b.any_client(), b.any_object());
@@ -76,7 +76,8 @@ fn order(b: &mut Builder) {
     probe(b);
 }
 
-/// Refusal 3 by each field that a kind uses, at the first number too high.
+/// Provokes refusal 3 by each field that a kind uses, at the first number too
+/// high.
 fn missing_items(b: &mut Builder) {
     let (clients, objects) = (b.setup.clients, b.setup.objects);
     let high = b.rng.range(0, 200) as u8;
@@ -98,14 +99,15 @@ fn missing_items(b: &mut Builder) {
     probe(b);
 }
 
-/// Refusal 4 below the clock and above its bound, and what is just right.
+/// Provokes refusal 4 below the clock and above its limit, and takes what is
+/// just right.
 fn bad_times(b: &mut Builder) {
     let clock = b.tables().clock;
     for time in [clock.saturating_sub(1), clock, 0, CLOCK_MAX + 1, u32::MAX, clock] {
         b.clock(time);
     }
     reads(b);
-    // The last tick ends most of what a run can do, so it comes rarely.
+    // The last tick ends most of what a run can do, so it is rare.
     if b.rng.percent(10) {
         b.clock(CLOCK_MAX);
         b.clock(CLOCK_MAX);
@@ -113,7 +115,7 @@ fn bad_times(b: &mut Builder) {
     probe(b);
 }
 
-/// Refusal 2, with any fields: the file's shape asks nothing of them.
+/// Provokes refusal 2, with any fields: the file's shape asks nothing of them.
 fn unknown_kinds(b: &mut Builder) {
     for _ in 0..4 {
         let bits = b.rng.draw();

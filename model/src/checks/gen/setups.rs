@@ -1,4 +1,4 @@
-//! Setups: the smallest, the largest, and some between.
+//! Setups: the smallest, the largest, and some in between.
 
 use crate::gen::rng::Rng;
 use crate::limits::OBJECTS;
@@ -22,7 +22,7 @@ pub fn any(rng: &mut Rng) -> Setup {
     setup
 }
 
-/// All objects in volume 0, and ticks as in 01's example.
+/// Returns a setup with all objects in volume 0 and ticks as in 01's example.
 pub fn sized(clients: u8, volumes: u8, objects: u8) -> Setup {
     Setup {
         clients,
@@ -35,8 +35,8 @@ pub fn sized(clients: u8, volumes: u8, objects: u8) -> Setup {
     }
 }
 
-/// Short and long leases, either one the shorter or close to each other, and
-/// the ends of the ranges.
+/// Returns short and long leases, either one shorter or the two close together,
+/// and the ends of the ranges.
 pub fn ticks(rng: &mut Rng) -> (u32, u32, u32) {
     match rng.below(9) {
         0 => (1, 1, 1),

@@ -22,14 +22,14 @@ pub struct WorkloadCall {
 }
 
 impl WorkloadCall {
-    /// With exactly the room that the file takes; past the most steps, with
-    /// room for some more.
+    /// Makes a call with exactly the room that the file takes; past the most
+    /// steps, with room for some more.
     fn new(seed: u32, note: &[u8], setup: &[u8], count: u32) -> WorkloadCall {
         let room = note.len() + distance((count as usize).min(STEPS + 10));
         WorkloadCall { seed, note: note.to_vec(), setup: setup.to_vec(), count, room }
     }
 
-    /// The file that is to be written, or the refusal.
+    /// Returns the file to be written, or the refusal.
     pub fn file(&self) -> Result<Vec<u8>, u8> {
         workload_file(self.seed, &self.note, &self.setup, self.count, self.room)
     }
@@ -70,7 +70,7 @@ fn with_rooms(call: WorkloadCall, calls: &mut Vec<WorkloadCall>) {
     calls.extend(rooms(call.room).map(|room| WorkloadCall { room, ..call.clone() }));
 }
 
-/// Those at the edges and others, in setups by chance.
+/// Adds seeds at the edges and others, in random setups.
 fn seeds(rng: &mut Rng, calls: &mut Vec<WorkloadCall>) {
     for number in 0..40 {
         let seed = SEEDS.get(number).copied().unwrap_or(rng.draw() as u32);
@@ -81,7 +81,7 @@ fn seeds(rng: &mut Rng, calls: &mut Vec<WorkloadCall>) {
     }
 }
 
-/// Every pair of counts that steps are drawn by.
+/// Adds every pair of counts that steps are drawn by.
 fn client_and_object_counts(rng: &mut Rng, calls: &mut Vec<WorkloadCall>) {
     for clients in 1..=CLIENTS as u8 {
         for objects in 1..=OBJECTS as u8 {
@@ -100,7 +100,7 @@ fn step_counts(rng: &mut Rng, calls: &mut Vec<WorkloadCall>) {
     }
 }
 
-/// Files at and past the most bytes.
+/// Adds files at and past the most bytes.
 fn sizes(rng: &mut Rng, calls: &mut Vec<WorkloadCall>) {
     for count in [0, 1, 3_999, 4_000] {
         for len in [FILE_BYTES - 1, FILE_BYTES, FILE_BYTES + 1] {
@@ -110,7 +110,8 @@ fn sizes(rng: &mut Rng, calls: &mut Vec<WorkloadCall>) {
     }
 }
 
-/// All else right, then with each reason for 10, and with all of them.
+/// Adds bad setups with all else right, then with each reason for 10, and with
+/// all of them.
 fn bad_setups(rng: &mut Rng, calls: &mut Vec<WorkloadCall>) {
     let good = lent_setups::good(rng);
     for setup in lent_setups::bad(rng).into_iter().chain([good]) {

@@ -1,5 +1,6 @@
 //! What callers lend the writer of run files (02, A5), in bytes and aimed at
-//! its refusals: one thing wrong, just not wrong, or several at once.
+//! its refusals: one thing wrong, only just right, or several things wrong at
+//! once.
 
 use crate::checked_writer::written;
 use crate::gen::rng::Rng;
@@ -19,13 +20,13 @@ pub struct WriterCall {
 }
 
 impl WriterCall {
-    /// With exactly the room that the file takes.
+    /// Makes a call with exactly the room that the file takes.
     fn new(note: &[u8], setup: &[u8], records: &[u8]) -> WriterCall {
         let room = note.len() + distance(0) + records.len();
         WriterCall { note: note.to_vec(), setup: setup.to_vec(), records: records.to_vec(), room }
     }
 
-    /// The file that it is to write, or the refusal.
+    /// Returns the file to be written, or the refusal.
     pub fn file(&self) -> Result<Vec<u8>, u8> {
         written(&self.note, &self.setup, &self.records, self.room)
     }
@@ -43,7 +44,7 @@ pub fn calls(seed: u64) -> Vec<WriterCall> {
     calls
 }
 
-/// What the file takes, one byte less, and more.
+/// Returns the room that the file takes, one byte less, and more.
 pub fn rooms(len: usize) -> [usize; 5] {
     [len, len - 1, len + 1, len + 100, 0]
 }
@@ -59,7 +60,7 @@ fn whole_runs(seed: u64, calls: &mut Vec<WriterCall>) {
     }
 }
 
-/// Files at and past the most steps, and at and past the most bytes.
+/// Adds files at and past the most steps, and at and past the most bytes.
 fn sizes(rng: &mut Rng, calls: &mut Vec<WriterCall>) {
     for count in [0, 1, 3_999, 4_000, 4_001] {
         let (setup, steps) = (lent_setups::good(rng), some_steps(rng, count));
@@ -73,8 +74,8 @@ fn sizes(rng: &mut Rng, calls: &mut Vec<WriterCall>) {
     }
 }
 
-/// Each field of each known kind, used or not, as the only one that is not 0,
-/// by its lowest bit and its highest; in the first, middle and last step.
+/// Adds each field of each known kind, used or not, as the only one that is not
+/// 0, by its lowest bit and its highest; in the first, middle and last step.
 fn unused_fields(rng: &mut Rng, calls: &mut Vec<WriterCall>) {
     let setup = lent_setups::good(rng);
     for step in (1..=9).flat_map(single_fields) {
@@ -102,7 +103,8 @@ fn single_fields(kind: u8) -> [Step; 10] {
     ]
 }
 
-/// Any field may hold anything. All of them in one file, then one by one.
+/// Adds unknown kinds, whose fields may hold anything: all in one file, then
+/// one by one.
 fn unknown_kinds(rng: &mut Rng, calls: &mut Vec<WriterCall>) {
     let setup = lent_setups::good(rng);
     let steps: Vec<Step> =
@@ -114,7 +116,7 @@ fn unknown_kinds(rng: &mut Rng, calls: &mut Vec<WriterCall>) {
     }
 }
 
-/// Records that do not end with a whole step.
+/// Adds records that do not end with a whole step.
 fn odd_lengths(rng: &mut Rng, calls: &mut Vec<WriterCall>) {
     let setup = lent_setups::good(rng);
     for count in [0, 1, 5, 3_999, 4_000] {
@@ -125,7 +127,8 @@ fn odd_lengths(rng: &mut Rng, calls: &mut Vec<WriterCall>) {
     }
 }
 
-/// All else right, then with each reason for 10, and with all of them.
+/// Adds bad setups with all else right, then with each reason for 10, and with
+/// all of them.
 fn bad_setups(rng: &mut Rng, calls: &mut Vec<WriterCall>) {
     let right = records(&some_steps(rng, 2));
     let odd = record(&Step { place: 1, ..Step::clock(0) });
@@ -152,7 +155,8 @@ fn records(steps: &[Step]) -> Vec<u8> {
     steps.iter().flat_map(record).collect()
 }
 
-/// Known kinds and a few unknown ones; the used fields hold anything.
+/// Returns steps of known kinds and a few unknown ones; the used fields hold
+/// anything.
 fn some_steps(rng: &mut Rng, count: usize) -> Vec<Step> {
     let any = |_| {
         let kind = rng.below(11) as u8;

@@ -1,7 +1,7 @@
-//! How a mistake is made: a type whose rules are the papers' but for one.
+//! How a mistake is made: a type whose rules are the papers', except for one.
 
 /// Makes mistakes about the rules of one trait. The name is the one that
-/// documents cite; what follows it stands in place of the papers' rule.
+/// documents cite; what follows it replaces the papers' rule.
 macro_rules! mistakes_about {
     ($rules:ident: $($(#[$why:meta])* $name:ident $rule:tt)*) => {$(
         $(#[$why])*
@@ -11,8 +11,8 @@ macro_rules! mistakes_about {
     )*};
 }
 
-/// Gives the type its own rule where the trait is the one that it is about, and
-/// the papers' rules otherwise.
+/// Gives the type its own rule if the trait is the one that it is about, and
+/// otherwise the papers' rules.
 macro_rules! implement {
     (RowRules $name:ident $rule:tt) => { impl crate::cases::RowRules for $name $rule };
     (Gate Gate $name:ident $rule:tt) => { impl crate::rules::Gate for $name $rule };

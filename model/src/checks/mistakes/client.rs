@@ -21,14 +21,14 @@ mistakes_about! { ClientRules:
         }
     }
 
-    /// Takes a lease for alive at its expiry.
+    /// Takes a lease to be alive at its expiry.
     read_alive_at_expiry {
         fn both_alive(&self, volume_expiry: u32, object_expiry: u32, clock: u32) -> bool {
             volume_expiry >= clock && object_expiry >= clock
         }
     }
 
-    /// Keeps copies and volume leases over its restart.
+    /// Keeps copies and volume leases across its restart.
     client_restart_keeps_leases {
         fn restart_client(&self, world: &mut World, client: usize) {
             world.requests[client].end();
@@ -36,7 +36,7 @@ mistakes_about! { ClientRules:
         }
     }
 
-    /// Keeps the standing request over its restart.
+    /// Keeps the standing request across its restart.
     client_restart_keeps_request {
         fn restart_client(&self, world: &mut World, client: usize) {
             keeping(world, |w| &mut w.requests[client], |w| Papers.restart_client(w, client));
@@ -59,7 +59,7 @@ mistakes_about! { ClientRules:
         }
     }
 
-    /// Sends no ACK where it holds no copy.
+    /// Sends no ACK if it holds no copy.
     ack_only_with_copy {
         fn receive_invalidate(&self, world: &mut World, client: usize, object: u8, epoch: u32, version: u32) {
             let rule = |w: &mut World| Papers.receive_invalidate(w, client, object, epoch, version);
@@ -71,7 +71,7 @@ mistakes_about! { ClientRules:
         }
     }
 
-    /// Obeys an OFFER that nobody asks for.
+    /// Obeys an OFFER that nobody asked for.
     offer_any_number {
         fn receive_offer(&self, world: &mut World, client: usize, volume: u8, number: u32, epoch: u32) {
             Papers.obey_offer(world, client, volume, number, epoch);

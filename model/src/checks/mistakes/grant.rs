@@ -7,7 +7,7 @@ use crate::rules::{GrantRules, Papers};
 use crate::world::World;
 
 mistakes_about! { GrantRules:
-    /// Stores a GRANT that nobody asks for.
+    /// Stores a GRANT that nobody asked for.
     grant_any_number {
         fn receive_grant(&self, world: &mut World, client: usize, grant: &Grant) {
             Papers.store_grant(world, client, grant);
@@ -57,7 +57,7 @@ mistakes_about! { GrantRules:
         }
     }
 
-    /// Ignores a GRANT without a value where another version is held, as before
+    /// Ignores a GRANT without a value if another version is held, as before
     /// A4.
     no_value_needs_version {
         fn receive_grant(&self, world: &mut World, client: usize, grant: &Grant) {
@@ -68,7 +68,7 @@ mistakes_about! { GrantRules:
         }
     }
 
-    /// Ignores a GRANT without a value where no copy is held.
+    /// Ignores a GRANT without a value if no copy is held.
     no_value_needs_copy {
         fn receive_grant(&self, world: &mut World, client: usize, grant: &Grant) {
             if grant.value.is_some() || world.copy(client, grant.object.into()).version != 0 {
@@ -94,7 +94,7 @@ mistakes_about! { GrantRules:
     }
 }
 
-/// Stores the GRANT and, where it has no value, puts the part back as it was.
+/// Stores the GRANT and, if it has no value, restores the part.
 fn keeping_without_value<T: Copy>(
     world: &mut World,
     client: usize,

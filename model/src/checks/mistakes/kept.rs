@@ -1,8 +1,8 @@
-//! What a mistake keeps although a rule changes it.
+//! Undoes a part of what a rule changes.
 
 use crate::world::World;
 
-/// Goes by the rule, and puts the part back as it was.
+/// Applies the rule, then restores the part.
 pub fn keeping<T: Copy>(
     world: &mut World,
     part: impl for<'a> Fn(&'a mut World) -> &'a mut T,
@@ -13,7 +13,7 @@ pub fn keeping<T: Copy>(
     *part(world) = kept;
 }
 
-/// Goes by the rule, and takes back what it sent.
+/// Applies the rule, then takes back what it sent.
 pub fn unsent(world: &mut World, rule: impl FnOnce(&mut World)) {
     let len = world.tables.queue.len;
     rule(world);

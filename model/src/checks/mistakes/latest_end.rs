@@ -30,21 +30,21 @@ mistakes_about! { LatestEnd:
         }
     }
 
-    /// Takes a waiting client's volume expiry alone for the latest end.
+    /// Uses only a waiting client's volume expiry for the latest end.
     latest_end_by_volume {
         fn shown_until(&self, volume_expiry: u32, _: u32) -> u32 {
             volume_expiry
         }
     }
 
-    /// Takes the greater of a waiting client's two expiries for it.
+    /// Uses the greater of a waiting client's two expiries.
     latest_end_by_greater {
         fn shown_until(&self, volume_expiry: u32, object_expiry: u32) -> u32 {
             volume_expiry.max(object_expiry)
         }
     }
 
-    /// Takes the waiting client whose leases end first for it.
+    /// Uses the waiting client whose leases end first.
     latest_end_of_first {
         fn leases_end(&self, world: &World, object: usize, waiting: u16) -> u32 {
             let alone = members(waiting.into()).map(|client| Papers.leases_end(world, object, 1 << client));
@@ -52,8 +52,8 @@ mistakes_about! { LatestEnd:
         }
     }
 
-    /// Takes the greatest volume and the greatest object expiry of the waiting
-    /// clients, and the lesser of these two.
+    /// Uses the lesser of the greatest volume expiry and the greatest object
+    /// expiry of the waiting clients.
     latest_end_across_clients {
         fn leases_end(&self, world: &World, object: usize, waiting: u16) -> u32 {
             let server = &world.tables.server;
@@ -62,7 +62,7 @@ mistakes_about! { LatestEnd:
         }
     }
 
-    /// Takes the lesser of VE and OE for it, as before A3.
+    /// Uses the lesser of VE and OE, as before A3.
     latest_end_by_old_rule {
         fn leases_end(&self, world: &World, object: usize, _: u16) -> u32 {
             old_leases_end(world.setup, &world.tables.server, object)
@@ -70,7 +70,7 @@ mistakes_about! { LatestEnd:
     }
 }
 
-/// The latest of these clients' expiries.
+/// Returns the latest of these clients' expiries.
 fn latest(expiries: &[u32; CLIENTS], clients: u16) -> u32 {
     members(clients.into()).map(|client| expiries[client]).max().unwrap_or(0)
 }

@@ -6,7 +6,7 @@ use crate::queue::Queue;
 use crate::rules::Papers;
 
 mistakes_about! { NetworkRules:
-    /// Puts the 65th message over the 64th.
+    /// Overwrites the 64th message with the 65th.
     full_overwrites_last {
         fn put(&self, queue: &mut Queue, message: Message) {
             queue.len = queue.len.min(QUEUE - 1);

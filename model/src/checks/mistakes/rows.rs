@@ -13,7 +13,7 @@ const RENEW: u64 = 1;
 const GRANT: u64 = 2;
 
 mistakes_about! { RowRules:
-    /// Reads one of kind 0 as a RENEW.
+    /// Reads a row of kind 0 as a RENEW.
     row_of_kind_0 {
         fn message(&self, row: &Row) -> Option<Message> {
             let kind = if row.fields[KIND] == 0 { RENEW } else { row.fields[KIND] };
@@ -21,7 +21,7 @@ mistakes_about! { RowRules:
         }
     }
 
-    /// Reads one of a kind above 6 as a RENEW.
+    /// Reads a row of a kind above 6 as a RENEW.
     row_of_kind_above_6 {
         fn message(&self, row: &Row) -> Option<Message> {
             let above = (7..=255).contains(&row.fields[KIND]);
@@ -29,35 +29,35 @@ mistakes_about! { RowRules:
         }
     }
 
-    /// Reads the low byte of a row's kind alone.
+    /// Reads only the low byte of a row's kind.
     row_kind_low_byte {
         fn message(&self, row: &Row) -> Option<Message> {
             low_byte(row, KIND).message()
         }
     }
 
-    /// Reads the low byte of a row's client alone.
+    /// Reads only the low byte of a row's client.
     row_client_low_byte {
         fn message(&self, row: &Row) -> Option<Message> {
             low_byte(row, CLIENT).message()
         }
     }
 
-    /// Reads the low byte of a row's object or volume alone.
+    /// Reads only the low byte of a row's object or volume.
     row_object_low_byte {
         fn message(&self, row: &Row) -> Option<Message> {
             low_byte(row, ITEM).message()
         }
     }
 
-    /// Reads the low byte of a row's presence alone.
+    /// Reads only the low byte of a row's presence.
     row_presence_low_byte {
         fn message(&self, row: &Row) -> Option<Message> {
             low_byte(row, PRESENT).message()
         }
     }
 
-    /// Takes a GRANT's presence above 1 for a 1.
+    /// Takes a GRANT's presence above 1 as 1.
     row_any_presence {
         fn message(&self, row: &Row) -> Option<Message> {
             let above = row.fields[KIND] == GRANT && (2..=255).contains(&row.fields[PRESENT]);
@@ -81,35 +81,35 @@ mistakes_about! { RowRules:
         }
     }
 
-    /// The same of a number.
+    /// The same for a number.
     row_stray_number {
         fn message(&self, row: &Row) -> Option<Message> {
             without_stray(row, NUMBER).message()
         }
     }
 
-    /// The same of a volume expiry.
+    /// The same for a volume expiry.
     row_stray_volume_expiry {
         fn message(&self, row: &Row) -> Option<Message> {
             without_stray(row, VOLUME_EXPIRY).message()
         }
     }
 
-    /// The same of a version.
+    /// The same for a version.
     row_stray_version {
         fn message(&self, row: &Row) -> Option<Message> {
             without_stray(row, VERSION).message()
         }
     }
 
-    /// The same of an object expiry.
+    /// The same for an object expiry.
     row_stray_object_expiry {
         fn message(&self, row: &Row) -> Option<Message> {
             without_stray(row, OBJECT_EXPIRY).message()
         }
     }
 
-    /// The same of a value.
+    /// The same for a value.
     row_stray_value {
         fn message(&self, row: &Row) -> Option<Message> {
             without_stray(row, VALUE).message()
@@ -130,7 +130,7 @@ mistakes_about! { RowRules:
         }
     }
 
-    /// Asks about the row after the last one too.
+    /// Asks about the row after the last one, too.
     rows_past_length {
         fn asks_about(&self, len: usize, place: usize, step: &Step) -> bool {
             place == len || Papers.asks_about(len, place, step)
@@ -145,14 +145,14 @@ mistakes_about! { RowRules:
         }
     }
 
-    /// Asks whether the kind of the step is known first.
+    /// First asks whether the kind of the step is known.
     rows_after_kind {
         fn refusal_of_row(&self, step: &Step) -> u8 {
             if is_known(step.kind) { Papers.refusal_of_row(step) } else { UNKNOWN_KIND }
         }
     }
 
-    /// Answers 1 and makes the row a blank one.
+    /// Answers 1 and blanks the row.
     row_blanked {
         fn refused(&self, case: &mut CaseTables) {
             let wrong = case.rows.iter_mut().filter(|row| row.message().is_none());
@@ -165,7 +165,7 @@ fn low_byte(row: &Row, field: usize) -> Row {
     row.with(field, row.fields[field] & 255)
 }
 
-/// With 0 in a field that its kind lacks.
+/// Returns the row with 0 in a field that its kind lacks.
 fn without_stray(row: &Row, field: usize) -> Row {
     row.with(field, if row.lacks(field) { 0 } else { row.fields[field] })
 }

@@ -61,7 +61,7 @@ mistakes_about! { ServerRules:
         }
     }
 
-    /// Sends no GRANT where the client holds the version.
+    /// Sends no GRANT if the client holds the version.
     grant_only_news {
         fn grant(&self, world: &mut World, renew: &Renew) {
             if renew.version == world.tables.server.version[renew.object] {

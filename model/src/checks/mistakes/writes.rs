@@ -1,4 +1,4 @@
-//! Mistakes about whom a write waits for and when it completes.
+//! Mistakes about which clients a write waits for and when it completes.
 
 use crate::bits::members;
 use crate::mistakes::kept::keeping;
@@ -6,7 +6,7 @@ use crate::rules::{alive_set, Papers};
 use crate::world::World;
 
 mistakes_about! { WriteRules:
-    /// Waits for no unreachable client, though its volume lease lives.
+    /// Waits for no unreachable client, even if its volume lease is alive.
     skip_unreachable {
         fn volume_leases_alive(&self, _: &World, _: usize) -> u16 {
             0
@@ -27,7 +27,7 @@ mistakes_about! { WriteRules:
         }
     }
 
-    /// Waits beyond the latest end.
+    /// Waits past the latest end.
     waits_forever {
         fn is_over(&self, world: &World, object: usize) -> bool {
             Papers.is_over(world, object) && world.waiting(object) == 0
@@ -53,14 +53,14 @@ mistakes_about! { WriteRules:
         }
     }
 
-    /// Marks nobody unreachable on completing.
+    /// Marks nobody unreachable when a write completes.
     complete_without_marking {
         fn complete(&self, world: &mut World, object: usize) {
             keeping(world, |w| &mut w.tables.server.unreachable, |w| Papers.complete(w, object));
         }
     }
 
-    /// Voids the offers of those it marks on completing.
+    /// Voids the offers of the clients that a completing write marks.
     complete_clears_offers {
         fn complete(&self, world: &mut World, object: usize) {
             let (volume, waiting) = (world.setup.volume(object), world.waiting(object));
