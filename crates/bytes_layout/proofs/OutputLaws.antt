@@ -13,7 +13,8 @@ bytes-again l s p i A h e =
     let j : p + (i + 1) ≡ suc (p + i) = omega arith in
     rw (j, add-one) (rw (drop-cons s i 0 h) at e)
 
-pub bytes-written : (l₀ l s : List ℕ) (p i : ℕ) → length l ≡ length l₀ → length s ≤ i → i ≤ length s → sets l (p + i) (drop i s) ≡ sets l₀ p s → Written l₀ l p s (p + length s)
+pub bytes-written : (l₀ l s : List ℕ) (p i : ℕ) → length l ≡ length l₀
+    → length s ≤ i → i ≤ length s → sets l (p + i) (drop i s) ≡ sets l₀ p s → Written l₀ l p s (p + length s)
 bytes-written l₀ l s p i k g h e =
     let j : i ≡ length s = omega arith in
     record { next = refl; bytes = record { stored = (rw (j, drop-length) at e); long = k } }
