@@ -26,7 +26,17 @@ volumes-fit-requires c κs = search needs
 
 returns : tie.Need-returns
 unfolding inRange
-returns c = let a = c .before .before .before in rw (a .before .before .before .between .ensures, a .before .before .between2 .ensures, a .before .between3 .ensures, a .between4 .ensures, c .before .before .between5 .ensures, c .before .between6 .ensures, c .volumes-fit .ensures)
+returns c =
+    let a = c .before .before .before in
+    rw (
+      a .before .before .before .between .ensures,
+      a .before .before .between2 .ensures,
+      a .before .between3 .ensures,
+      a .between4 .ensures,
+      c .before .before .between5 .ensures,
+      c .before .between6 .ensures,
+      c .volumes-fit .ensures,
+    )
 
 pub in-range-spec : {M : Type 1} → statement M
 in-range-spec =
