@@ -37,7 +37,18 @@ message-back m = rw (kind-back, client-back)
 pub same-self : (f : Fields) → same f f ≡ true
 unfolding same
 same-self f =
-    rw (eq-eqb (f .kind) _ refl, eq-eqb (f .client) _ refl, eq-eqb (f .object) _ refl, eq-eqb (f .present) _ refl, eq-eqb (f .number) _ refl, eq-eqb (f .«volume_expiry») _ refl, eq-eqb (f .epoch) _ refl, eq-eqb (f .version) _ refl, eq-eqb (f .«object_expiry») _ refl, eq-eqb (f .value) _ refl)
+    rw (
+      eq-eqb (f .kind) _ refl,
+      eq-eqb (f .client) _ refl,
+      eq-eqb (f .object) _ refl,
+      eq-eqb (f .present) _ refl,
+      eq-eqb (f .number) _ refl,
+      eq-eqb (f .«volume_expiry») _ refl,
+      eq-eqb (f .epoch) _ refl,
+      eq-eqb (f .version) _ refl,
+      eq-eqb (f .«object_expiry») _ refl,
+      eq-eqb (f .value) _ refl,
+    )
 
 -- so the fields of every message are sound
 pub message-sound : (m : Message) → sound (fieldsOf m) ≡ true
@@ -56,7 +67,9 @@ same-true f g e =
     let a = and-true _ _ (b .0) in
     let z = and-true _ _ (a .0) in
     let y = and-true _ _ (z .0) in
-    rebuilt (eqb-true _ _ (y .0)) (eqb-true _ _ (y .1)) (eqb-true _ _ (z .1)) (eqb-true _ _ (a .1)) (eqb-true _ _ (b .1)) (eqb-true _ _ (c .1)) (eqb-true _ _ (d .1)) (eqb-true _ _ (h .1)) (eqb-true _ _ (i .1)) (eqb-true _ _ (j .1))
+    rebuilt (eqb-true _ _ (y .0))
+    (eqb-true _ _ (y .1)) (eqb-true _ _ (z .1)) (eqb-true _ _ (a .1)) (eqb-true _ _ (b .1))
+    (eqb-true _ _ (c .1)) (eqb-true _ _ (d .1)) (eqb-true _ _ (h .1)) (eqb-true _ _ (i .1)) (eqb-true _ _ (j .1))
   where
     rebuilt : f .kind ≡ g .kind → f .client ≡ g .client → f .object ≡ g .object → f .present ≡ g .present → f .number ≡ g .number
         → f .«volume_expiry» ≡ g .«volume_expiry» → f .epoch ≡ g .epoch → f .version ≡ g .version → f .«object_expiry» ≡ g .«object_expiry» → f .value ≡ g .value
