@@ -38,7 +38,8 @@ module _ (l : List ℕ) (p y : ℕ) where
       let f : n ≡ suc (n - 1) = omega arith in
       rw e (last-first (n - 1) ∙ (rw f at i))
 
-  pub digits-written : (l₀ : List ℕ) (n x r : ℕ) → r ≡ width x → length l ≡ length l₀ → n ≤ 0 → sets l p (digits n y) ≡ sets l₀ p (digits r x) → Written l₀ l p (decimal x) (p + r)
+  pub digits-written : (l₀ : List ℕ) (n x r : ℕ) → r ≡ width x
+      → length l ≡ length l₀ → n ≤ 0 → sets l p (digits n y) ≡ sets l₀ p (digits r x) → Written l₀ l p (decimal x) (p + r)
   unfolding digits decimal
   digits-written l₀ n x r e k h i =
       let z : n ≡ 0 = omega arith in
