@@ -18,7 +18,9 @@ use Rattle.protocol.specs.Answers.{doneOrCompleted, answerNumber, answerValue, 
 use Rattle.protocol.specs.Gate.{isClock, isRead, isWrite, isDeliver, known, refusal}
 use Rattle.protocol.specs.Decide.{received, taken, readDecided, askDecided, deliverDecided, restartDecided, performed}
 use Rattle.protocol.specs.World.{World, answerOf}
-use Rattle.protocol.specs.Soundness.StepCases.{copyOf, requestOf, recordsOf, accepted, accepted-answer, refused-answer, by-kind, clock-performed, read-performed, ask-performed, write-performed, deliver-performed, lose-performed, double-performed, server-performed, client-performed}
+use Rattle.protocol.specs.Soundness.StepCases.{copyOf, requestOf, recordsOf, accepted, accepted-answer, refused-answer, by-kind}
+use Rattle.protocol.specs.Soundness.StepCases.{clock-performed, read-performed, ask-performed, write-performed, deliver-performed}
+use Rattle.protocol.specs.Soundness.StepCases.{lose-performed, double-performed, server-performed, client-performed}
 
 -- "the first "no" gives its number": the number with which the gate refuses a step, or 0
 abbrev pub refusalAt : Setup → World → Step → ℕ
