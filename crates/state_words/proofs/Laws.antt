@@ -15,7 +15,10 @@ use Rattle.protocol.specs.declared.setup.Setup.{Setup}
 use Rattle.protocol.specs.Setup.{inRange}
 use Rattle.protocol.specs.Messages.{blank}
 use Rattle.protocol.specs.Tables.{freshTables, noCopy, freshRequest}
-use Rattle.state_words.specs.Fields.{wordLengths, valueLengths, at, WORDS, VALUES, CLOCK, LENGTH, VOLUME-EPOCH, VOLUME-EXPIRY, GUARD, SEEN, SESSION-EXPIRY, UNREACHABLE, OFFER, VERSION, OBJECT-EXPIRY, STANDING, END, LEASE, WAITING, VIEW-EPOCH, VIEW-EXPIRY, COPY-VERSION, COPY-EXPIRY, REQUEST-NEXT, REQUEST-STANDING, REQUEST-NUMBER, REQUEST-OBJECT, VALUE, PENDING, COPY-VALUE}
+use Rattle.state_words.specs.Fields.{wordLengths, valueLengths, at, WORDS, VALUES, CLOCK, LENGTH, VOLUME-EPOCH, VOLUME-EXPIRY, GUARD}
+use Rattle.state_words.specs.Fields.{SEEN, SESSION-EXPIRY, UNREACHABLE, OFFER, VERSION, OBJECT-EXPIRY, STANDING, END, LEASE, WAITING}
+use Rattle.state_words.specs.Fields.{VIEW-EPOCH, VIEW-EXPIRY, COPY-VERSION, COPY-EXPIRY, REQUEST-NEXT, REQUEST-STANDING}
+use Rattle.state_words.specs.Fields.{REQUEST-NUMBER, REQUEST-OBJECT, VALUE, PENDING, COPY-VALUE}
 use Rattle.state_words.specs.Rows.{messageFrom}
 use Rattle.state_words.specs.View.{tablesOf, copyAt, requestAt, recordsOf, freshRecords}
 
@@ -41,19 +44,60 @@ module _ (w x a b c : List ℕ) (l : length w ≡ WORDS)
   tables-filled =
       let i = length-filled (at VOLUME-EPOCH) 8 1 w a e in
       let j = length-filled (at VERSION) 32 1 a b f in
-      rw (filled-field wordLengths b c REQUEST-NEXT 1 (omega arith) g, filled-field wordLengths a b VERSION 1 (omega arith) f, filled-field wordLengths w a VOLUME-EPOCH 1 (omega arith) e, none CLOCK (omega arith), none LENGTH (omega arith), none VOLUME-EXPIRY (omega arith), none GUARD (omega arith), none SEEN (omega arith), none SESSION-EXPIRY (omega arith), none UNREACHABLE (omega arith), none OFFER (omega arith), none OBJECT-EXPIRY (omega arith), none STANDING (omega arith), none END (omega arith), none LEASE (omega arith), none WAITING (omega arith), none VIEW-EPOCH (omega arith), none VIEW-EXPIRY (omega arith), empty VALUE (omega arith), empty PENDING (omega arith), no-messages _ _ 64, flags-zero 128, flags-zero 32, flags-zero 512)
+      rw (
+        filled-field wordLengths b c REQUEST-NEXT 1 (omega arith) g,
+        filled-field wordLengths a b VERSION 1 (omega arith) f,
+        filled-field wordLengths w a VOLUME-EPOCH 1 (omega arith) e,
+        none CLOCK (omega arith),
+        none LENGTH (omega arith),
+        none VOLUME-EXPIRY (omega arith),
+        none GUARD (omega arith),
+        none SEEN (omega arith),
+        none SESSION-EXPIRY (omega arith),
+        none UNREACHABLE (omega arith),
+        none OFFER (omega arith),
+        none OBJECT-EXPIRY (omega arith),
+        none STANDING (omega arith),
+        none END (omega arith),
+        none LEASE (omega arith),
+        none WAITING (omega arith),
+        none VIEW-EPOCH (omega arith),
+        none VIEW-EXPIRY (omega arith),
+        empty VALUE (omega arith),
+        empty PENDING (omega arith),
+        no-messages _ _ 64,
+        flags-zero 128,
+        flags-zero 32,
+        flags-zero 512,
+      )
 
   records-filled : recordsOf c x ≡ freshRecords
   unfolding recordsOf
   records-filled =
       let i = length-filled (at VOLUME-EPOCH) 8 1 w a e in
       let j = length-filled (at VERSION) 32 1 a b f in
-      rw (filled-field wordLengths b c REQUEST-NEXT 1 (omega arith) g, filled-field wordLengths a b VERSION 1 (omega arith) f, filled-field wordLengths w a VOLUME-EPOCH 1 (omega arith) e, none COPY-VERSION (omega arith), none COPY-EXPIRY (omega arith), none REQUEST-STANDING (omega arith), none REQUEST-NUMBER (omega arith), none REQUEST-OBJECT (omega arith), empty COPY-VALUE (omega arith), no-copies 512, no-requests 16)
+      rw (
+        filled-field wordLengths b c REQUEST-NEXT 1 (omega arith) g,
+        filled-field wordLengths a b VERSION 1 (omega arith) f,
+        filled-field wordLengths w a VOLUME-EPOCH 1 (omega arith) e,
+        none COPY-VERSION (omega arith),
+        none COPY-EXPIRY (omega arith),
+        none REQUEST-STANDING (omega arith),
+        none REQUEST-NUMBER (omega arith),
+        none REQUEST-OBJECT (omega arith),
+        empty COPY-VALUE (omega arith),
+        no-copies 512,
+        no-requests 16,
+      )
 
 pub fresh-filled : (a b c : List ℕ) → a ≡ filling (at VOLUME-EPOCH) 8 1 (replicate WORDS 0) → b ≡ filling (at VERSION) 32 1 a → c ≡ filling (at REQUEST-NEXT) 16 1 b
     → (tablesOf c (replicate VALUES 0) ≡ freshTables) × (recordsOf c (replicate VALUES 0) ≡ freshRecords)
-fresh-filled a b c e f g =
-    (tables-filled (replicate WORDS 0) (replicate VALUES 0) a b c (length-replicate {A = ℕ} WORDS 0) (part-replicate wordLengths WORDS 0) (part-replicate valueLengths VALUES 0) e f g, records-filled (replicate WORDS 0) (replicate VALUES 0) a b c (length-replicate {A = ℕ} WORDS 0) (part-replicate wordLengths WORDS 0) (part-replicate valueLengths VALUES 0) e f g)
+fresh-filled a b c e f g = (
+  tables-filled (replicate WORDS 0) (replicate VALUES 0) a b c (length-replicate {A = ℕ} WORDS 0)
+      (part-replicate wordLengths WORDS 0) (part-replicate valueLengths VALUES 0) e f g,
+  records-filled (replicate WORDS 0) (replicate VALUES 0) a b c (length-replicate {A = ℕ} WORDS 0)
+      (part-replicate wordLengths WORDS 0) (part-replicate valueLengths VALUES 0) e f g,
+)
 
 -- ---- `fresh_for`: w and x become v and y, and n is returned
 abbrev Answers : Setup → List ℕ → List ℕ → List ℕ → List ℕ → ℕ → Type 0

@@ -11,7 +11,10 @@ use Rattle.protocol.specs.declared.setup.Setup.{Setup}
 use Rattle.protocol.specs.declared.tables.Tables.{Tables}
 use Rattle.protocol.specs.Tables.{noCopy, freshRequest}
 use Rattle.protocol.specs.World.{World}
-use Rattle.state_words.specs.Fields.{wordLengths, valueLengths, CLOCK, VOLUME-EPOCH, VOLUME-EXPIRY, GUARD, SEEN, SESSION-EXPIRY, UNREACHABLE, OFFER, VERSION, OBJECT-EXPIRY, STANDING, END, LEASE, WAITING, VIEW-EPOCH, VIEW-EXPIRY, COPY-VERSION, COPY-EXPIRY, REQUEST-NEXT, REQUEST-STANDING, REQUEST-NUMBER, REQUEST-OBJECT, VALUE, PENDING, COPY-VALUE}
+use Rattle.state_words.specs.Fields.{wordLengths, valueLengths, CLOCK, VOLUME-EPOCH, VOLUME-EXPIRY, GUARD, SEEN, SESSION-EXPIRY}
+use Rattle.state_words.specs.Fields.{UNREACHABLE, OFFER, VERSION, OBJECT-EXPIRY, STANDING, END, LEASE, WAITING, VIEW-EPOCH}
+use Rattle.state_words.specs.Fields.{VIEW-EXPIRY, COPY-VERSION, COPY-EXPIRY, REQUEST-NEXT, REQUEST-STANDING, REQUEST-NUMBER}
+use Rattle.state_words.specs.Fields.{REQUEST-OBJECT, VALUE, PENDING, COPY-VALUE}
 use Rattle.state_words.specs.Rows.{queueIn}
 
 -- the tables in these fields

@@ -8,7 +8,9 @@ use Rattle.state_words.proofs.pass.fill.Statement.{statement}
 use Rattle.state_words.proofs.pass.fill.Tie as tie
 
 abbrev Inv-loop : tie.InvT-loop
-Inv-loop words₀ field n number i₀ words i = (i ≤ n) × (foldFrom (storeAt always (λ (i : ℕ). field + i) (λ (i : ℕ). number)) words i (n - i) ≡ foldFrom (storeAt always (λ (i : ℕ). field + i) (λ (i : ℕ). number)) words₀ 0 n)
+Inv-loop words₀ field n number i₀ words i =
+    let one-turn = storeAt always (λ (i : ℕ). field + i) (λ (i : ℕ). number) in
+    (i ≤ n) × (foldFrom one-turn words i (n - i) ≡ foldFrom one-turn words₀ 0 n)
 
 abbrev μ-loop : tie.MeasureT-loop
 μ-loop words₀ field n number i₀ words i = n - i

@@ -8,7 +8,9 @@ use Rattle.state_words.proofs.pass.fill_values.Statement.{statement}
 use Rattle.state_words.proofs.pass.fill_values.Tie as tie
 
 abbrev Inv-loop : tie.InvT-loop
-Inv-loop values₀ field n number i₀ values i = (i ≤ n) × (foldFrom (storeAt always (λ (i : ℕ). field + i) (λ (i : ℕ). number)) values i (n - i) ≡ foldFrom (storeAt always (λ (i : ℕ). field + i) (λ (i : ℕ). number)) values₀ 0 n)
+Inv-loop values₀ field n number i₀ values i =
+    let one-turn = storeAt always (λ (i : ℕ). field + i) (λ (i : ℕ). number) in
+    (i ≤ n) × (foldFrom one-turn values i (n - i) ≡ foldFrom one-turn values₀ 0 n)
 
 abbrev μ-loop : tie.MeasureT-loop
 μ-loop values₀ field n number i₀ values i = n - i
