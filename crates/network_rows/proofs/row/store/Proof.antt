@@ -10,7 +10,9 @@ use Rattle.network_rows.proofs.row.store.Statement.{statement}
 use Rattle.network_rows.proofs.row.store.Tie as tie
 
 abbrev Inv-loop : tie.InvT-loop
-Inv-loop words₀ place row k₀ words k = (k ≤ 9) × (foldFrom (storeAt always (λ (k : ℕ). at MESSAGES + (place * 9 + k)) (λ (k : ℕ). getD row k 0)) words k (9 - k) ≡ foldFrom (storeAt always (λ (k : ℕ). at MESSAGES + (place * 9 + k)) (λ (k : ℕ). getD row k 0)) words₀ 0 9)
+Inv-loop words₀ place row k₀ words k =
+    let one-turn = storeAt always (λ (k : ℕ). at MESSAGES + (place * 9 + k)) (λ (k : ℕ). getD row k 0) in
+    (k ≤ 9) × (foldFrom one-turn words k (9 - k) ≡ foldFrom one-turn words₀ 0 9)
 
 abbrev μ-loop : tie.MeasureT-loop
 μ-loop words₀ place row k₀ words k = 9 - k
