@@ -21,7 +21,8 @@ use Rattle.network_send.proofs.Rows.{items-set}
 module _ (w x u : List ℕ) (lw : length w ≡ WORDS) (lx : length x ≡ VALUES) where
   module _ (m : Message) (f : Fields) (r : List ℕ) (h : getD w 1 0 < 64) (e : f ≡ fieldsOf m) (g : (r ≡ wordsOf f) × Narrow f)
       (k : u ≡ storeEach always (λ (k : ℕ). at MESSAGES + (getD w 1 0 * 9 + k)) (λ (k : ℕ). getD r k 0) w 9) where
-    row-stored : parts wordLengths u ≡ withPart (parts wordLengths w) MESSAGES (storeEach always (λ (k : ℕ). getD w 1 0 * 9 + k) (λ (k : ℕ). getD (wordsOf f) k 0) (parts wordLengths w MESSAGES) 9)
+    row-stored : parts wordLengths u ≡ withPart (parts wordLengths w) MESSAGES (storeEach always (λ (k : ℕ).
+        getD w 1 0 * 9 + k) (λ (k : ℕ). getD (wordsOf f) k 0) (parts wordLengths w MESSAGES) 9)
     row-stored =
         ap (parts wordLengths) (k ∙ ap (λ (r : List ℕ). storeEach always (λ (k : ℕ). at MESSAGES + (getD w 1 0 * 9 + k)) (λ (k : ℕ). getD r k 0) w 9) (g .0))
         ∙ stored-each wordLengths MESSAGES always (λ (k : ℕ). getD w 1 0 * 9 + k) (λ (k : ℕ). getD (wordsOf f) k 0) 9 (λ d a. omega arith) w
@@ -29,7 +30,18 @@ module _ (w x u : List ℕ) (lw : length w ≡ WORDS) (lx : length x ≡ VALUES)
     tables-pushed : tablesOf (set u 1 (getD w 1 0 + 1)) (set x (atValue MESSAGE-VALUE + getD w 1 0) (f .value)) ≡ sent (tablesOf w x) m
     unfolding tablesOf pushed
     tables-pushed =
-        rw (stored wordLengths u LENGTH 0 (getD w 1 0 + 1) (omega arith), row-stored, stored valueLengths x MESSAGE-VALUE (getD w 1 0) (f .value) h, ← part-at wordLengths w LENGTH 0 (omega arith), lt-ltb (getD w 1 0) 64 h, getD-set-same (parts wordLengths w LENGTH) 0 (getD w 1 0 + 1) 0 (omega (arith, part-length wordLengths w LENGTH (omega arith))), items-set (parts wordLengths w MESSAGES) (parts valueLengths x MESSAGE-VALUE) (getD w 1 0) m f h (part-length wordLengths w MESSAGES (omega arith)) (part-length valueLengths x MESSAGE-VALUE (omega arith)) (g .1) e)
+        rw (
+          stored wordLengths u LENGTH 0 (getD w 1 0 + 1) (omega arith),
+          row-stored,
+          stored valueLengths x MESSAGE-VALUE (getD w 1 0) (f .value) h,
+          ← part-at wordLengths w LENGTH 0 (omega arith),
+          lt-ltb (getD w 1 0) 64 h,
+          getD-set-same (parts wordLengths w LENGTH)
+              0 (getD w 1 0 + 1) 0 (omega (arith, part-length wordLengths w LENGTH (omega arith))),
+          items-set (parts wordLengths w MESSAGES)
+              (parts valueLengths x MESSAGE-VALUE) (getD w 1 0) m f h (part-length wordLengths w MESSAGES (omega arith))
+              (part-length valueLengths x MESSAGE-VALUE (omega arith)) (g .1) e,
+        )
 
     records-pushed : recordsOf (set u 1 (getD w 1 0 + 1)) (set x (atValue MESSAGE-VALUE + getD w 1 0) (f .value)) ≡ recordsOf w x
     unfolding recordsOf

@@ -23,7 +23,22 @@ use Rattle.network_rows.proofs.Places.{message-same, at-in, at-past}
 row-is : (a v : List ℕ) (i : ℕ) (f : Fields) → Narrow f → ((k : ℕ) → k < 9 → getD a (i * 9 + k) 0 ≡ getD (wordsOf f) k 0) → getD v i 0 ≡ f .value → fieldsAt a v i ≡ f
 unfolding fieldsAt
 row-is a v i f n h e =
-    rw (h 0 (omega arith), h 1 (omega arith), h 2 (omega arith), h 3 (omega arith), h 4 (omega arith), h 5 (omega arith), h 6 (omega arith), h 7 (omega arith), h 8 (omega arith), e, byte (f .kind) (n .0), byte (f .client) (n .1), byte (f .object) (n .2), byte (f .present) (n .3))
+    rw (
+      h 0 (omega arith),
+      h 1 (omega arith),
+      h 2 (omega arith),
+      h 3 (omega arith),
+      h 4 (omega arith),
+      h 5 (omega arith),
+      h 6 (omega arith),
+      h 7 (omega arith),
+      h 8 (omega arith),
+      e,
+      byte (f .kind) (n .0),
+      byte (f .client) (n .1),
+      byte (f .object) (n .2),
+      byte (f .present) (n .3),
+    )
   where
     byte : (x : ℕ) → x < 256 → x % 256 ≡ x
     byte x h = omega arith
@@ -33,7 +48,20 @@ message-is : (a v : List ℕ) (i : ℕ) (m : Message) (f : Fields) → f ≡ fie
     → ((k : ℕ) → k < 9 → getD a (i * 9 + k) 0 ≡ getD (wordsOf f) k 0) → getD v i 0 ≡ f .value → messageOf a v i ≡ m
 unfolding messageOf narrowAt
 message-is a v i m f e n h g =
-    rw (row-is a v i f n h g, h 0 (omega arith), h 1 (omega arith), h 2 (omega arith), h 3 (omega arith), lt-ltb (f .kind) 256 (n .0), lt-ltb (f .client) 256 (n .1), lt-ltb (f .object) 256 (n .2), lt-ltb (f .present) 256 (n .3), e, message-sound m, message-back m)
+    rw (
+      row-is a v i f n h g,
+      h 0 (omega arith),
+      h 1 (omega arith),
+      h 2 (omega arith),
+      h 3 (omega arith),
+      lt-ltb (f .kind) 256 (n .0),
+      lt-ltb (f .client) 256 (n .1),
+      lt-ltb (f .object) 256 (n .2),
+      lt-ltb (f .present) 256 (n .3),
+      e,
+      message-sound m,
+      message-back m,
+    )
 
 -- storing the row of message m at place i
 module _ (l v : List ℕ) (i : ℕ) (m : Message) (f : Fields) (h : i < 64) (a : length l ≡ 576) (b : length v ≡ 64) (n : Narrow f) (e : f ≡ fieldsOf m) where
@@ -52,7 +80,8 @@ module _ (l v : List ℕ) (i : ℕ) (m : Message) (f : Fields) (h : i < 64) (a :
       (λ k c. store-hit always (λ (k : ℕ). i * 9 + k) (λ (k : ℕ). getD (wordsOf f) k 0) (λ a b c. omega arith) l 9 k 0 c refl (omega arith))
       (getD-set-same v i (f .value) 0 (omega arith))
 
-  pub items-set : tabulate (messageFrom (i + 1) (storeEach always (λ (k : ℕ). i * 9 + k) (λ (k : ℕ). getD (wordsOf f) k 0) l 9) (set v i (f .value))) 0 64 ≡ set (tabulate (messageFrom i l v) 0 64) i m
+  pub items-set : tabulate (messageFrom (i + 1) (storeEach always (λ (k : ℕ). i * 9 + k) (λ (k : ℕ).
+      getD (wordsOf f) k 0) l 9) (set v i (f .value))) 0 64 ≡ set (tabulate (messageFrom i l v) 0 64) i m
   items-set =
       tabulate-set (messageFrom i l v) _ m 64 i h (λ j p r. pick j r (true-or-false (ltb j i)))
       (at-in (i + 1) with-row (set v i (f .value)) i (omega arith) ∙ own)

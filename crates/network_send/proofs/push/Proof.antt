@@ -43,7 +43,13 @@ element-write-words : tie.Need-element-write-words
 element-write-words c = search needs
 
 returns-2 : tie.Need-returns-2
-returns-2 c = pushes _ _ _ (c .before .before .before .before .before .before .before .before .before .before .sized-arg2 .given .0) (c .before .before .before .before .before .before .before .sized-values-arg2 .given .0) _ _ _ (c .before .before .before .before .if1 .left) (c .before .before .before .fields-of .ensures) (c .before .words-of .ensures) (c .store .ensures)
+returns-2 c =
+    let at-fields-of = c .before .before .before in
+    let at-if1 = at-fields-of .before in
+    let at-sized-values-arg2 = at-if1 .before .before .before in
+    let at-sized-arg2 = at-sized-values-arg2 .before .before .before in
+    pushes _ _ _ (at-sized-arg2 .sized-arg2 .given .0) (at-sized-values-arg2 .sized-values-arg2 .given .0)
+    _ _ _ (at-if1 .if1 .left) (at-fields-of .fields-of .ensures) (c .before .words-of .ensures) (c .store .ensures)
 
 pub push-spec : {M : Type 1} → statement M
 push-spec =
