@@ -46,6 +46,8 @@ module _ (w x : List ℕ) (i : ℕ) where
   unfolding tablesOf
   past-place m h g = g ∙ sym (tabulate-past (messageFrom count (parts wordLengths w MESSAGES) (parts valueLengths x MESSAGE-VALUE)) 0 64 i blank h)
 
-  pub live-place : (f : Fields) (m : Message) → Live w x i → f ≡ fieldsAt (parts wordLengths w MESSAGES) (parts valueLengths x MESSAGE-VALUE) i → m ≡ messageIn f → m ≡ messageAt (tablesOf w x .queue) i
+  pub live-place : (f : Fields) (m : Message)
+      → Live w x i → f ≡ fieldsAt (parts wordLengths w MESSAGES) (parts valueLengths x MESSAGE-VALUE) i
+      → m ≡ messageIn f → m ≡ messageAt (tablesOf w x .queue) i
   unfolding messageOf
   live-place f m h e g = at-place m (h .inside) (rw (length-word w x) at (h .below)) (rw (h .message, ← e) g)

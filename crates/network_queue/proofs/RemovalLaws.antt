@@ -19,12 +19,25 @@ module _ (w x u : List ℕ) (lw : length w ≡ WORDS) (lx : length x ≡ VALUES)
     tables-taken : tablesOf (set u 1 (getD w 1 0 - 1)) v ≡ taken (tablesOf w x) i
     unfolding tablesOf removed
     tables-taken =
-        rw (stored wordLengths u LENGTH 0 (getD w 1 0 - 1) (omega arith), ap (parts wordLengths) e ∙ shifts wordLengths w MESSAGES (i * 9) ((getD w 1 0 - (i + 1)) * 9) 9 (omega arith), ap (parts valueLengths) g ∙ shifts valueLengths x MESSAGE-VALUE i (getD w 1 0 - (i + 1)) 1 (omega arith), ← part-at wordLengths w LENGTH 0 (omega arith), getD-set-same (parts wordLengths w LENGTH) 0 (getD w 1 0 - 1) 0 (omega (arith, part-length wordLengths w LENGTH (omega arith))), items-remove (getD w 1 0) (parts wordLengths w MESSAGES) (parts valueLengths x MESSAGE-VALUE) i h k (part-length wordLengths w MESSAGES (omega arith)) (part-length valueLengths x MESSAGE-VALUE (omega arith)))
+        rw (
+          stored wordLengths u LENGTH 0 (getD w 1 0 - 1) (omega arith),
+          ap (parts wordLengths) e ∙ shifts wordLengths w MESSAGES (i * 9) ((getD w 1 0 - (i + 1)) * 9) 9 (omega arith),
+          ap (parts valueLengths) g ∙ shifts valueLengths x MESSAGE-VALUE i (getD w 1 0 - (i + 1)) 1 (omega arith),
+          ← part-at wordLengths w LENGTH 0 (omega arith),
+          getD-set-same (parts wordLengths w LENGTH)
+              0 (getD w 1 0 - 1) 0 (omega (arith, part-length wordLengths w LENGTH (omega arith))),
+          items-remove (getD w 1 0) (parts wordLengths w MESSAGES) (parts valueLengths x MESSAGE-VALUE) i h
+              k (part-length wordLengths w MESSAGES (omega arith)) (part-length valueLengths x MESSAGE-VALUE (omega arith)),
+        )
 
     records-taken : recordsOf (set u 1 (getD w 1 0 - 1)) v ≡ recordsOf w x
     unfolding recordsOf
     records-taken =
-        rw (stored wordLengths u LENGTH 0 (getD w 1 0 - 1) (omega arith), ap (parts wordLengths) e ∙ shifts wordLengths w MESSAGES (i * 9) ((getD w 1 0 - (i + 1)) * 9) 9 (omega arith), ap (parts valueLengths) g ∙ shifts valueLengths x MESSAGE-VALUE i (getD w 1 0 - (i + 1)) 1 (omega arith))
+        rw (
+          stored wordLengths u LENGTH 0 (getD w 1 0 - 1) (omega arith),
+          ap (parts wordLengths) e ∙ shifts wordLengths w MESSAGES (i * 9) ((getD w 1 0 - (i + 1)) * 9) 9 (omega arith),
+          ap (parts valueLengths) g ∙ shifts valueLengths x MESSAGE-VALUE i (getD w 1 0 - (i + 1)) 1 (omega arith),
+        )
 
     pub removes : (tablesOf (set u 1 (getD w 1 0 - 1)) v ≡ taken (tablesOf w x) i) × (recordsOf (set u 1 (getD w 1 0 - 1)) v ≡ recordsOf w x)
     removes = (tables-taken, records-taken)

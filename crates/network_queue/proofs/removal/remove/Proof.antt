@@ -33,16 +33,27 @@ shift-requires : tie.Need-shift-requires
 shift-requires c κs = let s = c .before .before .before .before .before .before .before .before in omega (arith, length-word (s .args .words .now) (s .args .values .now), s .pre .0, s .pre .1)
 
 shift-values-requires : tie.Need-shift-values-requires
-shift-values-requires c κs = let s = c .before .before .before .before .before .before .before .before .before .before in omega (arith, length-word (s .args .words .now) (s .args .values .now), s .pre .0, s .pre .1)
+shift-values-requires c κs =
+    let s = c .before .before .before .before .before .before .before .before .before .before in
+    omega (arith, length-word (s .args .words .now) (s .args .values .now), s .pre .0, s .pre .1)
 
 sub-words : tie.Need-sub-words
-sub-words c = let s = c .before .before .before .before .before .before .before .before .before .before .before in omega (arith, length-word (s .args .words .now) (s .args .values .now), s .pre .0, s .pre .1)
+sub-words c =
+    let s = c .before .before .before .before .before .before .before .before .before .before .before in
+    omega (arith, length-word (s .args .words .now) (s .args .values .now), s .pre .0, s .pre .1)
 
 element-write-words : tie.Need-element-write-words
 element-write-words c = search needs
 
 returns : tie.Need-returns
-returns c = let s = c .before .before .before .before .before .before .before .before .before .before .before in let n = length-word (s .args .words .now) (s .args .values .now) in removes _ _ _ (c .before .before .before .before .before .before .before .before .before .sized-arg2 .given .0) (c .before .before .before .before .before .before .sized-values-arg2 .given .0) _ _ (omega (arith, n, s .pre .0)) (omega (arith, n, s .pre .1)) (c .before .before .shift .ensures) (c .shift-values .ensures)
+returns c =
+    let at-sized-values-arg2 = c .before .before .before .before .before .before in
+    let at-sized-arg2 = at-sized-values-arg2 .before .before .before in
+    let s = at-sized-arg2 .before .before in
+    let n = length-word (s .args .words .now) (s .args .values .now) in
+    removes _ _ _ (at-sized-arg2 .sized-arg2 .given .0)
+    (at-sized-values-arg2 .sized-values-arg2 .given .0) _ _ (omega (arith, n, s .pre .0))
+    (omega (arith, n, s .pre .1)) (c .before .before .shift .ensures) (c .shift-values .ensures)
 
 pub remove-spec : {M : Type 1} → statement M
 remove-spec =
