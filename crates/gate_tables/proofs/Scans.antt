@@ -27,13 +27,23 @@ module _ (w : List ℕ) where
   volume-fits v n h k = rw (part-at wordLengths w VOLUME-EPOCH v (omega arith), part-at wordLengths w VOLUME-EXPIRY v (omega arith), part-at wordLengths w GUARD v (omega arith))
 
   pub object-fits : (o n : ℕ) → o < n → n ≤ 32
-      → ((leb 1 (getD w (at VERSION + o) 0) && timeFits (getD w (at OBJECT-EXPIRY + o) 0)) && (eqb (getD w (at STANDING + o) 0) 0 || (timeFits (getD w (at END + o) 0) && canGrow (getD w (at VERSION + o) 0)))) ≡ objectSound (numbersOf w) o
+      → ((leb 1 (getD w (at VERSION + o) 0) && timeFits (getD w (at OBJECT-EXPIRY + o) 0))
+      && (eqb (getD w (at STANDING + o) 0) 0
+      || (timeFits (getD w (at END + o) 0) && canGrow (getD w (at VERSION + o) 0)))) ≡ objectSound (numbersOf w) o
   unfolding tablesOf
   object-fits o n h k =
       let l : o < 32 = omega arith in
-      rw (← not-not (eqb (getD w (at STANDING + o) 0) 0), flag-at wordLengths w STANDING o l, part-at wordLengths w VERSION o l, part-at wordLengths w OBJECT-EXPIRY o l, part-at wordLengths w END o l)
+      rw (
+        ← not-not (eqb (getD w (at STANDING + o) 0) 0),
+        flag-at wordLengths w STANDING o l,
+        part-at wordLengths w VERSION o l,
+        part-at wordLengths w OBJECT-EXPIRY o l,
+        part-at wordLengths w END o l,
+      )
 
-  pub session-fits : (d v n : ℕ) → d < 16 → v < n → n ≤ 8 → (timeFits (getD w (at SESSION-EXPIRY + byVolume d v) 0) && timeFits (getD w (at VIEW-EXPIRY + byVolume d v) 0)) ≡ sessionSound (numbersOf w) d v
+  pub session-fits : (d v n : ℕ) → d < 16 → v < n → n ≤ 8
+      → (timeFits (getD w (at SESSION-EXPIRY + byVolume d v) 0) && timeFits (getD w (at VIEW-EXPIRY + byVolume d v) 0))
+      ≡ sessionSound (numbersOf w) d v
   unfolding tablesOf
   session-fits d v n g h k = rw (part-at wordLengths w SESSION-EXPIRY (byVolume d v) (omega arith), part-at wordLengths w VIEW-EXPIRY (byVolume d v) (omega arith))
 

@@ -41,7 +41,12 @@ loop-less : tie.Need-loop-less Inv-loop μ-loop
 loop-less c = search needs
 
 loop-again : tie.Need-loop-again Inv-loop μ-loop
-loop-again c = let l = c .before .before .before .loop in (search needs, queue-again _ _ _ _ _ (l .ok) _ _ _ (c .before .before .loop-test .taken) (c .before .message-at .ensures) (c .message-sound .ensures) (l .inv .1))
+loop-again c =
+    let l = c .before .before .before .loop in (
+      search needs,
+      queue-again _ _ _ _ _ (l .ok)
+          _ _ _ (c .before .before .loop-test .taken) (c .before .message-at .ensures) (c .message-sound .ensures) (l .inv .1),
+    )
 
 returns-2 : tie.Need-returns-2 Inv-loop μ-loop
 returns-2 c = queue-short _ _ _ _ (search needs) (search all-end)
