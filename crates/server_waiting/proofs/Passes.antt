@@ -36,7 +36,16 @@ module _ (w₀ w : List ℕ) (v o n d : ℕ) (i : v < 8) (j : o < 32) (k : n ≤
 module _ (w₀ w : List ℕ) (v o n d : ℕ) (i : v < 8) (j : o < 32) (k : n ≤ 16) (h : d < n) (only : Only wordLengths WAITING w₀ w) where
   same-waits : waitsBy (getD w 0 0) (getD w (at LEASE + byObject d o) 0) (flag (getD w (at UNREACHABLE + byVolume d v) 0)) (getD w (at SESSION-EXPIRY + byVolume d v) 0) ≡ waitsIn w₀ v o d
   same-waits =
-      rw (part-at wordLengths w CLOCK 0 (omega arith), part-at wordLengths w LEASE (byObject d o) (omega arith), flag-at wordLengths w UNREACHABLE (byVolume d v) (omega arith), part-at wordLengths w SESSION-EXPIRY (byVolume d v) (omega arith), only .others CLOCK (λ e. omega arith), only .others LEASE (λ e. omega arith), only .others UNREACHABLE (λ e. omega arith), only .others SESSION-EXPIRY (λ e. omega arith))
+      rw (
+        part-at wordLengths w CLOCK 0 (omega arith),
+        part-at wordLengths w LEASE (byObject d o) (omega arith),
+        flag-at wordLengths w UNREACHABLE (byVolume d v) (omega arith),
+        part-at wordLengths w SESSION-EXPIRY (byVolume d v) (omega arith),
+        only .others CLOCK (λ e. omega arith),
+        only .others LEASE (λ e. omega arith),
+        only .others UNREACHABLE (λ e. omega arith),
+        only .others SESSION-EXPIRY (λ e. omega arith),
+      )
 
   pub await-again : (r : Bool) (y : ℕ) (A : List ℕ)
       → r ≡ waitsBy (getD w 0 0) (getD w (at LEASE + byObject d o) 0) (flag (getD w (at UNREACHABLE + byVolume d v) 0)) (getD w (at SESSION-EXPIRY + byVolume d v) 0) → y ≡ wordOf r
@@ -52,4 +61,8 @@ module _ (w : List ℕ) (v o n d : ℕ) (i : v < 8) (j : o < 32) (k : n ≤ 16) 
       → foldFrom (raiseTo (waitingFor (waitingIn w) o) (leasedIn w v o)) u (d + 1) (n - (d + 1)) ≡ A
   end-again e u A q f =
       fold-again (raiseTo (waitingFor (waitingIn w) o) (leasedIn w v o)) n d e u A h
-      (rw (flag-at wordLengths w WAITING (byObject d o) (omega arith), part-at wordLengths w SESSION-EXPIRY (byVolume d v) (omega arith), part-at wordLengths w LEASE (byObject d o) (omega arith)) at q) f
+      (rw (
+        flag-at wordLengths w WAITING (byObject d o) (omega arith),
+        part-at wordLengths w SESSION-EXPIRY (byVolume d v) (omega arith),
+        part-at wordLengths w LEASE (byObject d o) (omega arith),
+      ) at q) f

@@ -15,7 +15,9 @@ use Rattle.server_waiting.proofs.clients.await_clients.Statement.{state
 use Rattle.server_waiting.proofs.clients.await_clients.Tie as tie
 
 abbrev Inv-loop : tie.InvT-loop
-Inv-loop words₀ volume object n d₀ words d = (d ≤ n) × (Only wordLengths WAITING words₀ words × (foldFrom (storeAt always (λ (d : ℕ). at WAITING + byObject d object) (λ (d : ℕ). wordOf (waitsIn words₀ volume object d))) words d (n - d) ≡ foldFrom (storeAt always (λ (d : ℕ). at WAITING + byObject d object) (λ (d : ℕ). wordOf (waitsIn words₀ volume object d))) words₀ 0 n))
+Inv-loop words₀ volume object n d₀ words d =
+    let one-turn = storeAt always (λ (d : ℕ). at WAITING + byObject d object) (λ (d : ℕ). wordOf (waitsIn words₀ volume object d)) in
+    (d ≤ n) × (Only wordLengths WAITING words₀ words × (foldFrom one-turn words d (n - d) ≡ foldFrom one-turn words₀ 0 n))
 
 abbrev μ-loop : tie.MeasureT-loop
 μ-loop words₀ volume object n d₀ words d = n - d
@@ -87,7 +89,14 @@ loop-less : tie.Need-loop-less Inv-loop μ-loop
 loop-less c = search needs
 
 loop-again : tie.Need-loop-again Inv-loop μ-loop
-loop-again c = (search needs, let l = c .before .before .before .before .before .before .before in (only-set wordLengths WAITING _ _ _ _ (omega arith) (l .loop .inv .1 .0), await-again _ _ _ _ _ _ (search needs) (search needs) (search needs) (search needs) (l .loop .inv .1 .0) _ _ _ (c .before .waits .ensures) (c .word .ensures) (l .loop .inv .1 .1)))
+loop-again c = (
+  search needs,
+  let l = c .before .before .before .before .before .before .before in (
+    only-set wordLengths WAITING _ _ _ _ (omega arith) (l .loop .inv .1 .0),
+    await-again _ _ _ _ _ _ (search needs) (search needs) (search needs)
+        (search needs) (l .loop .inv .1 .0) _ _ _ (c .before .waits .ensures) (c .word .ensures) (l .loop .inv .1 .1),
+  ),
+)
 
 returns : tie.Need-returns Inv-loop μ-loop
 unfolding storeEach

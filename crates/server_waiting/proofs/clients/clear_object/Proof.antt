@@ -9,7 +9,9 @@ use Rattle.server_waiting.proofs.clients.clear_object.Statement.{statem
 use Rattle.server_waiting.proofs.clients.clear_object.Tie as tie
 
 abbrev Inv-loop : tie.InvT-loop
-Inv-loop words₀ field object n d₀ words d = (d ≤ n) × (foldFrom (storeAt always (λ (d : ℕ). field + byObject d object) (λ (d : ℕ). 0)) words d (n - d) ≡ foldFrom (storeAt always (λ (d : ℕ). field + byObject d object) (λ (d : ℕ). 0)) words₀ 0 n)
+Inv-loop words₀ field object n d₀ words d =
+    let one-turn = storeAt {A = ℕ} always (λ (d : ℕ). field + byObject d object) (λ (d : ℕ). 0) in
+    (d ≤ n) × (foldFrom one-turn words d (n - d) ≡ foldFrom one-turn words₀ 0 n)
 
 abbrev μ-loop : tie.MeasureT-loop
 μ-loop words₀ field object n d₀ words d = n - d

@@ -13,7 +13,9 @@ use Rattle.server_waiting.proofs.clients.mark_waiting.Statement.{statem
 use Rattle.server_waiting.proofs.clients.mark_waiting.Tie as tie
 
 abbrev Inv-loop : tie.InvT-loop
-Inv-loop words₀ volume object n d₀ words d = (d ≤ n) × ((parts wordLengths words WAITING ≡ parts wordLengths words₀ WAITING) × (foldFrom (storeAt (waitingFor (waitingIn words₀) object) (λ (d : ℕ). at UNREACHABLE + byVolume d volume) (λ (d : ℕ). 1)) words d (n - d) ≡ foldFrom (storeAt (waitingFor (waitingIn words₀) object) (λ (d : ℕ). at UNREACHABLE + byVolume d volume) (λ (d : ℕ). 1)) words₀ 0 n))
+Inv-loop words₀ volume object n d₀ words d =
+    let one-turn = storeAt {A = ℕ} (waitingFor (waitingIn words₀) object) (λ (d : ℕ). at UNREACHABLE + byVolume d volume) (λ (d : ℕ). 1) in
+    (d ≤ n) × ((parts wordLengths words WAITING ≡ parts wordLengths words₀ WAITING) × (foldFrom one-turn words d (n - d) ≡ foldFrom one-turn words₀ 0 n))
 
 abbrev μ-loop : tie.MeasureT-loop
 μ-loop words₀ volume object n d₀ words d = n - d
@@ -55,7 +57,15 @@ loop-less : tie.Need-loop-less Inv-loop μ-loop
 loop-less c = search needs
 
 loop-again : tie.Need-loop-again Inv-loop μ-loop
-loop-again c = (search needs, (search mark-keeps, let l = c .before .before .before .before in mark-again _ _ _ _ _ _ (search needs) (search needs) (search needs) (search needs) (l .loop .inv .1 .0) _ _ (c .put-if .ensures) (l .loop .inv .1 .1)))
+loop-again c = (
+  search needs,
+  (
+    search mark-keeps,
+    let l = c .before .before .before .before in
+        mark-again _ _ _ _ _ _ (search needs)
+        (search needs) (search needs) (search needs) (l .loop .inv .1 .0) _ _ (c .put-if .ensures) (l .loop .inv .1 .1),
+  ),
+)
 
 returns : tie.Need-returns Inv-loop μ-loop
 unfolding storeEach

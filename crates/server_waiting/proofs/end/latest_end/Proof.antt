@@ -10,7 +10,9 @@ use Rattle.server_waiting.proofs.end.latest_end.Statement.{statement}
 use Rattle.server_waiting.proofs.end.latest_end.Tie as tie
 
 abbrev Inv-loop : tie.InvT-loop
-Inv-loop words volume object least n e₀ d₀ e d = (d ≤ n) × (foldFrom (raiseTo (waitingFor (waitingIn words) object) (leasedIn words volume object)) e d (n - d) ≡ foldFrom (raiseTo (waitingFor (waitingIn words) object) (leasedIn words volume object)) least 0 n)
+Inv-loop words volume object least n e₀ d₀ e d =
+    let one-turn = raiseTo (waitingFor (waitingIn words) object) (leasedIn words volume object) in
+    (d ≤ n) × (foldFrom one-turn e d (n - d) ≡ foldFrom one-turn least 0 n)
 
 abbrev μ-loop : tie.MeasureT-loop
 μ-loop words volume object least n e₀ d₀ e d = n - d
