@@ -36,7 +36,11 @@ element-copy-out-result : tie.Need-element-copy-out-result
 element-copy-out-result c = omega (arith, ranges _ (c .before .before .before .before .before .pre .0) .objects .1)
 
 returns-2 : tie.Need-returns-2
-returns-2 c = due-over _ _ _ _ (c .before .before .before .before .before .ready .ensures) _ (omega (arith, ranges _ (c .before .before .before .before .before .before .pre .0) .objects .1)) (c .before .before .before .before .if1 .left) (c .before .end-over .ensures)
+returns-2 c =
+    let at-if1 = c .before .before .before .before in
+    let at-ready = at-if1 .before in
+    let a = at-ready .before in
+    due-over _ _ _ _ (at-ready .ready .ensures) _ (omega (arith, ranges _ (a .pre .0) .objects .1)) (at-if1 .if1 .left) (c .before .end-over .ensures)
 
 pub due-spec : {M : Type 1} → statement M
 due-spec =

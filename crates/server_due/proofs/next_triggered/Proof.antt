@@ -9,7 +9,9 @@ use Rattle.server_due.proofs.next_triggered.Statement.{statement}
 use Rattle.server_due.proofs.next_triggered.Tie as tie
 
 abbrev Inv-loop : tie.InvT-loop
-Inv-loop s trigger words from n object₀ object = (from ≤ object) × (object ≤ s .objects) × (firstFrom (triggered s trigger (numbersOf words)) object (s .objects - object) ≡ firstFrom (triggered s trigger (numbersOf words)) from (s .objects - from))
+Inv-loop s trigger words from n object₀ object =
+    let sought = triggered s trigger (numbersOf words) in
+    (from ≤ object) × (object ≤ s .objects) × (firstFrom sought object (s .objects - object) ≡ firstFrom sought from (s .objects - from))
 
 abbrev μ-loop : tie.MeasureT-loop
 μ-loop s trigger words from n object₀ object = s .objects - object
