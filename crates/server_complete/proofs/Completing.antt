@@ -34,7 +34,16 @@ module _ (w x : List ℕ) (o : ℕ) (h : o < 32) where
   tables-posted : tablesOf words-posted values-posted ≡ withObjects (tablesOf w x) (posted (tablesOf w x) o)
   unfolding posted tablesOf
   tables-posted =
-      rw (part-at wordLengths w VERSION o h, part-at valueLengths x PENDING o h, stored wordLengths _ END o 0 h, stored wordLengths _ STANDING o 0 h, stored wordLengths _ VERSION o _ h, stored valueLengths _ PENDING o 0 h, stored valueLengths _ VALUE o _ h, flags-set (parts wordLengths w STANDING) o 0)
+      rw (
+        part-at wordLengths w VERSION o h,
+        part-at valueLengths x PENDING o h,
+        stored wordLengths _ END o 0 h,
+        stored wordLengths _ STANDING o 0 h,
+        stored wordLengths _ VERSION o _ h,
+        stored valueLengths _ PENDING o 0 h,
+        stored valueLengths _ VALUE o _ h,
+        flags-set (parts wordLengths w STANDING) o 0,
+      )
 
   records-posted : recordsOf words-posted values-posted ≡ recordsOf w x
   unfolding recordsOf
@@ -65,7 +74,14 @@ module _ (s : Setup) (w a b c x : List ℕ) (o v n : ℕ) (p : Placed s o v) (i 
       let os = p .object in
       let j : (d : ℕ) → d < n → byVolume d v < 128 = (λ d k. omega arith) in
       let k : (d : ℕ) → d < n → byObject d o < 512 = (λ d k. omega arith) in
-      rw (g, stored-each wordLengths WAITING always (λ (d : ℕ). byObject d o) (λ (d : ℕ). 0) n k b, f, stored-each wordLengths LEASE always (λ (d : ℕ). byObject d o) (λ (d : ℕ). 0) n k a, e, stored-each wordLengths UNREACHABLE (waitingFor (waitingIn w) o) (λ (d : ℕ). byVolume d v) (λ (d : ℕ). 1) n j w)
+      rw (
+        g,
+        stored-each wordLengths WAITING always (λ (d : ℕ). byObject d o) (λ (d : ℕ). 0) n k b,
+        f,
+        stored-each wordLengths LEASE always (λ (d : ℕ). byObject d o) (λ (d : ℕ). 0) n k a,
+        e,
+        stored-each wordLengths UNREACHABLE (waitingFor (waitingIn w) o) (λ (d : ℕ). byVolume d v) (λ (d : ℕ). 1) n j w,
+      )
 
   -- the loops do not change the version
   pub released-version : versionAt (tablesOf c x) o ≡ versionAt (tablesOf w x) o
@@ -80,7 +96,14 @@ module _ (s : Setup) (w a b c x : List ℕ) (o v n : ℕ) (p : Placed s o v) (i 
     tables-completed : tablesOf w′ x′ ≡ withObjects (tablesOf c x) (posted (tablesOf c x) o) → tablesOf w′ x′ ≡ completed s (tablesOf w x) o
     unfolding completed posted released deserted tablesOf storeEach
     tables-completed h =
-        h ∙ rw (fields-released, flags-each (waitingFor (waitingIn w) o) (λ (d : ℕ). byVolume d v) (λ (d : ℕ). 1) (parts wordLengths w UNREACHABLE) n, flags-each always (λ (d : ℕ). byObject d o) (λ (d : ℕ). 0) (parts wordLengths w WAITING) n, i, p .is)
+        h ∙ rw (
+          fields-released,
+          flags-each (waitingFor (waitingIn w) o)
+              (λ (d : ℕ). byVolume d v) (λ (d : ℕ). 1) (parts wordLengths w UNREACHABLE) n,
+          flags-each always (λ (d : ℕ). byObject d o) (λ (d : ℕ). 0) (parts wordLengths w WAITING) n,
+          i,
+          p .is,
+        )
 
     pub completes : (tablesOf w′ x′ ≡ withObjects (tablesOf c x) (posted (tablesOf c x) o)) × (recordsOf w′ x′ ≡ recordsOf c x)
         → (tablesOf w′ x′ ≡ completed s (tablesOf w x) o) × (recordsOf w′ x′ ≡ recordsOf w x)

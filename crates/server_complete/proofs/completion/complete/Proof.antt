@@ -20,10 +20,24 @@ clear-object-requires-2 : tie.Need-clear-object-requires-2
 clear-object-requires-2 c κs = search needs
 
 post-requires : tie.Need-post-requires
-post-requires c κs = let p = c .before .before .before .before .before .before .before .before .before .volume-of .ensures in (p .object, rw (released-version _ _ _ _ _ (c .before .before .before .before .before .before .before .before .before .before .args .values .now) _ _ _ p refl (c .before .before .before .before .before .before .mark-waiting .ensures) (c .before .before .before .before .clear-object .ensures) (c .before .before .clear-object2 .ensures)) (c .before .before .before .before .before .before .before .before .before .before .pre .1 .1))
+post-requires c κs =
+    let at-clear-object = c .before .before .before .before in
+    let at-mark-waiting = at-clear-object .before .before in
+    let a = at-mark-waiting .before .before .before .before in
+    let p = at-mark-waiting .before .before .before .volume-of .ensures in (
+      p .object,
+      rw (released-version _ _ _ _ _ (a .args .values .now) _ _ _ p refl (at-mark-waiting .mark-waiting .ensures)
+          (at-clear-object .clear-object .ensures) (c .before .before .clear-object2 .ensures)) (a .pre .1 .1),
+    )
 
 returns : tie.Need-returns
-returns c = completes _ _ _ _ _ _ _ _ _ (c .before .before .before .before .before .before .before .before .before .before .volume-of .ensures) refl (c .before .before .before .before .before .before .before .mark-waiting .ensures) (c .before .before .before .before .before .clear-object .ensures) (c .before .before .before .clear-object2 .ensures) _ _ (c .post .ensures)
+returns c =
+    let at-clear-object2 = c .before .before .before in
+    let at-clear-object = at-clear-object2 .before .before in
+    let at-mark-waiting = at-clear-object .before .before in
+    let at-volume-of = at-mark-waiting .before .before .before in
+    completes _ _ _ _ _ _ _ _ _ (at-volume-of .volume-of .ensures) refl (at-mark-waiting .mark-waiting .ensures)
+    (at-clear-object .clear-object .ensures) (at-clear-object2 .clear-object2 .ensures) _ _ (c .post .ensures)
 
 pub complete-spec : {M : Type 1} → statement M
 complete-spec =

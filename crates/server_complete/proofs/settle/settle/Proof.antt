@@ -14,7 +14,12 @@ use Rattle.server_complete.proofs.settle.settle.Statement.{statement}
 use Rattle.server_complete.proofs.settle.settle.Tie as tie
 
 abbrev Inv-loop : tie.InvT-loop
-Inv-loop s trigger words₀ values₀ n count₀ from₀ words values count from = (from ≤ s .objects) × ((count ≤ from) × (Growing s (tablesOf words values .objects) × ((recordsOf words values ≡ recordsOf words₀ values₀) × (foldFrom (completeIf (triggered s trigger) s) (record { count = count; tables = tablesOf words values }) from (s .objects - from) ≡ foldFrom (completeIf (triggered s trigger) s) (record { count = 0; tables = tablesOf words₀ values₀ }) 0 (s .objects)))))
+Inv-loop s trigger words₀ values₀ n count₀ from₀ words values count from =
+    let one-turn = completeIf (triggered s trigger) s in
+    (from ≤ s .objects) × ((count ≤ from)
+    × (Growing s (tablesOf words values .objects) × ((recordsOf words values ≡ recordsOf words₀ values₀)
+    × (foldFrom one-turn (record { count = count; tables = tablesOf words values }) from (s .objects - from)
+    ≡ foldFrom one-turn (record { count = 0; tables = tablesOf words₀ values₀ }) 0 (s .objects)))))
 
 abbrev μ-loop : tie.MeasureT-loop
 μ-loop s trigger words₀ values₀ n count₀ from₀ words values count from = s .objects - from
@@ -29,10 +34,19 @@ next-triggered-requires : tie.Need-next-triggered-requires Inv-loop μ-loop
 next-triggered-requires c κs = search needs
 
 complete-requires : tie.Need-complete-requires Inv-loop μ-loop
-complete-requires c κs = let l = c .before .before .before .before .before .loop in (c .before .before .before .before .before .before .before .pre .0, (c .before .before .if1 .left, settle-version _ _ _ _ _ _ (l .inv .0) (c .before .before .before .next-triggered .ensures) (l .inv .1 .1 .0) (c .before .before .if1 .left)))
+complete-requires c κs =
+    let at-next-triggered = c .before .before .before in
+    let a = at-next-triggered .before .before .before .before in
+    let l = at-next-triggered .before .before .loop in
+    (a .pre .0, (c .before .before .if1 .left, settle-version _ _ _ _ _ _ (l .inv .0) (at-next-triggered .next-triggered .ensures) (l .inv .1 .1 .0) (c .before .before .if1 .left)))
 
 add-count : tie.Need-add-count Inv-loop μ-loop
-add-count c = omega (arith, ranges _ (c .before .before .before .before .before .before .before .before .pre .0) .objects .1, c .before .before .before .before .before .before .loop .inv .1 .0, c .before .before .before .before .next-triggered .ensures .low, c .before .before .before .if1 .left)
+add-count c =
+    let at-if1 = c .before .before .before in
+    let at-next-triggered = at-if1 .before in
+    let at-loop = at-next-triggered .before .before in
+    let a = at-loop .before .before in
+    omega (arith, ranges _ (a .pre .0) .objects .1, at-loop .loop .inv .1 .0, at-next-triggered .next-triggered .ensures .low, at-if1 .if1 .left)
 
 add-from : tie.Need-add-from Inv-loop μ-loop
 add-from c = omega (arith, ranges _ (c .before .before .before .before .before .before .before .before .pre .0) .objects .1, c .before .before .before .if1 .left)
@@ -41,7 +55,22 @@ loop-less : tie.Need-loop-less Inv-loop μ-loop
 loop-less c = omega (arith, c .before .before .before .before .next-triggered .ensures .low, c .before .before .before .if1 .left)
 
 loop-again : tie.Need-loop-again Inv-loop μ-loop
-loop-again c = let l = c .before .before .before .before .before .before .loop in let f = c .before .before .before .before .next-triggered .ensures in let h = c .before .before .before .if1 .left in (omega arith, (omega (arith, l .inv .1 .0, f .low), (settle-grows _ _ _ _ (l .inv .1 .1 .0) (c .complete .ensures .0), (c .complete .ensures .1 ∙ l .inv .1 .1 .1 .0, settle-again _ _ _ _ _ _ (l .inv .0) f _ _ (l .inv .1 .1 .1 .1) _ h (c .complete .ensures .0)))))
+loop-again c =
+    let l = c .before .before .before .before .before .before .loop in
+    let f = c .before .before .before .before .next-triggered .ensures in
+    let h = c .before .before .before .if1 .left in (
+      omega arith,
+      (
+        omega (arith, l .inv .1 .0, f .low),
+        (
+          settle-grows _ _ _ _ (l .inv .1 .1 .0) (c .complete .ensures .0),
+          (
+            c .complete .ensures .1 ∙ l .inv .1 .1 .1 .0,
+            settle-again _ _ _ _ _ _ (l .inv .0) f _ _ (l .inv .1 .1 .1 .1) _ h (c .complete .ensures .0),
+          ),
+        ),
+      ),
+    )
 
 returns : tie.Need-returns Inv-loop μ-loop
 unfolding settled
