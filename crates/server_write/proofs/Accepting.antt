@@ -55,7 +55,9 @@ module _ (s : Setup) (w a x : List ℕ) (o v n : ℕ) (p : Placed s o v) (i : n 
     whom : (d : ℕ) → d < n → waitingFor (waitingIn a) o d ≡ waitsIn w v o d
     whom d h =
         rw (fields-awaited, flags-awaited)
-        (store-hit always (λ (d : ℕ). byObject d o) (waitsIn w v o) (λ b c e. omega arith) (waitingIn w) n d false h refl (rw (flags-length (parts wordLengths w WAITING), part-length wordLengths w WAITING (omega (arith, long))) (fits d h)))
+        (store-hit always (λ (d : ℕ). byObject d o) (waitsIn w v o) (λ b c e. omega arith) (waitingIn w) n d false
+        h refl (rw (flags-length (parts wordLengths w WAITING), part-length wordLengths w WAITING (omega (arith, long)))
+        (fits d h)))
 
     end-awaited : end ≡ latestEnd s (tablesOf w x) o
     unfolding latestEnd waits tablesOf
@@ -71,7 +73,17 @@ module _ (s : Setup) (w a x : List ℕ) (o v n : ℕ) (p : Placed s o v) (i : n 
       unfolding opened awaited waits tablesOf
       tables-begun =
           let g = p .object in
-          rw (stored wordLengths _ END o end g, stored wordLengths _ STANDING o 1 g, stored valueLengths x PENDING o y g, end-awaited, fields-awaited, flags-set (parts wordLengths w STANDING) o 1, flags-awaited, i, p .is)
+          rw (
+            stored wordLengths _ END o end g,
+            stored wordLengths _ STANDING o 1 g,
+            stored valueLengths x PENDING o y g,
+            end-awaited,
+            fields-awaited,
+            flags-set (parts wordLengths w STANDING) o 1,
+            flags-awaited,
+            i,
+            p .is,
+          )
 
       records-begun : recordsOf words-begun (set x (atValue PENDING + o) y) ≡ recordsOf w x
       unfolding recordsOf

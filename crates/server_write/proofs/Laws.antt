@@ -34,7 +34,8 @@ pub sending-start : (w x : List ℕ) → Sending w x w x
 unfolding tablesOf
 sending-start w x = record { tables = refl; records = refl }
 
-pub sending-again : (w₀ x₀ w x u v : List ℕ) (q : Queue) → Sending w₀ x₀ w x → (tablesOf u v ≡ withQueue (tablesOf w x) q) × (recordsOf u v ≡ recordsOf w x) → Sending w₀ x₀ u v
+pub sending-again : (w₀ x₀ w x u v : List ℕ) (q : Queue)
+    → Sending w₀ x₀ w x → (tablesOf u v ≡ withQueue (tablesOf w x) q) × (recordsOf u v ≡ recordsOf w x) → Sending w₀ x₀ u v
 sending-again w₀ x₀ w x u v q s e = record {
   tables =
       e .0 ∙ ap (λ (t : Tables). withQueue t q) (s .tables)

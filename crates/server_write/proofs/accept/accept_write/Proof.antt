@@ -10,7 +10,10 @@ notify-requires : tie.Need-notify-requires
 notify-requires c κs = let p = c .before .before .before .before .before .pre in (p .0, (p .1 .1 .0, rw (begun-version _ _ _ _ _ _ _ (c .before .before .begin .ensures)) (p .1 .1 .1)))
 
 settle-one-requires : tie.Need-settle-one-requires
-settle-one-requires c κs = let p = c .before .before .before .before .before .before .before .before .pre in (p .0, (p .1 .1 .0, rw (sent-version _ _ _ _ _ _ _ (c .before .before .before .before .before .begin .ensures) _ _ (c .before .before .notify .ensures)) (p .1 .1 .1)))
+settle-one-requires c κs =
+    let at-begin = c .before .before .before .before .before in
+    let p = at-begin .before .before .before .pre in
+    (p .0, (p .1 .1 .0, rw (sent-version _ _ _ _ _ _ _ (at-begin .begin .ensures) _ _ (c .before .before .notify .ensures)) (p .1 .1 .1)))
 
 returns : tie.Need-returns
 returns c = accepts _ _ _ _ _ _ _ (c .before .before .before .before .before .before .begin .ensures) _ _ (c .before .before .before .notify .ensures) _ _ _ (c .settle-one .ensures)

@@ -22,7 +22,10 @@ element-copy-out-larger : tie.Need-element-copy-out-larger
 element-copy-out-larger c = search needs
 
 add-larger : tie.Need-add-larger
-add-larger c = let a = c .before .before .before .before .before .before .before .before .before in omega (arith, ranges _ (a .pre .0) .m .1, a .pre .1 .0, clock-awaited _ _ _ (a .args .values .now) _ _ _ (c .before .before .before .before .before .before .before .before .volume-of .ensures) refl (c .before .before .await-clients .ensures))
+add-larger c =
+    let at-volume-of = c .before .before .before .before .before .before .before .before in
+    let a = at-volume-of .before in
+    omega (arith, ranges _ (a .pre .0) .m .1, a .pre .1 .0, clock-awaited _ _ _ (a .args .values .now) _ _ _ (at-volume-of .volume-of .ensures) refl (c .before .before .await-clients .ensures))
 
 add-larger-2 : tie.Need-add-larger-2
 add-larger-2 c = search needs
@@ -67,7 +70,12 @@ element-write-values : tie.Need-element-write-values
 element-write-values c = search needs
 
 returns : tie.Need-returns
-returns c = begins _ _ _ _ _ _ _ (c .before .before .before .before .before .before .before .before .before .before .before .before .volume-of .ensures) refl (c .before .before .before .before .before .before .await-clients .ensures) (c .before .before .before .before .before .before .before .before .before .sized-arg2 .given .0) _ _ (c .before .before .larger .ensures) (c .latest-end .ensures) _
+returns c =
+    let at-await-clients = c .before .before .before .before .before .before in
+    let at-sized-arg2 = at-await-clients .before .before .before in
+    let at-volume-of = at-sized-arg2 .before .before .before in
+    begins _ _ _ _ _ _ _ (at-volume-of .volume-of .ensures) refl (at-await-clients .await-clients .ensures)
+    (at-sized-arg2 .sized-arg2 .given .0) _ _ (c .before .before .larger .ensures) (c .latest-end .ensures) _
 
 pub begin-spec : {M : Type 1} → statement M
 begin-spec =

@@ -11,7 +11,9 @@ use Rattle.server_write.proofs.invalidates.invalidate.Statement.{statem
 use Rattle.server_write.proofs.invalidates.invalidate.Tie as tie
 
 abbrev Inv-loop : tie.InvT-loop
-Inv-loop words₀ values₀ object epoch version n from₀ words values from = (from ≤ n) × (Sending words₀ values₀ words values × (foldFrom (notifyOne (waitingIn words₀) object epoch version) (tablesOf words values .queue) from (n - from) ≡ foldFrom (notifyOne (waitingIn words₀) object epoch version) (tablesOf words₀ values₀ .queue) 0 n))
+Inv-loop words₀ values₀ object epoch version n from₀ words values from =
+    let one-turn = notifyOne (waitingIn words₀) object epoch version in
+    (from ≤ n) × (Sending words₀ values₀ words values × (foldFrom one-turn (tablesOf words values .queue) from (n - from) ≡ foldFrom one-turn (tablesOf words₀ values₀ .queue) 0 n))
 
 abbrev μ-loop : tie.MeasureT-loop
 μ-loop words₀ values₀ object epoch version n from₀ words values from = n - from
@@ -38,7 +40,17 @@ loop-less : tie.Need-loop-less Inv-loop μ-loop
 loop-less c = search needs
 
 loop-again : tie.Need-loop-again Inv-loop μ-loop
-loop-again c = let l = c .before .before .before .before .before .before .loop .inv in (search needs, (sending-again _ _ _ _ _ _ _ (l .1 .0) (c .push .ensures), notify-again _ _ _ _ _ _ _ _ _ _ _ (l .1 .0) (l .0) (c .before .before .before .before .next-waiting .ensures) (l .1 .1) _ _ (c .before .before .before .if1 .left) (c .push .ensures .0)))
+loop-again c =
+    let at-if1 = c .before .before .before in
+    let at-next-waiting = at-if1 .before in
+    let l = at-next-waiting .before .before .loop .inv in (
+      search needs,
+      (
+        sending-again _ _ _ _ _ _ _ (l .1 .0) (c .push .ensures),
+        notify-again _ _ _ _ _ _ _ _ _ _ _ (l .1 .0)
+            (l .0) (at-next-waiting .next-waiting .ensures) (l .1 .1) _ _ (at-if1 .if1 .left) (c .push .ensures .0),
+      ),
+    )
 
 returns : tie.Need-returns Inv-loop μ-loop
 unfolding tablesOf

@@ -27,7 +27,14 @@ element-copy-out-version : tie.Need-element-copy-out-version
 element-copy-out-version c = search needs
 
 add-version-2 : tie.Need-add-version-2
-add-version-2 c = let s = c .before .before .before in omega (arith, version-word (s .args .words .now) (s .args .values .now) (s .args .object) (c .before .before .volume-of .ensures .object), s .pre .1 .1)
+add-version-2 c =
+    let s = c .before .before .before in
+    omega (
+      arith,
+      version-word (s .args .words .now)
+          (s .args .values .now) (s .args .object) (c .before .before .volume-of .ensures .object),
+      s .pre .1 .1,
+    )
 
 cast-invalidate : tie.Need-cast-invalidate
 cast-invalidate c = search needs
