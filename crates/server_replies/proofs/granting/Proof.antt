@@ -46,7 +46,9 @@ element-copy-out-t28 : tie.Need-element-copy-out-t28
 element-copy-out-t28 c = search needs
 
 add-t29 : tie.Need-add-t29
-add-t29 c = let a = c .before .before .before .before .before .before .before .before in omega (arith, ranges _ (a .pre .0) .t .1, a .pre .1 .0, clock-word (a .args .words .now) (a .args .values .now))
+add-t29 c =
+    let a = c .before .before .before .before .before .before .before .before in
+    omega (arith, ranges _ (a .pre .0) .t .1, a .pre .1 .0, clock-word (a .args .words .now) (a .args .values .now))
 
 returns : tie.Need-returns
 returns c = sends-grant _ _ _ _ _ _ _ _ _ (c .before .before .before .before .before .before .before .volume-of .ensures) (c .before .before .before .before .before .before .payload .ensures)

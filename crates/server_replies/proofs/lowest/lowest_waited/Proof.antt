@@ -9,7 +9,9 @@ use Rattle.server_replies.proofs.lowest.lowest_waited.Statement.{statem
 use Rattle.server_replies.proofs.lowest.lowest_waited.Tie as tie
 
 abbrev Inv-loop : tie.InvT-loop
-Inv-loop s words client volume n object₀ object = (object ≤ s .objects) × (firstFrom (waitedIn s (numbersOf words) client volume) object (s .objects - object) ≡ firstFrom (waitedIn s (numbersOf words) client volume) 0 (s .objects))
+Inv-loop s words client volume n object₀ object =
+    let sought = waitedIn s (numbersOf words) client volume in
+    (object ≤ s .objects) × (firstFrom sought object (s .objects - object) ≡ firstFrom sought 0 (s .objects))
 
 abbrev μ-loop : tie.MeasureT-loop
 μ-loop s words client volume n object₀ object = s .objects - object
