@@ -57,12 +57,25 @@ module _ (w x u y : List ℕ) (m : Message) where
     tables-granted : m ≡ granting s (tablesOf w x) d o n held → sent (tablesOf words-granted x) m ≡ granted s (tablesOf w x) d o n held
     unfolding granted objectRenewed volumeRenewed tablesOf
     tables-granted e =
-        rw (part-at wordLengths w CLOCK 0 (omega arith), stored wordLengths _ LEASE (byObject d o) _ lease-place, stored wordLengths _ OBJECT-EXPIRY o _ (p .object), stored wordLengths _ SESSION-EXPIRY (byVolume d v) _ session-place, stored wordLengths _ VOLUME-EXPIRY v _ (p .volume), e, p .is)
+        rw (
+          part-at wordLengths w CLOCK 0 (omega arith),
+          stored wordLengths _ LEASE (byObject d o) _ lease-place,
+          stored wordLengths _ OBJECT-EXPIRY o _ (p .object),
+          stored wordLengths _ SESSION-EXPIRY (byVolume d v) _ session-place,
+          stored wordLengths _ VOLUME-EXPIRY v _ (p .volume),
+          e,
+          p .is,
+        )
 
     records-granted : recordsOf words-granted x ≡ recordsOf w x
     unfolding recordsOf
     records-granted =
-        rw (stored wordLengths _ LEASE (byObject d o) _ lease-place, stored wordLengths _ OBJECT-EXPIRY o _ (p .object), stored wordLengths _ SESSION-EXPIRY (byVolume d v) _ session-place, stored wordLengths _ VOLUME-EXPIRY v _ (p .volume))
+        rw (
+          stored wordLengths _ LEASE (byObject d o) _ lease-place,
+          stored wordLengths _ OBJECT-EXPIRY o _ (p .object),
+          stored wordLengths _ SESSION-EXPIRY (byVolume d v) _ session-place,
+          stored wordLengths _ VOLUME-EXPIRY v _ (p .volume),
+        )
 
     pub grants : m ≡ granting s (tablesOf w x) d o n held → (tablesOf u y ≡ sent (tablesOf words-granted x) m) × (recordsOf u y ≡ recordsOf words-granted x)
         → (tablesOf u y ≡ granted s (tablesOf w x) d o n held) × (recordsOf u y ≡ recordsOf w x)

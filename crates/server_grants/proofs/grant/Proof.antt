@@ -22,7 +22,9 @@ element-copy-out-object-expiry : tie.Need-element-copy-out-object-expiry
 element-copy-out-object-expiry c = search needs
 
 add-object-expiry : tie.Need-add-object-expiry
-add-object-expiry c = let a = c .before .before .before .before .before .before .before .before in omega (arith, ranges _ (a .pre .0) .t .1, a .pre .1 .0, clock-word (a .args .words .now) (a .args .values .now))
+add-object-expiry c =
+    let a = c .before .before .before .before .before .before .before .before in
+    omega (arith, ranges _ (a .pre .0) .t .1, a .pre .1 .0, clock-word (a .args .words .now) (a .args .values .now))
 
 add-words : tie.Need-add-words
 add-words c = search needs
@@ -76,7 +78,11 @@ push-requires : tie.Need-push-requires
 push-requires c κs = search needs
 
 returns : tie.Need-returns
-returns c = grants _ _ _ _ _ _ _ _ _ _ _ (c .before .before .before .before .before .before .before .before .before .before .volume-of .ensures) (c .before .before .before .before .before .before .before .before .before .before .before .pre .1 .1 .0) (c .before .before .before .before .before .before .before .granting .ensures) (c .push .ensures)
+returns c =
+    let at-granting = c .before .before .before .before .before .before .before in
+    let at-volume-of = at-granting .before .before .before in
+    let a = at-volume-of .before in
+    grants _ _ _ _ _ _ _ _ _ _ _ (at-volume-of .volume-of .ensures) (a .pre .1 .1 .0) (at-granting .granting .ensures) (c .push .ensures)
 
 pub grant-spec : {M : Type 1} → statement M
 grant-spec =

@@ -40,7 +40,10 @@ push-requires : tie.Need-push-requires
 push-requires c κs = search needs
 
 returns : tie.Need-returns
-returns c = offers _ _ _ _ _ _ _ _ (c .before .before .before .before .before .pre .0) (c .before .before .before .before .before .pre .1) (c .before .before .before .offering .ensures) (c .push .ensures)
+returns c =
+    let at-offering = c .before .before .before in
+    let a = at-offering .before .before in
+    offers _ _ _ _ _ _ _ _ (a .pre .0) (a .pre .1) (at-offering .offering .ensures) (c .push .ensures)
 
 pub offer-spec : {M : Type 1} → statement M
 offer-spec =
