@@ -16,7 +16,11 @@ offer-requires : tie.Need-offer-requires
 offer-requires c κs = search needs
 
 returns : tie.Need-returns
-returns c = by-offer _ _ _ _ _ _ _ _ _ _ (c .before .before .before .before .before .before .volume-of .ensures) (c .before .before .before .before .must-drop .ensures) _ _ (c .before .before .before .if1 .taken) (c .offer .ensures)
+returns c =
+    let at-if1 = c .before .before .before in
+    let at-must-drop = at-if1 .before in
+    let at-volume-of = at-must-drop .before .before in
+    by-offer _ _ _ _ _ _ _ _ _ _ (at-volume-of .volume-of .ensures) (at-must-drop .must-drop .ensures) _ _ (at-if1 .if1 .taken) (c .offer .ensures)
 
 lowest-waited-requires : tie.Need-lowest-waited-requires
 lowest-waited-requires c κs = search needs
@@ -25,13 +29,34 @@ cast-if2 : tie.Need-cast-if2
 cast-if2 c = search needs
 
 resending-requires : tie.Need-resending-requires
-resending-requires c κs = let a = c .before .before .before .before .before .before .before .before .before in (a .pre .0, ((omega (arith, c .before .before .before .before .before .before .before .before .before .pre .1 .1 .1 .0, ranges _ (c .before .before .before .before .before .before .before .before .before .pre .0) .clients .1)), (c .before .if2 .taken, low-version (a .args .words .now) (a .args .values .now) _ _ _ _ (c .before .before .before .lowest-waited .ensures) (a .pre .1 .1 .0) (c .before .if2 .taken))))
+resending-requires c κs =
+    let at-lowest-waited = c .before .before .before in
+    let a = at-lowest-waited .before .before .before .before .before .before in (
+      a .pre .0,
+      (
+        (omega (arith, a .pre .1 .1 .1 .0, ranges _ (a .pre .0) .clients .1)),
+        (
+          c .before .if2 .taken,
+          low-version (a .args .words .now) (a .args .values .now)
+              _ _ _ _ (at-lowest-waited .lowest-waited .ensures) (a .pre .1 .1 .0) (c .before .if2 .taken),
+        ),
+      ),
+    )
 
 push-requires : tie.Need-push-requires
 push-requires c κs = search needs
 
 returns-2 : tie.Need-returns-2
-returns-2 c = by-resend _ _ _ _ _ _ _ _ _ _ (c .before .before .before .before .before .before .before .before .before .before .before .before .volume-of .ensures) (c .before .before .before .before .before .before .before .before .before .before .must-drop .ensures) _ (c .before .before .before .before .before .before .before .before .before .if1 .left) (c .before .before .before .before .before .before .before .lowest-waited .ensures) _ _ _ (c .before .before .before .before .before .if2 .taken) (c .before .before .before .resending .ensures) (c .push .ensures)
+returns-2 c =
+    let at-resending = c .before .before .before in
+    let at-if2 = at-resending .before .before in
+    let at-lowest-waited = at-if2 .before .before in
+    let at-if1 = at-lowest-waited .before .before in
+    let at-must-drop = at-if1 .before in
+    let at-volume-of = at-must-drop .before .before in
+    by-resend _ _ _ _ _ _ _ _ _ _ (at-volume-of .volume-of .ensures)
+    (at-must-drop .must-drop .ensures) _ (at-if1 .if1 .left) (at-lowest-waited .lowest-waited .ensures)
+    _ _ _ (at-if2 .if2 .taken) (at-resending .resending .ensures) (c .push .ensures)
 
 add-if3 : tie.Need-add-if3
 add-if3 c = search needs
@@ -43,13 +68,32 @@ element-copy-out-if3 : tie.Need-element-copy-out-if3
 element-copy-out-if3 c = search needs
 
 returns-3 : tie.Need-returns-3
-returns-3 c = by-hold _ _ _ _ _ _ _ _ _ _ (c .before .before .before .before .before .before .before .before .before .volume-of .ensures) (c .before .before .before .before .before .before .before .must-drop .ensures) _ (c .before .before .before .before .before .before .if1 .left) (c .before .before .before .before .lowest-waited .ensures) (c .before .before .if2 .left) (stands _ _ _ (c .before .before .before .before .before .before .before .before .before .volume-of .ensures .object) (c .if3 .taken))
+returns-3 c =
+    let at-lowest-waited = c .before .before .before .before in
+    let at-if1 = at-lowest-waited .before .before in
+    let at-must-drop = at-if1 .before in
+    let at-volume-of = at-must-drop .before .before in
+    by-hold _ _ _ _ _ _ _ _ _ _ (at-volume-of .volume-of .ensures)
+    (at-must-drop .must-drop .ensures) _ (at-if1 .if1 .left) (at-lowest-waited .lowest-waited .ensures)
+    (c .before .before .if2 .left) (stands _ _ _ (at-volume-of .volume-of .ensures .object) (c .if3 .taken))
 
 grant-requires : tie.Need-grant-requires
-grant-requires c κs = let p = c .before .before .before .before .before .before .before .before .before .before .before .before .pre in (p .0, (p .1 .0, ((omega (arith, c .before .before .before .before .before .before .before .before .before .before .before .before .pre .1 .1 .1 .0, ranges _ (c .before .before .before .before .before .before .before .before .before .before .before .before .pre .0) .clients .1)), p .1 .1 .1 .1)))
+grant-requires c κs =
+    let a = c .before .before .before .before .before .before .before .before .before .before .before .before in
+    let p = a .pre in
+    (p .0, (p .1 .0, ((omega (arith, a .pre .1 .1 .1 .0, ranges _ (a .pre .0) .clients .1)), p .1 .1 .1 .1)))
 
 returns-4 : tie.Need-returns-4
-returns-4 c = by-grant _ _ _ _ _ _ _ _ _ _ (c .before .before .before .before .before .before .before .before .before .before .before .before .volume-of .ensures) (c .before .before .before .before .before .before .before .before .before .before .must-drop .ensures) _ (c .before .before .before .before .before .before .before .before .before .if1 .left) (c .before .before .before .before .before .before .before .lowest-waited .ensures) _ _ (c .before .before .before .before .before .if2 .left) (rests _ _ _ (c .before .before .before .before .before .before .before .before .before .before .before .before .volume-of .ensures .object) (c .before .before .before .if3 .left)) (c .grant .ensures)
+returns-4 c =
+    let at-if3 = c .before .before .before in
+    let at-if2 = at-if3 .before .before in
+    let at-lowest-waited = at-if2 .before .before in
+    let at-if1 = at-lowest-waited .before .before in
+    let at-must-drop = at-if1 .before in
+    let at-volume-of = at-must-drop .before .before in
+    by-grant _ _ _ _ _ _ _ _ _ _ (at-volume-of .volume-of .ensures)
+    (at-must-drop .must-drop .ensures) _ (at-if1 .if1 .left) (at-lowest-waited .lowest-waited .ensures) _ _
+    (at-if2 .if2 .left) (rests _ _ _ (at-volume-of .volume-of .ensures .object) (at-if3 .if3 .left)) (c .grant .ensures)
 
 pub renew-by-spec : {M : Type 1} → statement M
 renew-by-spec =

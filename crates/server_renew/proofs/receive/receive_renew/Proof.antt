@@ -27,10 +27,24 @@ element-write-words : tie.Need-element-write-words
 element-write-words c = omega (arith, c .before .before .pre .1 .1 .1 .0, ranges _ (c .before .before .pre .0) .clients .1)
 
 renew-by-requires : tie.Need-renew-by-requires
-renew-by-requires c κs = let a = c .before .before .before .before in (a .pre .0, (rw (noted-clock (a .args .setup) (a .args .words .now) (a .args .values .now) (a .args .client) (a .args .number) (omega (arith, c .before .before .before .before .pre .1 .1 .1 .0, ranges _ (c .before .before .before .before .pre .0) .clients .1))) (a .pre .1 .0), (noted-grows _ _ _ _ _ (omega (arith, c .before .before .before .before .pre .1 .1 .1 .0, ranges _ (c .before .before .before .before .pre .0) .clients .1)) (a .pre .1 .1 .0), a .pre .1 .1 .1)))
+renew-by-requires c κs =
+    let a = c .before .before .before .before in (
+      a .pre .0,
+      (
+        rw (noted-clock (a .args .setup) (a .args .words .now) (a .args .values .now) (a .args .client)
+            (a .args .number) (omega (arith, a .pre .1 .1 .1 .0, ranges _ (a .pre .0) .clients .1))) (a .pre .1 .0),
+        (
+          noted-grows _ _ _ _ _ (omega (arith, a .pre .1 .1 .1 .0, ranges _ (a .pre .0) .clients .1)) (a .pre .1 .1 .0),
+          a .pre .1 .1 .1,
+        ),
+      ),
+    )
 
 returns-2 : tie.Need-returns-2
-returns-2 c = renew-new _ _ _ _ _ (omega (arith, c .before .before .before .before .before .pre .1 .1 .1 .0, ranges _ (c .before .before .before .before .before .pre .0) .clients .1)) _ _ _ _ _ (c .before .before .before .if1 .left) (c .renew-by .ensures)
+returns-2 c =
+    let at-if1 = c .before .before .before in
+    let a = at-if1 .before .before in
+    renew-new _ _ _ _ _ (omega (arith, a .pre .1 .1 .1 .0, ranges _ (a .pre .0) .clients .1)) _ _ _ _ _ (at-if1 .if1 .left) (c .renew-by .ensures)
 
 pub receive-renew-spec : {M : Type 1} → statement M
 receive-renew-spec =
