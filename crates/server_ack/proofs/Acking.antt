@@ -37,7 +37,8 @@ module _ (s : Setup) (w : List ℕ) (o e z : ℕ) where
   ack-rests l h = rw (flag-no wordLengths w STANDING o l h)
 
 -- an object with a standing write has a version that can grow
-pub standing-version : (s : Setup) (w : List ℕ) (o : ℕ) → Growing s (numbersOf w .objects) → o < s .objects → o < 32 → (getD w (at STANDING + o) 0 ≡ 0 → ⊥) → versionAt (numbersOf w) o < 4294967295
+pub standing-version : (s : Setup) (w : List ℕ) (o : ℕ) → Growing s (numbersOf w .objects)
+    → o < s .objects → o < 32 → (getD w (at STANDING + o) 0 ≡ 0 → ⊥) → versionAt (numbersOf w) o < 4294967295
 unfolding tablesOf
 standing-version s w o g l k h = g .below o l (flag-yes wordLengths w STANDING o k h)
 

@@ -37,7 +37,10 @@ element-copy-out-result : tie.Need-element-copy-out-result
 element-copy-out-result c = search needs
 
 add-result-2 : tie.Need-add-result-2
-add-result-2 c = let a = c .before .before .before .before .before in let p = c .before .before .before .before .volume-of .ensures in omega (arith, version-word (a .args .words .now) [] (a .args .object) (p .object), standing-version _ _ _ (a .pre .1 .0) (a .pre .1 .1) (p .object) (c .before .before .if1 .taken))
+add-result-2 c =
+    let a = c .before .before .before .before .before in
+    let p = c .before .before .before .before .volume-of .ensures in
+    omega (arith, version-word (a .args .words .now) [] (a .args .object) (p .object), standing-version _ _ _ (a .pre .1 .0) (a .pre .1 .1) (p .object) (c .before .before .if1 .taken))
 
 returns : tie.Need-returns
 returns c = ack-stands _ _ _ _ _ _ (c .before .before .before .before .volume-of .ensures) (c .before .before .if1 .taken)

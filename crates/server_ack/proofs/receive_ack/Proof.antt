@@ -21,7 +21,9 @@ mul-words-2 : tie.Need-mul-words-2
 mul-words-2 c = search needs
 
 element-write-words : tie.Need-element-write-words
-element-write-words c = omega (arith, c .before .before .before .pre .1 .1 .0, c .before .before .before .pre .1 .1 .1, ranges _ (c .before .before .before .pre .0) .clients .1, ranges _ (c .before .before .before .pre .0) .objects .1)
+element-write-words c =
+    let a = c .before .before .before in
+    omega (arith, a .pre .1 .1 .0, a .pre .1 .1 .1, ranges _ (a .pre .0) .clients .1, ranges _ (a .pre .0) .objects .1)
 
 mul-words-3 : tie.Need-mul-words-3
 mul-words-3 c = search needs
@@ -36,13 +38,34 @@ mul-words-4 : tie.Need-mul-words-4
 mul-words-4 c = search needs
 
 element-write-words-2 : tie.Need-element-write-words-2
-element-write-words-2 c = omega (arith, c .before .before .before .pre .1 .1 .0, c .before .before .before .pre .1 .1 .1, ranges _ (c .before .before .before .pre .0) .clients .1, ranges _ (c .before .before .before .pre .0) .objects .1)
+element-write-words-2 c =
+    let a = c .before .before .before in
+    omega (arith, a .pre .1 .1 .0, a .pre .1 .1 .1, ranges _ (a .pre .0) .clients .1, ranges _ (a .pre .0) .objects .1)
 
 settle-one-requires : tie.Need-settle-one-requires
-settle-one-requires c κs = let a = c .before .before .before .before .before in (a .pre .0, (a .pre .1 .1 .1, rw (ack-keeps (a .args .setup) (a .args .words .now) (a .args .values .now) (a .args .client) (a .args .object) _ _ _ (c .before .before .before .ack-taken .ensures) (omega (arith, c .before .before .before .before .before .pre .1 .1 .0, ranges _ (c .before .before .before .before .before .pre .0) .clients .1)) (omega (arith, c .before .before .before .before .before .pre .1 .1 .1, ranges _ (c .before .before .before .before .before .pre .0) .objects .1))) (ack-version (a .args .setup) (a .args .words .now) (a .args .values .now) (a .args .client) (a .args .object) _ _ _ (c .before .before .before .ack-taken .ensures) (a .pre .1 .0) (a .pre .1 .1 .1) (c .before .before .if1 .taken))))
+settle-one-requires c κs =
+    let at-ack-taken = c .before .before .before in
+    let a = at-ack-taken .before .before in (
+      a .pre .0,
+      (
+        a .pre .1 .1 .1,
+        rw (ack-keeps (a .args .setup) (a .args .words .now) (a .args .values .now) (a .args .client) (a .args .object)
+            _ _ _ (at-ack-taken .ack-taken .ensures) (omega (arith, a .pre .1 .1 .0, ranges _ (a .pre .0) .clients .1))
+            (omega (arith, a .pre .1 .1 .1, ranges _ (a .pre .0) .objects .1)))
+            (ack-version (a .args .setup) (a .args .words .now) (a .args .values .now) (a .args .client) (a .args .object)
+            _ _ _ (at-ack-taken .ack-taken .ensures) (a .pre .1 .0) (a .pre .1 .1 .1) (c .before .before .if1 .taken)),
+      ),
+    )
 
 returns : tie.Need-returns
-returns c = ack-yes _ _ _ _ _ _ _ _ (c .before .before .before .before .ack-taken .ensures) (omega (arith, c .before .before .before .before .before .before .pre .1 .1 .0, ranges _ (c .before .before .before .before .before .before .pre .0) .clients .1)) (omega (arith, c .before .before .before .before .before .before .pre .1 .1 .1, ranges _ (c .before .before .before .before .before .before .pre .0) .objects .1)) _ _ _ (c .before .before .before .if1 .taken) (c .settle-one .ensures)
+returns c =
+    let at-if1 = c .before .before .before in
+    let at-ack-taken = at-if1 .before in
+    let a = at-ack-taken .before .before in
+    ack-yes _ _ _
+    _ _ _ _ _ (at-ack-taken .ack-taken .ensures) (omega (arith, a .pre .1 .1 .0, ranges _ (a .pre .0) .clients .1))
+    (omega (arith, a .pre .1 .1 .1, ranges _ (a .pre .0) .objects .1))
+    _ _ _ (at-if1 .if1 .taken) (c .settle-one .ensures)
 
 returns-2 : tie.Need-returns-2
 returns-2 c = ack-no _ _ _ _ _ _ _ _ (c .before .ack-taken .ensures) (c .if1 .left)
