@@ -46,12 +46,30 @@ module _ (s : Setup) (w x a b : List ℕ) (d v : ℕ) (i : d < 16) (l : v < 8) (
     tables-dropped : tablesOf b x ≡ dropped s (tablesOf w x) d v
     unfolding dropped disowned tablesOf
     tables-dropped =
-        rw (f, stored-each wordLengths WAITING (ofVolume s v) (byObject d) (λ (o : ℕ). 0) (s .objects) lease-place a, e, stored-each wordLengths LEASE (ofVolume s v) (byObject d) (λ (o : ℕ). 0) (s .objects) lease-place unleased, stored wordLengths _ OFFER (byVolume d v) 0 session-place, stored wordLengths _ UNREACHABLE (byVolume d v) 0 session-place, stored wordLengths _ SESSION-EXPIRY (byVolume d v) 0 session-place, flags-set (parts wordLengths w UNREACHABLE) (byVolume d v) 0, flags-each (ofVolume s v) (byObject d) (λ (o : ℕ). 0) (parts wordLengths w WAITING) (s .objects))
+        rw (
+          f,
+          stored-each wordLengths WAITING (ofVolume s v) (byObject d) (λ (o : ℕ). 0) (s .objects) lease-place a,
+          e,
+          stored-each wordLengths LEASE (ofVolume s v) (byObject d) (λ (o : ℕ). 0) (s .objects) lease-place unleased,
+          stored wordLengths _ OFFER (byVolume d v) 0 session-place,
+          stored wordLengths _ UNREACHABLE (byVolume d v) 0 session-place,
+          stored wordLengths _ SESSION-EXPIRY (byVolume d v) 0 session-place,
+          flags-set (parts wordLengths w UNREACHABLE) (byVolume d v) 0,
+          flags-each (ofVolume s v) (byObject d) (λ (o : ℕ). 0) (parts wordLengths w WAITING) (s .objects),
+        )
 
     records-dropped : recordsOf b x ≡ recordsOf w x
     unfolding recordsOf
     records-dropped =
-        rw (f, stored-each wordLengths WAITING (ofVolume s v) (byObject d) (λ (o : ℕ). 0) (s .objects) lease-place a, e, stored-each wordLengths LEASE (ofVolume s v) (byObject d) (λ (o : ℕ). 0) (s .objects) lease-place unleased, stored wordLengths _ OFFER (byVolume d v) 0 session-place, stored wordLengths _ UNREACHABLE (byVolume d v) 0 session-place, stored wordLengths _ SESSION-EXPIRY (byVolume d v) 0 session-place)
+        rw (
+          f,
+          stored-each wordLengths WAITING (ofVolume s v) (byObject d) (λ (o : ℕ). 0) (s .objects) lease-place a,
+          e,
+          stored-each wordLengths LEASE (ofVolume s v) (byObject d) (λ (o : ℕ). 0) (s .objects) lease-place unleased,
+          stored wordLengths _ OFFER (byVolume d v) 0 session-place,
+          stored wordLengths _ UNREACHABLE (byVolume d v) 0 session-place,
+          stored wordLengths _ SESSION-EXPIRY (byVolume d v) 0 session-place,
+        )
 
     pub drop-grows : Growing s (tablesOf w x .objects) → Growing s (tablesOf b x .objects)
     unfolding dropped

@@ -10,7 +10,9 @@ use Rattle.server_dropped.proofs.clear_in_volume.Statement.{statement}
 use Rattle.server_dropped.proofs.clear_in_volume.Tie as tie
 
 abbrev Inv-loop : tie.InvT-loop
-Inv-loop s words₀ field client volume n object₀ words object = (object ≤ s .objects) × (foldFrom (storeAt (ofVolume s volume) (λ (o : ℕ). field + byObject client o) (λ (o : ℕ). 0)) words object (s .objects - object) ≡ foldFrom (storeAt (ofVolume s volume) (λ (o : ℕ). field + byObject client o) (λ (o : ℕ). 0)) words₀ 0 (s .objects))
+Inv-loop s words₀ field client volume n object₀ words object =
+    let one-turn = storeAt {A = ℕ} (ofVolume s volume) (λ (o : ℕ). field + byObject client o) (λ (o : ℕ). 0) in
+    (object ≤ s .objects) × (foldFrom one-turn words object (s .objects - object) ≡ foldFrom one-turn words₀ 0 (s .objects))
 
 abbrev μ-loop : tie.MeasureT-loop
 μ-loop s words₀ field client volume n object₀ words object = s .objects - object
@@ -43,7 +45,10 @@ loop-less : tie.Need-loop-less Inv-loop μ-loop
 loop-less c = search needs
 
 loop-again : tie.Need-loop-again Inv-loop μ-loop
-loop-again c = (search needs, fold-again _ _ _ _ _ _ (c .before .before .before .loop-test .taken) (rw (c .put-if .ensures, c .before .before .volume-of .ensures .is)) (c .before .before .before .before .loop .inv .1))
+loop-again c =
+    let at-loop-test = c .before .before .before in
+    let at-loop = at-loop-test .before in
+    (search needs, fold-again _ _ _ _ _ _ (at-loop-test .loop-test .taken) (rw (c .put-if .ensures, c .before .before .volume-of .ensures .is)) (at-loop .loop .inv .1))
 
 returns : tie.Need-returns Inv-loop μ-loop
 unfolding storeEach

@@ -21,7 +21,9 @@ mul-words-2 : tie.Need-mul-words-2
 mul-words-2 c = search needs
 
 element-write-words : tie.Need-element-write-words
-element-write-words c = omega (arith, c .before .before .before .pre .1 .1 .0, c .before .before .before .pre .1 .1 .1, ranges _ (c .before .before .before .pre .0) .clients .1, ranges _ (c .before .before .before .pre .0) .volumes .1)
+element-write-words c =
+    let a = c .before .before .before in
+    omega (arith, a .pre .1 .1 .0, a .pre .1 .1 .1, ranges _ (a .pre .0) .clients .1, ranges _ (a .pre .0) .volumes .1)
 
 mul-words-3 : tie.Need-mul-words-3
 mul-words-3 c = search needs
@@ -36,7 +38,9 @@ mul-words-4 : tie.Need-mul-words-4
 mul-words-4 c = search needs
 
 element-write-words-2 : tie.Need-element-write-words-2
-element-write-words-2 c = omega (arith, c .before .before .before .pre .1 .1 .0, c .before .before .before .pre .1 .1 .1, ranges _ (c .before .before .before .pre .0) .clients .1, ranges _ (c .before .before .before .pre .0) .volumes .1)
+element-write-words-2 c =
+    let a = c .before .before .before in
+    omega (arith, a .pre .1 .1 .0, a .pre .1 .1 .1, ranges _ (a .pre .0) .clients .1, ranges _ (a .pre .0) .volumes .1)
 
 mul-words-5 : tie.Need-mul-words-5
 mul-words-5 c = search needs
@@ -51,7 +55,9 @@ mul-words-6 : tie.Need-mul-words-6
 mul-words-6 c = search needs
 
 element-write-words-3 : tie.Need-element-write-words-3
-element-write-words-3 c = omega (arith, c .before .before .before .pre .1 .1 .0, c .before .before .before .pre .1 .1 .1, ranges _ (c .before .before .before .pre .0) .clients .1, ranges _ (c .before .before .before .pre .0) .volumes .1)
+element-write-words-3 c =
+    let a = c .before .before .before in
+    omega (arith, a .pre .1 .1 .0, a .pre .1 .1 .1, ranges _ (a .pre .0) .clients .1, ranges _ (a .pre .0) .volumes .1)
 
 clear-in-volume-requires : tie.Need-clear-in-volume-requires
 clear-in-volume-requires c κs = search needs
@@ -60,10 +66,26 @@ clear-in-volume-requires-2 : tie.Need-clear-in-volume-requires-2
 clear-in-volume-requires-2 c κs = search needs
 
 settle-requires : tie.Need-settle-requires
-settle-requires c κs = let a = c .before .before .before .before .before .before .before .before .before in (a .pre .0, drop-grows _ _ (a .args .values .now) _ _ _ _ (omega (arith, c .before .before .before .before .before .before .before .before .before .pre .1 .1 .0, ranges _ (c .before .before .before .before .before .before .before .before .before .pre .0) .clients .1)) (omega (arith, c .before .before .before .before .before .before .before .before .before .pre .1 .1 .1, ranges _ (c .before .before .before .before .before .before .before .before .before .pre .0) .volumes .1)) (ranges _ (a .pre .0) .objects .1) (c .before .before .before .before .clear-in-volume .ensures) (c .before .before .clear-in-volume2 .ensures) (a .pre .1 .0))
+settle-requires c κs =
+    let at-clear-in-volume = c .before .before .before .before in
+    let a = at-clear-in-volume .before .before .before .before .before in (
+      a .pre .0,
+      drop-grows _ _ (a .args .values .now) _ _ _ _ (omega (arith, a .pre .1 .1 .0, ranges _ (a .pre .0) .clients .1))
+          (omega (arith, a .pre .1 .1 .1, ranges _ (a .pre .0) .volumes .1)) (ranges _ (a .pre .0) .objects .1)
+          (at-clear-in-volume .clear-in-volume .ensures) (c .before .before .clear-in-volume2 .ensures) (a .pre .1 .0),
+    )
 
 returns : tie.Need-returns
-returns c = drop-yes _ _ _ _ _ _ _ (omega (arith, c .before .before .before .before .before .before .before .before .before .before .pre .1 .1 .0, ranges _ (c .before .before .before .before .before .before .before .before .before .before .pre .0) .clients .1)) (omega (arith, c .before .before .before .before .before .before .before .before .before .before .pre .1 .1 .1, ranges _ (c .before .before .before .before .before .before .before .before .before .before .pre .0) .volumes .1)) (ranges _ (c .before .before .before .before .before .before .before .before .before .before .pre .0) .objects .1) (c .before .before .before .before .before .clear-in-volume .ensures) (c .before .before .before .clear-in-volume2 .ensures) _ _ _ _ _ _ (c .before .before .before .before .before .before .before .before .drop-taken .ensures) (c .before .before .before .before .before .before .before .if1 .taken) (c .settle .ensures)
+returns c =
+    let at-clear-in-volume2 = c .before .before .before in
+    let at-clear-in-volume = at-clear-in-volume2 .before .before in
+    let at-if1 = at-clear-in-volume .before .before in
+    let at-drop-taken = at-if1 .before in
+    let a = at-drop-taken .before .before in
+    drop-yes _ _ _ _ _ _ _ (omega (arith, a .pre .1 .1 .0, ranges _ (a .pre .0) .clients .1))
+    (omega (arith, a .pre .1 .1 .1, ranges _ (a .pre .0) .volumes .1)) (ranges _ (a .pre .0) .objects .1)
+    (at-clear-in-volume .clear-in-volume .ensures) (at-clear-in-volume2 .clear-in-volume2 .ensures)
+    _ _ _ _ _ _ (at-drop-taken .drop-taken .ensures) (at-if1 .if1 .taken) (c .settle .ensures)
 
 returns-2 : tie.Need-returns-2
 returns-2 c = drop-no _ _ _ _ _ _ _ _ (c .before .drop-taken .ensures) (c .if1 .left)
