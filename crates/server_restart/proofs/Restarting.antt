@@ -12,7 +12,8 @@ use Rattle.laws.specs.Shift.{Above}
 use Rattle.laws.specs.Store.{storeAt, storeEach, always, length-store}
 use Rattle.protocol.specs.declared.setup.Setup.{Setup}
 use Rattle.protocol.specs.Server.{serverRestarted}
-use Rattle.state_words.specs.Fields.{wordLengths, valueLengths, at, atValue, WORDS, VALUES, VOLUME-EPOCH, VOLUME-EXPIRY, GUARD, SEEN, SESSION-EXPIRY, UNREACHABLE, OFFER, OBJECT-EXPIRY, STANDING, END, LEASE, WAITING, PENDING}
+use Rattle.state_words.specs.Fields.{wordLengths, valueLengths, at, atValue, WORDS, VALUES, VOLUME-EPOCH, VOLUME-EXPIRY, GUARD, SEEN}
+use Rattle.state_words.specs.Fields.{SESSION-EXPIRY, UNREACHABLE, OFFER, OBJECT-EXPIRY, STANDING, END, LEASE, WAITING, PENDING}
 use Rattle.state_words.specs.View.{tablesOf, numbersOf, recordsOf}
 use Rattle.server_restart.specs.Restart.{EpochsGrow, sessionsCleared, objectsCleared, holdersCleared}
 
@@ -34,14 +35,17 @@ grow-keeps w₀ w v y a = record { same = λ q k. getD-set-other w (at VOLUME-EP
 module _ (w₀ w : List ℕ) (v n : ℕ) (i : n ≤ 8) (h : v < n) where
   pub grow-again : (A : List ℕ) → Above w₀ w (at VOLUME-EPOCH + v)
       → foldFrom (storeAt always (λ (v : ℕ). at VOLUME-EPOCH + v) (λ (v : ℕ). getD (parts wordLengths w₀ VOLUME-EPOCH) v 0 + 1)) w v (n - v) ≡ A
-      → foldFrom (storeAt always (λ (v : ℕ). at VOLUME-EPOCH + v) (λ (v : ℕ). getD (parts wordLengths w₀ VOLUME-EPOCH) v 0 + 1)) (set w (at VOLUME-EPOCH + v) (getD w (at VOLUME-EPOCH + v) 0 + 1)) (v + 1) (n - (v + 1)) ≡ A
+      → foldFrom
+      (storeAt always (λ (v : ℕ). at VOLUME-EPOCH + v) (λ (v : ℕ). getD (parts wordLengths w₀ VOLUME-EPOCH) v 0 + 1))
+      (set w (at VOLUME-EPOCH + v) (getD w (at VOLUME-EPOCH + v) 0 + 1)) (v + 1) (n - (v + 1)) ≡ A
   grow-again A a f =
       fold-again (storeAt always (λ (v : ℕ). at VOLUME-EPOCH + v) (λ (v : ℕ). getD (parts wordLengths w₀ VOLUME-EPOCH) v 0 + 1)) n v w _ A h
       (rw (a .same (at VOLUME-EPOCH + v) (omega arith), part-at wordLengths w₀ VOLUME-EPOCH v (omega arith))) f
 
   pub guard-again : (A : List ℕ) → Only wordLengths GUARD w₀ w
       → foldFrom (storeAt always (λ (v : ℕ). at GUARD + v) (λ (v : ℕ). getD (parts wordLengths w₀ VOLUME-EXPIRY) v 0)) w v (n - v) ≡ A
-      → foldFrom (storeAt always (λ (v : ℕ). at GUARD + v) (λ (v : ℕ). getD (parts wordLengths w₀ VOLUME-EXPIRY) v 0)) (set w (at GUARD + v) (getD w (at VOLUME-EXPIRY + v) 0)) (v + 1) (n - (v + 1)) ≡ A
+      → foldFrom (storeAt always (λ (v : ℕ). at GUARD + v) (λ (v : ℕ). getD (parts wordLengths w₀ VOLUME-EXPIRY) v 0))
+      (set w (at GUARD + v) (getD w (at VOLUME-EXPIRY + v) 0)) (v + 1) (n - (v + 1)) ≡ A
   guard-again A o f =
       fold-again (storeAt always (λ (v : ℕ). at GUARD + v) (λ (v : ℕ). getD (parts wordLengths w₀ VOLUME-EXPIRY) v 0)) n v w _ A h
       (rw (part-at wordLengths w VOLUME-EXPIRY v (omega arith), o .others VOLUME-EXPIRY (λ e. omega arith))) f
@@ -76,12 +80,18 @@ module _ (w u : List ℕ) (h : length w ≡ WORDS) where
   sessions-length e = ap length e ∙ cleared OFFER 128 marks (cleared UNREACHABLE 128 expiries (cleared SESSION-EXPIRY 128 seen (cleared SEEN 16 w h)))
 
   pub sessions-fields : u ≡ sessionsCleared w
-      → parts wordLengths u ≡ withPart (withPart (withPart (withPart (parts wordLengths w) SEEN (replicate 16 0)) SESSION-EXPIRY (replicate 128 0)) UNREACHABLE (replicate 128 0)) OFFER (replicate 128 0)
+      → parts wordLengths u ≡ withPart (withPart (withPart (withPart (parts wordLengths w) SEEN (replicate 16 0))
+      SESSION-EXPIRY (replicate 128 0)) UNREACHABLE (replicate 128 0)) OFFER (replicate 128 0)
   sessions-fields e =
       let a = cleared SEEN 16 w h in
       let b = cleared SESSION-EXPIRY 128 seen a in
       let c = cleared UNREACHABLE 128 expiries b in
-      rw (filled-field wordLengths marks u OFFER 0 (omega (arith, c)) e, filled-field wordLengths expiries marks UNREACHABLE 0 (omega (arith, b)) refl, filled-field wordLengths seen expiries SESSION-EXPIRY 0 (omega (arith, a)) refl, filled-field wordLengths w seen SEEN 0 (omega (arith, h)) refl)
+      rw (
+        filled-field wordLengths marks u OFFER 0 (omega (arith, c)) e,
+        filled-field wordLengths expiries marks UNREACHABLE 0 (omega (arith, b)) refl,
+        filled-field wordLengths seen expiries SESSION-EXPIRY 0 (omega (arith, a)) refl,
+        filled-field wordLengths w seen SEEN 0 (omega (arith, h)) refl,
+      )
 
   pub objects-length : u ≡ objectsCleared w → length u ≡ WORDS
   objects-length e = ap length e ∙ cleared END 32 standing (cleared STANDING 32 leases (cleared OBJECT-EXPIRY 32 w h))
@@ -91,7 +101,11 @@ module _ (w u : List ℕ) (h : length w ≡ WORDS) where
   objects-fields e =
       let a = cleared OBJECT-EXPIRY 32 w h in
       let b = cleared STANDING 32 leases a in
-      rw (filled-field wordLengths standing u END 0 (omega (arith, b)) e, filled-field wordLengths leases standing STANDING 0 (omega (arith, a)) refl, filled-field wordLengths w leases OBJECT-EXPIRY 0 (omega (arith, h)) refl)
+      rw (
+        filled-field wordLengths standing u END 0 (omega (arith, b)) e,
+        filled-field wordLengths leases standing STANDING 0 (omega (arith, a)) refl,
+        filled-field wordLengths w leases OBJECT-EXPIRY 0 (omega (arith, h)) refl,
+      )
 
   pub holders-fields : u ≡ holdersCleared w → parts wordLengths u ≡ withPart (withPart (parts wordLengths w) LEASE (replicate 512 0)) WAITING (replicate 512 0)
   holders-fields e =
@@ -112,14 +126,29 @@ module _ (s : Setup) (w a b c d u x y : List ℕ) (n : ℕ) (h : length w ≡ WO
   guards : parts wordLengths b ≡ withPart (parts wordLengths a) GUARD (storeEach always (λ (v : ℕ). v) (λ (v : ℕ). getD (parts wordLengths a VOLUME-EXPIRY) v 0) (parts wordLengths a GUARD) 8)
   guards = ap (parts wordLengths) e₂ ∙ stored-each wordLengths GUARD always (λ (v : ℕ). v) (λ (v : ℕ). getD (parts wordLengths a VOLUME-EXPIRY) v 0) 8 (λ d l. l) a
 
-  epochs : parts wordLengths a ≡ withPart (parts wordLengths w) VOLUME-EPOCH (storeEach always (λ (v : ℕ). v) (λ (v : ℕ). getD (parts wordLengths w VOLUME-EPOCH) v 0 + 1) (parts wordLengths w VOLUME-EPOCH) n)
+  epochs : parts wordLengths a ≡ withPart (parts wordLengths w) VOLUME-EPOCH (storeEach always (λ (v : ℕ).
+      v) (λ (v : ℕ). getD (parts wordLengths w VOLUME-EPOCH) v 0 + 1) (parts wordLengths w VOLUME-EPOCH) n)
   epochs = ap (parts wordLengths) e₁ ∙ stored-each wordLengths VOLUME-EPOCH always (λ (v : ℕ). v) (λ (v : ℕ). getD (parts wordLengths w VOLUME-EPOCH) v 0 + 1) n (λ d l. omega arith) w
 
   tables-restarted : tablesOf u y ≡ serverRestarted s (tablesOf w x)
   unfolding serverRestarted tablesOf
   tables-restarted =
       let lc = sessions-length b c long e₃ in
-      rw (holders-fields d u (objects-length c d lc e₄) e₅, objects-fields c d lc e₄, sessions-fields b c long e₃, guards, epochs, copied (parts wordLengths w GUARD) (parts wordLengths w VOLUME-EXPIRY) 8 (part-length wordLengths w GUARD (omega (arith, h))) (part-length wordLengths w VOLUME-EXPIRY (omega (arith, h))), filled-field valueLengths x y PENDING 0 (omega (arith, l)) f, flags-zero 512, flags-zero 128, flags-zero 32, i)
+      rw (
+        holders-fields d u (objects-length c d lc e₄) e₅,
+        objects-fields c d lc e₄,
+        sessions-fields b c long e₃,
+        guards,
+        epochs,
+        copied (parts wordLengths w GUARD)
+            (parts wordLengths w VOLUME-EXPIRY) 8 (part-length wordLengths w GUARD (omega (arith, h)))
+            (part-length wordLengths w VOLUME-EXPIRY (omega (arith, h))),
+        filled-field valueLengths x y PENDING 0 (omega (arith, l)) f,
+        flags-zero 512,
+        flags-zero 128,
+        flags-zero 32,
+        i,
+      )
 
   records-restarted : recordsOf u y ≡ recordsOf w x
   unfolding recordsOf

@@ -18,7 +18,12 @@ fill-requires-4 : tie.Need-fill-requires-4
 fill-requires-4 c κs = search needs
 
 returns : tie.Need-returns
-returns c = c .fill4 .ensures ∙ ap (filling (at OFFER) 128 0) (c .before .before .fill3 .ensures ∙ ap (filling (at UNREACHABLE) 128 0) (c .before .before .before .before .fill2 .ensures ∙ ap (filling (at SESSION-EXPIRY) 128 0) (c .before .before .before .before .before .before .fill .ensures)))
+returns c =
+    let at-fill2 = c .before .before .before .before in
+    let at-fill = at-fill2 .before .before in
+    c .fill4 .ensures
+    ∙ ap (filling (at OFFER) 128 0) (c .before .before .fill3 .ensures ∙ ap (filling (at UNREACHABLE) 128 0)
+    (at-fill2 .fill2 .ensures ∙ ap (filling (at SESSION-EXPIRY) 128 0) (at-fill .fill .ensures)))
 
 pub clear-sessions-spec : {M : Type 1} → statement M
 clear-sessions-spec =

@@ -14,7 +14,9 @@ use Rattle.server_restart.proofs.grow_epochs.Statement.{statement}
 use Rattle.server_restart.proofs.grow_epochs.Tie as tie
 
 abbrev Inv-loop : tie.InvT-loop
-Inv-loop words₀ n v₀ words v = (v ≤ n) × (Above words₀ words (at VOLUME-EPOCH + v) × (foldFrom (storeAt always (λ (v : ℕ). at VOLUME-EPOCH + v) (λ (v : ℕ). getD (parts wordLengths words₀ VOLUME-EPOCH) v 0 + 1)) words v (n - v) ≡ foldFrom (storeAt always (λ (v : ℕ). at VOLUME-EPOCH + v) (λ (v : ℕ). getD (parts wordLengths words₀ VOLUME-EPOCH) v 0 + 1)) words₀ 0 n))
+Inv-loop words₀ n v₀ words v =
+    let one-turn = storeAt always (λ (v : ℕ). at VOLUME-EPOCH + v) (λ (v : ℕ). getD (parts wordLengths words₀ VOLUME-EPOCH) v 0 + 1) in
+    (v ≤ n) × (Above words₀ words (at VOLUME-EPOCH + v) × (foldFrom one-turn words v (n - v) ≡ foldFrom one-turn words₀ 0 n))
 
 abbrev μ-loop : tie.MeasureT-loop
 μ-loop words₀ n v₀ words v = n - v
@@ -32,7 +34,14 @@ element-copy-out-words : tie.Need-element-copy-out-words Inv-loop μ-loop
 element-copy-out-words c = search needs
 
 add-words-2 : tie.Need-add-words-2 Inv-loop μ-loop
-add-words-2 c = let l = c .before .before .loop in let a = c .before .before .before in omega (arith, l .inv .1 .0 .same (at VOLUME-EPOCH + l .volume) (omega arith), epoch-grows (a .args .n) (a .args .words .now) (l .volume) (a .pre .1) (search needs) (search needs))
+add-words-2 c =
+    let l = c .before .before .loop in
+    let a = c .before .before .before in
+    omega (
+      arith,
+      l .inv .1 .0 .same (at VOLUME-EPOCH + l .volume) (omega arith),
+      epoch-grows (a .args .n) (a .args .words .now) (l .volume) (a .pre .1) (search needs) (search needs),
+    )
 
 add-words-3 : tie.Need-add-words-3 Inv-loop μ-loop
 add-words-3 c = search needs

@@ -12,7 +12,9 @@ use Rattle.server_restart.proofs.guard_expiries.Statement.{statement}
 use Rattle.server_restart.proofs.guard_expiries.Tie as tie
 
 abbrev Inv-loop : tie.InvT-loop
-Inv-loop words₀ v₀ words v = (v ≤ 8) × (Only wordLengths GUARD words₀ words × (foldFrom (storeAt always (λ (v : ℕ). at GUARD + v) (λ (v : ℕ). getD (parts wordLengths words₀ VOLUME-EXPIRY) v 0)) words v (8 - v) ≡ foldFrom (storeAt always (λ (v : ℕ). at GUARD + v) (λ (v : ℕ). getD (parts wordLengths words₀ VOLUME-EXPIRY) v 0)) words₀ 0 8))
+Inv-loop words₀ v₀ words v =
+    let one-turn = storeAt always (λ (v : ℕ). at GUARD + v) (λ (v : ℕ). getD (parts wordLengths words₀ VOLUME-EXPIRY) v 0) in
+    (v ≤ 8) × (Only wordLengths GUARD words₀ words × (foldFrom one-turn words v (8 - v) ≡ foldFrom one-turn words₀ 0 8))
 
 abbrev μ-loop : tie.MeasureT-loop
 μ-loop words₀ v₀ words v = 8 - v
@@ -45,7 +47,14 @@ loop-less : tie.Need-loop-less Inv-loop μ-loop
 loop-less c = search needs
 
 loop-again : tie.Need-loop-again Inv-loop μ-loop
-loop-again c = let l = c .before .before .loop in (search needs, (only-set wordLengths GUARD _ _ _ _ (search needs) (l .inv .1 .0), guard-again _ _ _ 8 (search needs) (search needs) _ (l .inv .1 .0) (l .inv .1 .1)))
+loop-again c =
+    let l = c .before .before .loop in (
+      search needs,
+      (
+        only-set wordLengths GUARD _ _ _ _ (search needs) (l .inv .1 .0),
+        guard-again _ _ _ 8 (search needs) (search needs) _ (l .inv .1 .0) (l .inv .1 .1),
+      ),
+    )
 
 returns : tie.Need-returns Inv-loop μ-loop
 unfolding storeEach

@@ -33,7 +33,19 @@ fill-values-requires : tie.Need-fill-values-requires
 fill-values-requires c κs = search needs
 
 returns : tie.Need-returns
-returns c = let a = c .before .before .before .before .before .before .before .before .before .before .before .before .before .before .before .before .before .before .before in restarts (a .args .setup) _ _ _ _ _ _ _ _ _ (c .before .before .before .before .before .before .before .before .before .before .before .before .before .before .before .before .before .sized-arg2 .given .0) (c .before .before .before .before .before .before .before .before .before .before .before .before .before .before .sized-values-arg2 .given .0) refl (ranges _ (a .pre .0) .volumes .1) (c .before .before .before .before .before .before .before .before .before .before .grow-epochs .ensures) (c .before .before .before .before .before .before .before .before .guard-expiries .ensures) (c .before .before .before .before .before .before .clear-sessions .ensures) (c .before .before .before .before .clear-objects .ensures) (c .before .before .clear-holders .ensures) (c .fill-values .ensures)
+returns c =
+    let at-clear-objects = c .before .before .before .before in
+    let at-clear-sessions = at-clear-objects .before .before in
+    let at-guard-expiries = at-clear-sessions .before .before in
+    let at-grow-epochs = at-guard-expiries .before .before in
+    let at-sized-values-arg2 = at-grow-epochs .before .before .before .before in
+    let at-sized-arg2 = at-sized-values-arg2 .before .before .before in
+    let a = at-sized-arg2 .before .before in
+    restarts (a .args .setup)
+    _ _ _ _ _ _ _ _ _ (at-sized-arg2 .sized-arg2 .given .0) (at-sized-values-arg2 .sized-values-arg2 .given .0)
+    refl (ranges _ (a .pre .0) .volumes .1) (at-grow-epochs .grow-epochs .ensures)
+    (at-guard-expiries .guard-expiries .ensures) (at-clear-sessions .clear-sessions .ensures)
+    (at-clear-objects .clear-objects .ensures) (c .before .before .clear-holders .ensures) (c .fill-values .ensures)
 
 pub restart-spec : {M : Type 1} → statement M
 restart-spec =
