@@ -16,7 +16,12 @@ store-grant-requires : tie.Need-store-grant-requires
 store-grant-requires c κs = search needs
 
 returns : tie.Need-returns
-returns c = grant-yes _ _ _ _ _ _ _ (c .before .before .before .before .before .before .args .g) _ (c .before .before .before .before .before .stands .ensures) _ _ _ (c .before .before .before .before .before .before .pre .1 .0) (c .before .before .before .volume-of .ensures) (c .before .before .before .before .if1 .taken) (c .before .put .ensures) (c .store-grant .ensures)
+returns c =
+    let at-volume-of = c .before .before .before in
+    let at-if1 = at-volume-of .before in
+    let at-stands = at-if1 .before in
+    let a = at-stands .before in
+    grant-yes _ _ _ _ _ _ _ (a .args .g) _ (at-stands .stands .ensures) _ _ _ (a .pre .1 .0) (at-volume-of .volume-of .ensures) (at-if1 .if1 .taken) (c .before .put .ensures) (c .store-grant .ensures)
 
 kept-requires : tie.Need-kept-requires
 kept-requires c κs = search needs

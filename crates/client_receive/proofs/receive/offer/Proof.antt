@@ -13,7 +13,12 @@ push-requires : tie.Need-push-requires
 push-requires c κs = search needs
 
 returns : tie.Need-returns
-returns c = offer-yes _ _ _ _ _ _ _ _ (c .before .before .before .before .before .before .stands .ensures) _ _ _ (c .before .before .before .before .before .before .before .pre .0) (c .before .before .before .before .before .before .before .pre .1) (c .before .before .before .before .before .if1 .taken) (c .before .before .before .put .ensures) (c .push .ensures)
+returns c =
+    let at-put = c .before .before .before in
+    let at-if1 = at-put .before .before in
+    let at-stands = at-if1 .before in
+    let a = at-stands .before in
+    offer-yes _ _ _ _ _ _ _ _ (at-stands .stands .ensures) _ _ _ (a .pre .0) (a .pre .1) (at-if1 .if1 .taken) (at-put .put .ensures) (c .push .ensures)
 
 kept-requires : tie.Need-kept-requires
 kept-requires c κs = search needs
