@@ -79,12 +79,22 @@ module _ (s : Setup) (w x a b : List ℕ) (d : ℕ) (i : inRange s ≡ true) (h 
   tables-forgot : tablesOf b x ≡ withViews (tablesOf w x) (clientRestarted s (tablesOf w x .views) d)
   unfolding tablesOf clientRestarted
   tables-forgot =
-      rw (expiries, stored-each wordLengths VIEW-EXPIRY always (byVolume d) (λ (v : ℕ). 0) (s .volumes) view-places a, epochs, stored-each wordLengths VIEW-EPOCH always (byVolume d) (λ (v : ℕ). 0) (s .volumes) view-places w)
+      rw (
+        expiries,
+        stored-each wordLengths VIEW-EXPIRY always (byVolume d) (λ (v : ℕ). 0) (s .volumes) view-places a,
+        epochs,
+        stored-each wordLengths VIEW-EPOCH always (byVolume d) (λ (v : ℕ). 0) (s .volumes) view-places w,
+      )
 
   records-forgot : recordsOf b x ≡ recordsOf w x
   unfolding recordsOf
   records-forgot =
-      rw (expiries, stored-each wordLengths VIEW-EXPIRY always (byVolume d) (λ (v : ℕ). 0) (s .volumes) view-places a, epochs, stored-each wordLengths VIEW-EPOCH always (byVolume d) (λ (v : ℕ). 0) (s .volumes) view-places w)
+      rw (
+        expiries,
+        stored-each wordLengths VIEW-EXPIRY always (byVolume d) (λ (v : ℕ). 0) (s .volumes) view-places a,
+        epochs,
+        stored-each wordLengths VIEW-EPOCH always (byVolume d) (λ (v : ℕ). 0) (s .volumes) view-places w,
+      )
 
   pub restarts : (tablesOf b x ≡ restartDecided s (tablesOf w x) d .outcome .tables) × (recordsOf b x ≡ recordsOf w x)
   unfolding restartDecided

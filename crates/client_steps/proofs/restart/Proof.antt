@@ -21,7 +21,9 @@ add-fill-2 : tie.Need-add-fill-2
 add-fill-2 c = search needs
 
 fill-requires-2 : tie.Need-fill-requires-2
-fill-requires-2 c κs = omega (arith, c .before .before .before .before .pre .1, ranges _ (c .before .before .before .before .pre .0) .clients .1, ranges _ (c .before .before .before .before .pre .0) .volumes .1)
+fill-requires-2 c κs =
+    let a = c .before .before .before .before in
+    omega (arith, a .pre .1, ranges _ (a .pre .0) .clients .1, ranges _ (a .pre .0) .volumes .1)
 
 returns : tie.Need-returns
 returns c = restarts _ _ _ _ _ _ (c .before .before .before .before .before .pre .0) (c .before .before .before .before .before .pre .1) (c .before .before .fill .ensures) (c .fill2 .ensures)
