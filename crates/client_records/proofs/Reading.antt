@@ -50,7 +50,14 @@ module _ (w x : List ℕ) (i : ℕ) (y : Copy) (h : i < 512) (lw : length w ≡ 
   records-copied : recordsOf words-copied values-copied ≡ withCopy (recordsOf w x) i y
   unfolding recordsOf
   records-copied =
-      rw (stored wordLengths _ COPY-EXPIRY i (y .expiry) h, stored wordLengths _ COPY-VERSION i (y .version) h, stored valueLengths _ COPY-VALUE i (y .value) h, copies-set (parts wordLengths w COPY-VERSION) (parts valueLengths x COPY-VALUE) (parts wordLengths w COPY-EXPIRY) i y h (part-length wordLengths w COPY-VERSION (omega arith)) (part-length valueLengths x COPY-VALUE (omega arith)) (part-length wordLengths w COPY-EXPIRY (omega arith)))
+      rw (
+        stored wordLengths _ COPY-EXPIRY i (y .expiry) h,
+        stored wordLengths _ COPY-VERSION i (y .version) h,
+        stored valueLengths _ COPY-VALUE i (y .value) h,
+        copies-set (parts wordLengths w COPY-VERSION) (parts valueLengths x COPY-VALUE)
+            (parts wordLengths w COPY-EXPIRY) i y h (part-length wordLengths w COPY-VERSION (omega arith))
+            (part-length valueLengths x COPY-VALUE (omega arith)) (part-length wordLengths w COPY-EXPIRY (omega arith)),
+      )
 
   pub copy-stored : (tablesOf words-copied values-copied ≡ tablesOf w x) × (recordsOf words-copied values-copied ≡ withCopy (recordsOf w x) i y)
   copy-stored = (tables-copied, records-copied)
@@ -58,7 +65,12 @@ module _ (w x : List ℕ) (i : ℕ) (y : Copy) (h : i < 512) (lw : length w ≡ 
 -- ---- a request
 
 pub request-read : (w : List ℕ) (d : ℕ) → d < 16
-    → record { next = getD w (at REQUEST-NEXT + d) 0; standing = flag (getD w (at REQUEST-STANDING + d) 0); number = getD w (at REQUEST-NUMBER + d) 0; object = getD w (at REQUEST-OBJECT + d) 0 % 256 }
+    → record {
+      next = getD w (at REQUEST-NEXT + d) 0;
+      standing = flag (getD w (at REQUEST-STANDING + d) 0);
+      number = getD w (at REQUEST-NUMBER + d) 0;
+      object = getD w (at REQUEST-OBJECT + d) 0 % 256;
+    }
     ≡ getD (requestsOf w) d noRequest
 unfolding recordsOf
 request-read w d h =

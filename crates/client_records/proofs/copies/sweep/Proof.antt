@@ -10,7 +10,11 @@ use Rattle.client_records.proofs.copies.sweep.Statement.{statement}
 use Rattle.client_records.proofs.copies.sweep.Tie as tie
 
 abbrev Inv-loop : tie.InvT-loop
-Inv-loop s words₀ values₀ g first n end place₀ words values place = (first ≤ place) × ((place ≤ first + n) × ((tablesOf words values ≡ tablesOf words₀ values₀) × ((recordsOf words values .requests ≡ recordsOf words₀ values₀ .requests) × (foldFrom (sweepAt s g first) (recordsOf words values .copies) place (first + n - place) ≡ foldFrom (sweepAt s g first) (recordsOf words₀ values₀ .copies) first n))))
+Inv-loop s words₀ values₀ g first n end place₀ words values place =
+    (first ≤ place) × ((place ≤ first + n) × ((tablesOf words values ≡ tablesOf words₀ values₀)
+    × ((recordsOf words values .requests ≡ recordsOf words₀ values₀ .requests)
+    × (foldFrom (sweepAt s g first) (recordsOf words values .copies) place (first + n - place)
+    ≡ foldFrom (sweepAt s g first) (recordsOf words₀ values₀ .copies) first n))))
 
 abbrev μ-loop : tie.MeasureT-loop
 μ-loop s words₀ values₀ g first n end place₀ words values place = first + n - place
@@ -40,7 +44,21 @@ loop-less : tie.Need-loop-less Inv-loop μ-loop
 loop-less c = search needs
 
 loop-again : tie.Need-loop-again Inv-loop μ-loop
-loop-again c = let l = c .before .before .before .before .before .before .before .before .loop .inv in (search needs, (search needs, (c .put-copy .ensures .0 ∙ l .1 .1 .0, sweep-again _ _ _ _ _ _ _ _ _ _ _ (c .before .before .before .before .before .before .before .loop-test .taken) (c .before .before .before .before .copy-at .ensures) (c .before .before .before .sweep .ensures) (c .put-copy .ensures .1) (l .1 .1 .1))))
+loop-again c =
+    let at-sweep = c .before .before .before in
+    let at-copy-at = at-sweep .before in
+    let at-loop-test = at-copy-at .before .before .before in
+    let l = at-loop-test .before .loop .inv in (
+      search needs,
+      (
+        search needs,
+        (
+          c .put-copy .ensures .0 ∙ l .1 .1 .0,
+          sweep-again _ _ _ _ _ _ _ _ _ _ _ (at-loop-test .loop-test .taken)
+              (at-copy-at .copy-at .ensures) (at-sweep .sweep .ensures) (c .put-copy .ensures .1) (l .1 .1 .1),
+        ),
+      ),
+    )
 
 returns : tie.Need-returns Inv-loop μ-loop
 returns c = let l = c .before .loop .inv in (l .1 .1 .0, swept-end _ _ _ _ _ _ _ (c .loop-test .left) (l .1 .1 .1 .0) (l .1 .1 .1 .1))
