@@ -18,7 +18,14 @@ requests-set : (a b c e : List ℕ) (d : ℕ) (r : Request) → d < 16 → r .ob
 requests-set a b c e d r h n k l m p =
     tabulate-set (requestAt a b c e) (requestAt (set a d (r .next)) (set b d (wordOf (r .standing))) (set c d (r .number)) (set e d (r .object))) r 16 d h
     (λ j q n. rw (getD-set-other a d j (r .next) 0 n, getD-set-other b d j (wordOf (r .standing)) 0 n, getD-set-other c d j (r .number) 0 n, getD-set-other e d j (r .object) 0 n))
-    (rw (getD-set-same a d (r .next) 0 (omega arith), getD-set-same b d (wordOf (r .standing)) 0 (omega arith), getD-set-same c d (r .number) 0 (omega arith), getD-set-same e d (r .object) 0 (omega arith), flag-word (r .standing), byte))
+    (rw (
+      getD-set-same a d (r .next) 0 (omega arith),
+      getD-set-same b d (wordOf (r .standing)) 0 (omega arith),
+      getD-set-same c d (r .number) 0 (omega arith),
+      getD-set-same e d (r .object) 0 (omega arith),
+      flag-word (r .standing),
+      byte,
+    ))
   where
     byte : r .object % 256 ≡ r .object
     byte = omega arith
@@ -27,12 +34,28 @@ module _ (w x : List ℕ) (d : ℕ) (r : Request) (h : d < 16) (n : r .object < 
   tables-requested : tablesOf (requestStored w d r) x ≡ tablesOf w x
   unfolding tablesOf
   tables-requested =
-      rw (stored wordLengths _ REQUEST-OBJECT d (r .object) h, stored wordLengths _ REQUEST-NUMBER d (r .number) h, stored wordLengths _ REQUEST-STANDING d (wordOf (r .standing)) h, stored wordLengths _ REQUEST-NEXT d (r .next) h)
+      rw (
+        stored wordLengths _ REQUEST-OBJECT d (r .object) h,
+        stored wordLengths _ REQUEST-NUMBER d (r .number) h,
+        stored wordLengths _ REQUEST-STANDING d (wordOf (r .standing)) h,
+        stored wordLengths _ REQUEST-NEXT d (r .next) h,
+      )
 
   records-requested : recordsOf (requestStored w d r) x ≡ withRequest (recordsOf w x) d r
   unfolding recordsOf
   records-requested =
-      rw (stored wordLengths _ REQUEST-OBJECT d (r .object) h, stored wordLengths _ REQUEST-NUMBER d (r .number) h, stored wordLengths _ REQUEST-STANDING d (wordOf (r .standing)) h, stored wordLengths _ REQUEST-NEXT d (r .next) h, requests-set (parts wordLengths w REQUEST-NEXT) (parts wordLengths w REQUEST-STANDING) (parts wordLengths w REQUEST-NUMBER) (parts wordLengths w REQUEST-OBJECT) d r h n (part-length wordLengths w REQUEST-NEXT (omega arith)) (part-length wordLengths w REQUEST-STANDING (omega arith)) (part-length wordLengths w REQUEST-NUMBER (omega arith)) (part-length wordLengths w REQUEST-OBJECT (omega arith)))
+      rw (
+        stored wordLengths _ REQUEST-OBJECT d (r .object) h,
+        stored wordLengths _ REQUEST-NUMBER d (r .number) h,
+        stored wordLengths _ REQUEST-STANDING d (wordOf (r .standing)) h,
+        stored wordLengths _ REQUEST-NEXT d (r .next) h,
+        requests-set (parts wordLengths w REQUEST-NEXT)
+            (parts wordLengths w REQUEST-STANDING) (parts wordLengths w REQUEST-NUMBER)
+            (parts wordLengths w REQUEST-OBJECT) d r h n (part-length wordLengths w REQUEST-NEXT (omega arith))
+            (part-length wordLengths w REQUEST-STANDING (omega arith))
+            (part-length wordLengths w REQUEST-NUMBER (omega arith))
+            (part-length wordLengths w REQUEST-OBJECT (omega arith)),
+      )
 
 pub request-stored : (w u x : List ℕ) (d : ℕ) (r : Request) → d < 16 → RequestPut w u d r → (tablesOf u x ≡ tablesOf w x) × (recordsOf u x ≡ withRequest (recordsOf w x) d r)
 request-stored w u x d r h p =

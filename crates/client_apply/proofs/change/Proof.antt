@@ -10,10 +10,17 @@ sweep-requires : tie.Need-sweep-requires
 sweep-requires c κs = search needs
 
 turn-requires : tie.Need-turn-requires
-turn-requires c κs = (c .before .before .before .before .before .before .before .before .pre .0, still-turns (c .before .before .before .before .before .before .before .before .args .setup) (c .before .before .before .before .before .before .before .before .args .at) (c .before .before .before .before .before .before .before .before .args .g) _ _ _ _ (c .before .before .before .before .before .change-copy .ensures) (c .before .before .sweep .ensures) (c .before .before .before .before .before .before .before .before .pre .1 .1))
+turn-requires c κs =
+    let at-change-copy = c .before .before .before .before .before in
+    let a = at-change-copy .before .before .before in
+    (a .pre .0, still-turns (a .args .setup) (a .args .at) (a .args .g) _ _ _ _ (at-change-copy .change-copy .ensures) (c .before .before .sweep .ensures) (a .pre .1 .1))
 
 returns : tie.Need-returns
-returns c = changes (c .before .before .before .before .before .before .before .before .before .args .setup) (c .before .before .before .before .before .before .before .before .before .args .at) (c .before .before .before .before .before .before .before .before .before .args .g) _ _ _ _ (c .before .before .before .before .before .before .change-copy .ensures) (c .before .before .before .sweep .ensures) _ (c .turn .ensures)
+returns c =
+    let at-sweep = c .before .before .before in
+    let at-change-copy = at-sweep .before .before .before in
+    let a = at-change-copy .before .before .before in
+    changes (a .args .setup) (a .args .at) (a .args .g) _ _ _ _ (at-change-copy .change-copy .ensures) (at-sweep .sweep .ensures) _ (c .turn .ensures)
 
 pub change-spec : {M : Type 1} → statement M
 change-spec = tie.close (tie.spec change-copy-requires sweep-requires turn-requires returns)

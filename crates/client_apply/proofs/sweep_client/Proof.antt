@@ -13,7 +13,10 @@ sweep-requires : tie.Need-sweep-requires
 sweep-requires c κs = own-there _ (c .before .before .before .before .before .before .pre .0) _ _ (c .before .before .before .before .before .before .pre .1) (c .before .before .before .if1 .taken)
 
 returns : tie.Need-returns
-returns c = sweep-own (c .before .before .before .before .before .before .before .args .setup) (c .before .before .before .before .before .before .before .args .g) _ _ _ _ (c .before .before .before .before .before .before .before .pre .1) _ _ (c .before .before .before .before .if1 .taken) (c .sweep .ensures)
+returns c =
+    let at-if1 = c .before .before .before .before in
+    let a = at-if1 .before .before .before in
+    sweep-own (a .args .setup) (a .args .g) _ _ _ _ (a .pre .1) _ _ (at-if1 .if1 .taken) (c .sweep .ensures)
 
 returns-2 : tie.Need-returns-2
 returns-2 c = sweep-past (c .before .before .before .args .setup) (c .before .before .before .args .g) _ _ _ _ (c .before .before .before .pre .1) (c .if1 .left)

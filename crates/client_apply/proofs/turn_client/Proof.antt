@@ -10,13 +10,21 @@ request-at-requires : tie.Need-request-at-requires
 request-at-requires c κs = client-there _ (c .before .before .before .pre .0) _ (c .before .if1 .taken)
 
 turn-requires : tie.Need-turn-requires
-turn-requires c κs = can-turn (c .before .before .before .before .args .setup) _ (c .before .before .before .before .args .values .now) _ (c .before .before .before .before .args .u) _ (c .before .before .if1 .taken) (c .request-at .ensures) (c .before .before .before .before .pre .1)
+turn-requires c κs =
+    let a = c .before .before .before .before in
+    can-turn (a .args .setup) _ (a .args .values .now) _ (a .args .u) _ (c .before .before .if1 .taken) (c .request-at .ensures) (a .pre .1)
 
 put-request-requires : tie.Need-put-request-requires
 put-request-requires c κs = client-there _ (c .before .before .before .before .before .before .pre .0) _ (c .before .before .before .before .if1 .taken)
 
 returns : tie.Need-returns
-returns c = turn-inside (c .before .before .before .before .before .before .before .args .setup) _ _ _ (c .before .before .before .before .before .before .before .args .u) _ _ _ (client-there _ (c .before .before .before .before .before .before .before .pre .0) _ (c .before .before .before .before .before .if1 .taken)) (c .before .before .before .before .before .if1 .taken) (c .before .before .before .request-at .ensures) (c .before .before .turn .ensures) (c .put-request .ensures)
+returns c =
+    let at-request-at = c .before .before .before in
+    let at-if1 = at-request-at .before .before in
+    let a = at-if1 .before .before in
+    turn-inside (a .args .setup)
+    _ _ _ (a .args .u) _ _ _ (client-there _ (a .pre .0) _ (at-if1 .if1 .taken)) (at-if1 .if1 .taken)
+    (at-request-at .request-at .ensures) (c .before .before .turn .ensures) (c .put-request .ensures)
 
 returns-2 : tie.Need-returns-2
 returns-2 c = turn-past (c .before .before .args .setup) _ _ _ (c .before .before .args .u) (c .if1 .left)
