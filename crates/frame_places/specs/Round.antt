@@ -23,10 +23,24 @@ pub record FieldsFit (f : Fields) : Type 0 where
 pub fields-back : (f : Fields) → FieldsFit f → fieldsIn (laid f) ≡ f
 unfolding fieldsIn laid numbers littleEndian bytesOf bytesAt
 fields-back f h =
-    rw (read-back 4 (f .number) (h .number), read-back 4 (f .«volume_expiry») (h .volume-expiry), read-back 4 (f .epoch) (h .epoch), read-back 4 (f .version) (h .version), read-back 4 (f .«object_expiry») (h .object-expiry), read-back 8 (f .value) (h .value))
+    rw (
+      read-back 4 (f .number) (h .number),
+      read-back 4 (f .«volume_expiry») (h .volume-expiry),
+      read-back 4 (f .epoch) (h .epoch),
+      read-back 4 (f .version) (h .version),
+      read-back 4 (f .«object_expiry») (h .object-expiry),
+      read-back 8 (f .value) (h .value),
+    )
 
 -- A frame that is read and laid out again has the same bytes.
 pub laid-back : (l : List ℕ) → Bytes l → length l ≡ 32 → laid (fieldsIn l) ≡ l
 unfolding laid numbers fieldsIn
 laid-back l b h =
-    simp append-assoc (rw (number-last l b 24 8 (sym h), number-then l b 20 4 (omega arith), number-then l b 16 4 (omega arith), number-then l b 12 4 (omega arith), number-then l b 8 4 (omega arith), number-then l b 4 4 (omega arith)) (four-then l (omega arith)))
+    simp append-assoc (rw (
+      number-last l b 24 8 (sym h),
+      number-then l b 20 4 (omega arith),
+      number-then l b 16 4 (omega arith),
+      number-then l b 12 4 (omega arith),
+      number-then l b 8 4 (omega arith),
+      number-then l b 4 4 (omega arith),
+    ) (four-then l (omega arith)))

@@ -22,7 +22,13 @@ same-length : tie.Need-same-length
 same-length c = search needs
 
 returns : tie.Need-returns
-returns c = numbers-stored _ _ _ _ _ _ _ (c .before .before .before .before .before .before .before .before .before .before .before .before .before .before .before .before .before .before .write-u32 .ensures) (c .before .before .before .before .before .before .before .before .before .before .before .before .before .before .write-u322 .ensures) (c .before .before .before .before .before .before .before .before .before .before .write-u323 .ensures) (c .before .before .before .before .before .before .write-u324 .ensures) (c .before .before .write-u325 .ensures)
+returns c =
+    let at-write-u324 = c .before .before .before .before .before .before in
+    let at-write-u323 = at-write-u324 .before .before .before .before in
+    let at-write-u322 = at-write-u323 .before .before .before .before in
+    let at-write-u32 = at-write-u322 .before .before .before .before in
+    numbers-stored _ _ _ _ _ _ _ (at-write-u32 .write-u32 .ensures) (at-write-u322 .write-u322 .ensures)
+    (at-write-u323 .write-u323 .ensures) (at-write-u324 .write-u324 .ensures) (c .before .before .write-u325 .ensures)
 
 pub write-numbers-spec : {M : Type 1} → statement M
 write-numbers-spec =
