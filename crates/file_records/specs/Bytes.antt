@@ -64,4 +64,12 @@ length-trailer n = refl
 pub length-file : (note : List ℕ) (s : Setup) (xs : List Step) → length (s .volume) ≡ 32 → length (fileBytes note s xs) ≡ fileLength (length note) (length xs)
 unfolding fileBytes
 length-file note s xs h =
-    omega (arith, length-append note (setupBytes s ++ (stepsBytes xs ++ trailerBytes (length xs))), length-append (setupBytes s) (stepsBytes xs ++ trailerBytes (length xs)), length-append (stepsBytes xs) (trailerBytes (length xs)), length-setup s h, length-steps xs, length-trailer (length xs))
+    omega (
+      arith,
+      length-append note (setupBytes s ++ (stepsBytes xs ++ trailerBytes (length xs))),
+      length-append (setupBytes s) (stepsBytes xs ++ trailerBytes (length xs)),
+      length-append (stepsBytes xs) (trailerBytes (length xs)),
+      length-setup s h,
+      length-steps xs,
+      length-trailer (length xs),
+    )
