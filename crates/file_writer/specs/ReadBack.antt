@@ -119,7 +119,16 @@ module _ (note : List ℕ) (s : Setup) (xs : List Step) (f : Writable note s xs)
   measured-yes : measured file ≡ true
   unfolding measured
   measured-yes =
-      rw (counted, distant, long, le-leb 56 (fileLength (length note) count) (omega arith), le-leb _ _ (f .short), le-leb _ _ (f .few), eq-eqb (56 + 16 * count) _ refl, le-leb (56 + 16 * count) (fileLength (length note) count) (omega arith))
+      rw (
+        counted,
+        distant,
+        long,
+        le-leb 56 (fileLength (length note) count) (omega arith),
+        le-leb _ _ (f .short),
+        le-leb _ _ (f .few),
+        eq-eqb (56 + 16 * count) _ refl,
+        le-leb (56 + 16 * count) (fileLength (length note) count) (omega arith),
+      )
 
   step-fit : (k : ℕ) → k < countOf file → stepFitsAt file (firstPlace file) k ≡ true
   unfolding stepsOf allFit
