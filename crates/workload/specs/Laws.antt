@@ -46,7 +46,13 @@ kept false n = refl
 used-fits : (x : Step) → stepFits (onlyUsed x) ≡ true
 unfolding stepFits onlyUsed
 used-fits x =
-    rw (kept (usesClient x) (x .client), kept (usesObject x) (x .object), kept (usesPlace x) (x .place), kept (isClock x) (x .clock), kept (isWrite x) (x .value)) (sym (or-yes (not (known (onlyUsed x)))))
+    rw (
+      kept (usesClient x) (x .client),
+      kept (usesObject x) (x .object),
+      kept (usesPlace x) (x .place),
+      kept (isClock x) (x .clock),
+      kept (isWrite x) (x .value),
+    ) (sym (or-yes (not (known (onlyUsed x)))))
 
 module _ (q : Setup) (s n : ℕ) where
   pub workload-fits : allFit (workload q s n) ≡ true

@@ -55,7 +55,9 @@ returns c =
     let n4 = n5 .before in
     let n3 = n4 .before in
     let n2 = n3 .before in
-    drawn-by _ _ _ _ _ _ (n2 .before .next .ensures) (n2 .next2 .ensures) (n3 .next3 .ensures) (n4 .next4 .ensures) (n5 .next5 .ensures) _ _ _ _ _ _ _ (first .remainder .ensures) (second .remainder2 .ensures) (third .remainder3 .ensures) (used .only-used .ensures) (c .total-after .ensures)
+    drawn-by _ _ _ _ _ _ (n2 .before .next .ensures) (n2 .next2 .ensures)
+    (n3 .next3 .ensures) (n4 .next4 .ensures) (n5 .next5 .ensures) _ _ _ _ _ _ _ (first .remainder .ensures)
+    (second .remainder2 .ensures) (third .remainder3 .ensures) (used .only-used .ensures) (c .total-after .ensures)
 
 pub draw-step-spec : {M : Type 1} → statement M
 draw-step-spec =
