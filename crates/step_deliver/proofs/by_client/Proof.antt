@@ -22,7 +22,12 @@ enum-known-k-3 : tie.Need-enum-known-k-3
 enum-known-k-3 c = search needs
 
 offer-requires : tie.Need-offer-requires
-offer-requires c κs = let a = c .before .before .before .before .before in let g = ranges _ (a .pre .0) in let h = offer-in _ _ (a .pre .1 .1) _ _ _ (c .before .before .before .k3 .given .1) in (omega (arith, a .pre .1 .0), omega arith)
+offer-requires c κs =
+    let at-k3 = c .before .before .before in
+    let a = at-k3 .before .before in
+    let g = ranges _ (a .pre .0) in
+    let h = offer-in _ _ (a .pre .1 .1) _ _ _ (at-k3 .k3 .given .1) in
+    (omega (arith, a .pre .1 .0), omega arith)
 
 kept-requires : tie.Need-kept-requires
 kept-requires c κs = search needs

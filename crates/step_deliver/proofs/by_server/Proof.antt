@@ -11,7 +11,10 @@ cast-o : tie.Need-cast-o
 cast-o c = search needs
 
 receive-renew-requires : tie.Need-receive-renew-requires
-receive-renew-requires c κs = let a = c .before .before .before .before .before in (a .pre .0, (a .pre .1 .0, (a .pre .1 .1 .0, (a .pre .1 .1 .1 .0, renew-in _ _ (a .pre .1 .1 .1 .1) _ _ _ _ (c .before .before .before .k .given .1)))))
+receive-renew-requires c κs =
+    let at-k = c .before .before .before in
+    let a = at-k .before .before in
+    (a .pre .0, (a .pre .1 .0, (a .pre .1 .1 .0, (a .pre .1 .1 .1 .0, renew-in _ _ (a .pre .1 .1 .1 .1) _ _ _ _ (at-k .k .given .1)))))
 
 enum-known-k-2 : tie.Need-enum-known-k-2
 enum-known-k-2 c = search needs
@@ -20,7 +23,10 @@ cast-receive-ack : tie.Need-cast-receive-ack
 cast-receive-ack c = search needs
 
 receive-ack-requires : tie.Need-receive-ack-requires
-receive-ack-requires c κs = let a = c .before .before .before .before .before in (a .pre .0, (a .pre .1 .1 .0, (a .pre .1 .1 .1 .0, ack-in _ _ (a .pre .1 .1 .1 .1) _ _ _ (c .before .before .before .k2 .given .1))))
+receive-ack-requires c κs =
+    let at-k2 = c .before .before .before in
+    let a = at-k2 .before .before in
+    (a .pre .0, (a .pre .1 .1 .0, (a .pre .1 .1 .1 .0, ack-in _ _ (a .pre .1 .1 .1 .1) _ _ _ (at-k2 .k2 .given .1))))
 
 enum-known-k-3 : tie.Need-enum-known-k-3
 enum-known-k-3 c = search needs
@@ -29,7 +35,10 @@ cast-receive-dropped : tie.Need-cast-receive-dropped
 cast-receive-dropped c = search needs
 
 receive-dropped-requires : tie.Need-receive-dropped-requires
-receive-dropped-requires c κs = let a = c .before .before .before .before .before in (a .pre .0, (a .pre .1 .1 .0, (a .pre .1 .1 .1 .0, dropped-in _ _ (a .pre .1 .1 .1 .1) _ _ _ (c .before .before .before .k3 .given .1))))
+receive-dropped-requires c κs =
+    let at-k3 = c .before .before .before in
+    let a = at-k3 .before .before in
+    (a .pre .0, (a .pre .1 .1 .0, (a .pre .1 .1 .1 .0, dropped-in _ _ (a .pre .1 .1 .1 .1) _ _ _ (at-k3 .k3 .given .1))))
 
 returns : tie.Need-returns
 returns c = (serves-renew _ _ _ _ _ _ _ _ _ (c .before .before .before .before .k .given .1) (c .receive-renew .ensures .0), c .receive-renew .ensures .1)
