@@ -11,7 +11,15 @@ perform-requires : tie.Need-perform-requires
 perform-requires c κs = asked _ _ _ _ _ _ (c .before .before .before .refusal .ensures) (c .before .before .if1 .taken)
 
 returns : tie.Need-returns
-returns c = (accepts _ _ _ _ _ _ (c .before .before .before .before .refusal .ensures) _ _ _ _ (c .before .before .before .if1 .taken) (c .perform .ensures .0), (not-refused _ _ _ _ _ _ (c .before .before .before .before .refusal .ensures) _ _ _ _ (c .before .before .before .if1 .taken) (c .perform .ensures .0), c .perform .ensures .1))
+returns c =
+    let at-if1 = c .before .before .before in
+    let at-refusal = at-if1 .before in (
+      accepts _ _ _ _ _ _ (at-refusal .refusal .ensures) _ _ _ _ (at-if1 .if1 .taken) (c .perform .ensures .0),
+      (
+        not-refused _ _ _ _ _ _ (at-refusal .refusal .ensures) _ _ _ _ (at-if1 .if1 .taken) (c .perform .ensures .0),
+        c .perform .ensures .1,
+      ),
+    )
 
 kept-requires : tie.Need-kept-requires
 kept-requires c κs = search needs
