@@ -53,8 +53,14 @@ module _ (s : Setup) (w v : List ℕ) (i : inRange s ≡ true) (o : SoundWorld s
     pub refused : (no ≡ 0 → ⊥) → (Refused no ≡ answerOf s before x) × (before ≡ stepped s before x)
     unfolding stepped sweptAll foldFrom
     refused h =
-        let d : refusedWith (tablesOf w v) no ≡ decision s before x = rw (ne-eqb no 0 h) at decides in
-        (ap (λ (d : Decision). d .outcome .answer) d, rw (← d, set-getD (before .copies) (target s (tablesOf w v) x .copy) noCopy, set-getD (before .requests) (target s (tablesOf w v) x .client) noRequest))
+        let d : refusedWith (tablesOf w v) no ≡ decision s before x = rw (ne-eqb no 0 h) at decides in (
+          ap (λ (d : Decision). d .outcome .answer) d,
+          rw (
+            ← d,
+            set-getD (before .copies) (target s (tablesOf w v) x .copy) noCopy,
+            set-getD (before .requests) (target s (tablesOf w v) x .client) noRequest,
+          ),
+        )
 
     module _ (h : no ≡ 0) where
       accepted : refusalOfStep s (tablesOf w v) r x ≡ 0

@@ -16,16 +16,49 @@ refusal-of-step-requires : tie.Need-refusal-of-step-requires
 refusal-of-step-requires c κs = search needs
 
 perform-requires : tie.Need-perform-requires
-perform-requires c κs = can-perform _ _ _ (c .before .before .before .before .before .before .before .before .before .before .before .before .before .before .before .pre .0) (c .before .before .before .before .before .before .before .before .before .before .before .before .before .before .before .pre .1) _ _ _ _ _ (c .before .before .before .before .before .before .before .before .before .before .before .before .target .ensures) (c .before .before .before .before .before .before .before .before .before .copy-of .ensures) (c .before .before .before .before .before .before .request-of .ensures) (c .before .before .before .refusal-of-step .ensures) (c .before .before .if1 .taken)
+perform-requires c κs =
+    let at-refusal-of-step = c .before .before .before in
+    let at-request-of = at-refusal-of-step .before .before .before in
+    let at-copy-of = at-request-of .before .before .before in
+    let at-target = at-copy-of .before .before .before in
+    let a = at-target .before .before .before in
+    can-perform _ _ _ (a .pre .0) (a .pre .1) _ _ _ _ _ (at-target .target .ensures) (at-copy-of .copy-of .ensures)
+    (at-request-of .request-of .ensures) (at-refusal-of-step .refusal-of-step .ensures) (c .before .before .if1 .taken)
 
 change-requires : tie.Need-change-requires
-change-requires c κs = can-change _ _ _ (c .before .before .before .before .before .before .before .before .before .before .before .before .before .before .before .before .before .before .before .pre .0) (c .before .before .before .before .before .before .before .before .before .before .before .before .before .before .before .before .before .before .before .pre .1) _ _ _ _ _ (c .before .before .before .before .before .before .before .before .before .before .before .before .before .before .before .before .target .ensures) (c .before .before .before .before .before .before .before .before .before .before .before .before .before .copy-of .ensures) (c .before .before .before .before .before .before .before .before .before .before .request-of .ensures) (c .before .before .before .before .before .before .before .refusal-of-step .ensures) (c .before .before .before .before .before .before .if1 .taken) _ _ _ _ (c .before .before .before .perform .ensures)
+change-requires c κs =
+    let at-perform = c .before .before .before in
+    let at-if1 = at-perform .before .before .before in
+    let at-refusal-of-step = at-if1 .before in
+    let at-request-of = at-refusal-of-step .before .before .before in
+    let at-copy-of = at-request-of .before .before .before in
+    let at-target = at-copy-of .before .before .before in
+    let a = at-target .before .before .before in
+    can-change _ _ _ (a .pre .0) (a .pre .1)
+    _ _ _ _ _ (at-target .target .ensures) (at-copy-of .copy-of .ensures) (at-request-of .request-of .ensures)
+    (at-refusal-of-step .refusal-of-step .ensures) (at-if1 .if1 .taken) _ _ _ _ (at-perform .perform .ensures)
 
 returns : tie.Need-returns
-returns c = performs _ _ _ (c .before .before .before .before .before .before .before .before .before .before .before .before .before .before .before .before .before .before .before .before .pre .0) (c .before .before .before .before .before .before .before .before .before .before .before .before .before .before .before .before .before .before .before .before .pre .1) _ _ _ _ _ (c .before .before .before .before .before .before .before .before .before .before .before .before .before .before .before .before .before .target .ensures) (c .before .before .before .before .before .before .before .before .before .before .before .before .before .before .copy-of .ensures) (c .before .before .before .before .before .before .before .before .before .before .before .request-of .ensures) (c .before .before .before .before .before .before .before .before .refusal-of-step .ensures) (c .before .before .before .before .before .before .before .if1 .taken) _ _ _ _ (c .before .before .before .before .perform .ensures) _ (c .change .ensures)
+returns c =
+    let at-perform = c .before .before .before .before in
+    let at-if1 = at-perform .before .before .before in
+    let at-refusal-of-step = at-if1 .before in
+    let at-request-of = at-refusal-of-step .before .before .before in
+    let at-copy-of = at-request-of .before .before .before in
+    let at-target = at-copy-of .before .before .before in
+    let a = at-target .before .before .before in
+    performs _ _ _ (a .pre .0) (a .pre .1) _ _ _ _ _ (at-target .target .ensures)
+    (at-copy-of .copy-of .ensures) (at-request-of .request-of .ensures) (at-refusal-of-step .refusal-of-step .ensures)
+    (at-if1 .if1 .taken) _ _ _ _ (at-perform .perform .ensures) _ (c .change .ensures)
 
 returns-2 : tie.Need-returns-2
-returns-2 c = refused _ _ _ (c .before .before .before .before .before .before .before .before .before .before .before .before .before .pre .0) (c .before .before .before .before .before .before .before .before .before .before .before .before .before .pre .1) _ _ _ _ _ (c .before .before .before .before .before .before .before .before .before .before .target .ensures) (c .before .before .before .before .before .before .before .copy-of .ensures) (c .before .before .before .before .request-of .ensures) (c .before .refusal-of-step .ensures) (c .if1 .left)
+returns-2 c =
+    let at-request-of = c .before .before .before .before in
+    let at-copy-of = at-request-of .before .before .before in
+    let at-target = at-copy-of .before .before .before in
+    let a = at-target .before .before .before in
+    refused _ _ _ (a .pre .0) (a .pre .1) _ _ _ _ _ (at-target .target .ensures) (at-copy-of .copy-of .ensures)
+    (at-request-of .request-of .ensures) (c .before .refusal-of-step .ensures) (c .if1 .left)
 
 pub advance-spec : {M : Type 1} → statement M
 advance-spec =
