@@ -18,22 +18,43 @@ print-requires : tie.Need-print-requires
 print-requires c κs = (c .before .before .before .read .ensures, (c .before .if1 .taken, le-of-eq (sym (length-replicate {A = ℕ} 112640 0))))
 
 array-share-prefix-buffer : tie.Need-array-share-prefix-buffer
-array-share-prefix-buffer c = listing-there _ _ (c .before .before .before .before .before .before .before .read .ensures) (c .before .before .before .before .before .if1 .taken) _ _ _ (length-replicate {A = ℕ} 112640 0) (c .before .before .before .print .ensures)
+array-share-prefix-buffer c =
+    let at-print = c .before .before .before in
+    let at-if1 = at-print .before .before in
+    let at-read = at-if1 .before .before in
+    listing-there _ _ (at-read .read .ensures) (at-if1 .if1 .taken) _ _ _ (length-replicate {A = ℕ} 112640 0) (at-print .print .ensures)
 
 slice-aggregate-write-bytes : tie.Need-slice-aggregate-write-bytes
-slice-aggregate-write-bytes c = sym (length-take-le _ _ (listing-there _ _ (c .before .before .before .before .before .before .before .before .read .ensures) (c .before .before .before .before .before .before .if1 .taken) _ _ _ (length-replicate {A = ℕ} 112640 0) (c .before .before .before .before .print .ensures)))
+slice-aggregate-write-bytes c =
+    let at-print = c .before .before .before .before in
+    let at-if1 = at-print .before .before in
+    let at-read = at-if1 .before .before in
+    sym (length-take-le _ _ (listing-there _ _ (at-read .read .ensures) (at-if1 .if1 .taken) _ _ _ (length-replicate {A = ℕ} 112640 0) (at-print .print .ensures)))
 
 write-bytes-requires : tie.Need-write-bytes-requires
-write-bytes-requires c κs = copy-fits _ _ (c .before .before .before .before .before .before .before .before .read .ensures) (c .before .before .before .before .before .before .if1 .taken) _ _ _ (length-replicate {A = ℕ} 112640 0) (c .before .before .before .before .print .ensures) _ (c .before .before .if2 .taken)
+write-bytes-requires c κs =
+    let at-print = c .before .before .before .before in
+    let at-if1 = at-print .before .before in
+    let at-read = at-if1 .before .before in
+    copy-fits _ _ (at-read .read .ensures) (at-if1 .if1 .taken) _ _ _ (length-replicate {A = ℕ} 112640 0) (at-print .print .ensures) _ (c .before .before .if2 .taken)
 
 same-length : tie.Need-same-length
 same-length c = search needs
 
 returns : tie.Need-returns
-returns c = list-written _ _ (c .before .before .before .before .before .before .before .before .before .before .before .read .ensures) (c .before .before .before .before .before .before .before .before .before .if1 .taken) _ _ _ (length-replicate {A = ℕ} 112640 0) (c .before .before .before .before .before .before .before .print .ensures) _ _ _ (c .before .before .before .before .before .if2 .taken) (c .before .before .write-bytes .ensures)
+returns c =
+    let at-if2 = c .before .before .before .before .before in
+    let at-print = at-if2 .before .before in
+    let at-if1 = at-print .before .before in
+    let at-read = at-if1 .before .before in
+    list-written _ _ (at-read .read .ensures) (at-if1 .if1 .taken) _ _ _ (length-replicate {A = ℕ} 112640 0)
+    (at-print .print .ensures) _ _ _ (at-if2 .if2 .taken) (c .before .before .write-bytes .ensures)
 
 returns-2 : tie.Need-returns-2
-returns-2 c = list-short _ _ (c .before .before .before .before .before .before .read .ensures) (c .before .before .before .before .if1 .taken) _ _ _ (length-replicate {A = ℕ} 112640 0) (c .before .before .print .ensures) _ (c .if2 .left)
+returns-2 c =
+    let at-if1 = c .before .before .before .before in
+    let at-read = at-if1 .before .before in
+    list-short _ _ (at-read .read .ensures) (at-if1 .if1 .taken) _ _ _ (length-replicate {A = ℕ} 112640 0) (c .before .before .print .ensures) _ (c .if2 .left)
 
 returns-3 : tie.Need-returns-3
 returns-3 c = list-refused _ _ (c .before .before .read .ensures) _ (c .if1 .left)

@@ -83,7 +83,8 @@ loop-again c =
         place-next _ _ _ (l .loop .inv .1 .0),
         (
           c .before .before .write-line .ensures .bytes .long ∙ l .loop .inv .1 .1 .0,
-          run-again _ _ _ _ (r .parts) _ (r .counted) _ _ _ _ (l .loop .inv .1 .1 .1) taken _ (l .loop .inv .1 .0) _ at _ _ (c .before .before .before .before .advance .ensures) _ _ (c .before .before .write-line .ensures),
+          run-again _ _ _ _ (r .parts) _ (r .counted) _ _ _ _ (l .loop .inv .1 .1 .1) taken _ (l .loop .inv .1 .0)
+              _ at _ _ (c .before .before .before .before .advance .ensures) _ _ (c .before .before .write-line .ensures),
         ),
       ),
     )
