@@ -25,6 +25,9 @@ unfolding code.routine tablesOf
 look-spec 𝓤 H 𝓜 𝓖 𝓡 =
     entered 𝓤 H (tripleOf 𝓤 H (𝓖 .A) this.signature (this.spec 𝓤 H (𝓖 .A) (𝓜 .mem) (𝓡 .run)))
     (tables 𝓤 H 𝓜 𝓡 code.env .C) (tables 𝓤 H 𝓜 𝓡 code.env .Λ) #look code.function (code.unfolded 𝓤 H 𝓜 𝓡)
-    (law.meets D.the-type D′.the-laws D′.the-plain D′.the-copy noRequest (int w32 0 ∷ opdFalse ∷ int w32 0 ∷ int w8 0 ∷ []) (vint w32 0 ∷ vbool false ∷ vint w32 0 ∷ vint w8 0 ∷ [])
+    (law.meets D.the-type D′.the-laws D′.the-plain D′.the-copy noRequest
+    (int w32 0 ∷ opdFalse ∷ int w32 0 ∷ int w8 0 ∷ []) (vint w32 0 ∷ vbool false ∷ vint w32 0 ∷ vint w8 0 ∷ [])
     (LL.owes D.the-type D′.the-laws noRequest ((refl, lit< tt), (refl, ((refl, lit< tt), ((refl, lit< tt), tt))))) tt
-    𝓤 H (𝓖 .A) (givenOf 𝓤 H 𝓜 𝓖) (λ Γ E. and-then ! (lit ! tt) (and-then ! (false-lit !) (and-then ! (lit ! tt) (and-then ! (lit ! tt) (no-more !))))) (tablesOf 𝓤 H 𝓜 (tables 𝓤 H 𝓜 𝓡 code.env)))
+    𝓤 H (𝓖 .A) (givenOf 𝓤 H 𝓜 𝓖) (λ Γ E.
+    and-then ! (lit ! tt) (and-then ! (false-lit !) (and-then ! (lit ! tt) (and-then ! (lit ! tt) (no-more !)))))
+    (tablesOf 𝓤 H 𝓜 (tables 𝓤 H 𝓜 𝓡 code.env)))

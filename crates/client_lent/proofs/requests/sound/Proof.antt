@@ -54,7 +54,10 @@ module _ {M : Type 1} (𝓤 : URA M) (H : Heap 𝓤) (A : Atoms 𝓤) (W : Given
     to-still = ((tt, tt, tt, args, (vbool ok ∷ [], (LL.val D.the-type D′.the-laws c ∷ [], (LL.val S.the-type S′.the-laws st ∷ [], tt)))), tt)
 
     goes : Is S.the-row st (LL.val S.the-type S′.the-laws st ∷ []) → Is D.the-row c (LL.val D.the-type D′.the-laws c ∷ []) → ent 𝓤 (emp 𝓤) (On-still .pre to-still)
-    goes is-st is = qed W [] ∵ nothing ! $ owned ! S.the-row (Is S.the-row) (LL.makes S.the-type S′.the-plain 𝓤 H A) st _ is-st $ fjoin ! $ owned ! D.the-row (Is D.the-row) (LL.makes D.the-type D′.the-plain 𝓤 H A) c _ is $ fjoin ! $ owned ! Boolean (Is Boolean) (bool-makes 𝓤 H A W) ok _ refl $ fjoin ! $ nothing ! $ join ! $ frame ! $ done !
+    goes is-st is =
+        qed W [] ∵ nothing ! $ owned ! S.the-row (Is S.the-row) (LL.makes S.the-type S′.the-plain 𝓤 H A) st _ is-st $
+        fjoin ! $ owned ! D.the-row (Is D.the-row) (LL.makes D.the-type D′.the-plain 𝓤 H A) c _ is $ fjoin ! $
+        owned ! Boolean (Is Boolean) (bool-makes 𝓤 H A W) ok _ refl $ fjoin ! $ nothing ! $ join ! $ frame ! $ done !
 
     abbrev Says : Bool → SProp 𝓤
     Says r = ensured 𝓤 H A still.ended (still.clauses 𝓤 H A mem run) tt args tt r
@@ -65,7 +68,8 @@ module _ {M : Type 1} (𝓤 : URA M) (H : Heap 𝓤) (A : Atoms 𝓤) (W : Given
   abbrev On-many : Contract 𝓤
   On-many = tripleOf 𝓤 H A many.signature (many.spec 𝓤 H A mem run)
 
-  this-meets : (𝓣 : Tables 𝓤 H) → Triple 𝓤 (𝓣 .C #many) On-many → Triple 𝓤 (𝓣 .C #still) On-still → Meets 𝓤 H A this.signature (WpFn 𝓤 H (𝓣 .C) (𝓣 .Λ) code.function) (this.spec 𝓤 H A mem run)
+  this-meets : (𝓣 : Tables 𝓤 H) → Triple 𝓤 (𝓣 .C #many) On-many → Triple 𝓤 (𝓣 .C #still) On-still
+      → Meets 𝓤 H A this.signature (WpFn 𝓤 H (𝓣 .C) (𝓣 .Λ) code.function) (this.spec 𝓤 H A mem run)
   unfolding requestsSound
   this-meets 𝓣 known-many known-still =
       law.meets D.the-type D′.the-laws D′.the-plain D′.the-copy noRequest #many #still true (λ st. st .clients) (λ st c. requestSound st c) tt 𝓤 H A W 𝓣
@@ -77,5 +81,7 @@ sound-spec 𝓤 H 𝓜 𝓖 𝓡 =
     entered 𝓤 H (tripleOf 𝓤 H (𝓖 .A) this.signature (this.spec 𝓤 H (𝓖 .A) (𝓜 .mem) (𝓡 .run)))
     (tables 𝓤 H 𝓜 𝓡 code.env .C) (tables 𝓤 H 𝓜 𝓡 code.env .Λ) #sound code.function (code.unfolded 𝓤 H 𝓜 𝓡)
     (this-meets 𝓤 H (𝓖 .A) (givenOf 𝓤 H 𝓜 𝓖) (𝓜 .mem) (𝓡 .run) (tablesOf 𝓤 H 𝓜 (tables 𝓤 H 𝓜 𝓡 code.env))
-    (cited 𝓤 H (On-many 𝓤 H (𝓖 .A) (givenOf 𝓤 H 𝓜 𝓖) (𝓜 .mem) (𝓡 .run)) 𝓜 𝓡 code.env #many many-def.routine code.calls-gate-records·requests·as-many (many-thm.met 𝓤 H 𝓜 𝓖 𝓡))
-    (cited 𝓤 H (On-still 𝓤 H (𝓖 .A) (givenOf 𝓤 H 𝓜 𝓖) (𝓜 .mem) (𝓡 .run)) 𝓜 𝓡 code.env #still still-def.routine code.calls-gate-records·requests·still-sound (still-thm.met 𝓤 H 𝓜 𝓖 𝓡)))
+    (cited 𝓤 H (On-many 𝓤 H (𝓖 .A) (givenOf 𝓤 H 𝓜 𝓖) (𝓜 .mem) (𝓡 .run))
+    𝓜 𝓡 code.env #many many-def.routine code.calls-gate-records·requests·as-many (many-thm.met 𝓤 H 𝓜 𝓖 𝓡))
+    (cited 𝓤 H (On-still 𝓤 H (𝓖 .A) (givenOf 𝓤 H 𝓜 𝓖) (𝓜 .mem) (𝓡 .run))
+    𝓜 𝓡 code.env #still still-def.routine code.calls-gate-records·requests·still-sound (still-thm.met 𝓤 H 𝓜 𝓖 𝓡)))

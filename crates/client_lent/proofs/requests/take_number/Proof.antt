@@ -15,7 +15,8 @@ use prog.Wp.{Heap, WpFn, Tables}
 use ghost.Atoms.{Atoms, sem}
 use contract.Monad.{Fun, fact}
 use contract.Running.{givenOf, tables, tablesOf}
-use types.Kit.{Given, use0, ‵, raw, some, later, use1, pick, await, _⊛_, ⋆, _$_, _∵_, !, qed, by, move, keep, drop, split, join, rewrite, fsplit, fsplit3, fjoin, fjoin3, feqI, suffices, frame, done}
+use types.Kit.{Given, use0, ‵, raw, some, later, use1, pick, await, _⊛_, ⋆, _$_, _∵_, !, qed, by, move, keep, drop, split, join, rewrite}
+use types.Kit.{fsplit, fsplit3, fjoin, fjoin3, feqI, suffices, frame, done}
 use types.Run.{look, init, store, land, and-then, no-more, forget, stop, hop, fld, from, load, of-opd, assigns, returns, enter, alloc1, alloc0, params1, pass1, pass0, free1, free0}
 use types.Part.{whole, sub, look-in}
 use types.SemTy.{Body}
@@ -62,7 +63,9 @@ stayed = (stay-ref (0 ∷ []) tt (plain (λ _. Q)), (stay-none (λ _. u8) yes, t
 abbrev On-number : {M : Type 1} (𝓤 : URA M) (H : Heap 𝓤) (A : Atoms 𝓤) (mem : Memory → SProp 𝓤) (run : Routine → Fun 𝓤) → Contract 𝓤
 On-number 𝓤 H A mem run = tripleOf 𝓤 H A number-c.signature (number-c.spec 𝓤 H A mem run)
 
-module _ {M : Type 1} (𝓤 : URA M) (H : Heap 𝓤) (A : Atoms 𝓤) (W : Given 𝓤 H A) (at-mem : Memory → SProp 𝓤) (run : Routine → Fun 𝓤) (κ : Lft) (q : Share) (b o : ℕ) (γ : GName) (h : Request) (object : ℕ) (object-fits : object < 2 ^ 8) (must : h .next < 4294967295) where
+module _ {M : Type 1} (𝓤 : URA M)
+    (H : Heap 𝓤) (A : Atoms 𝓤) (W : Given 𝓤 H A) (at-mem : Memory → SProp 𝓤) (run : Routine → Fun 𝓤) (κ : Lft) (q : Share)
+    (b o : ℕ) (γ : GName) (h : Request) (object : ℕ) (object-fits : object < 2 ^ 8) (must : h .next < 4294967295) where
   abbrev x : Request → RefT Request
   x k = record { ptr = (b, o); name = γ; now = k }
 
@@ -88,43 +91,72 @@ module _ {M : Type 1} (𝓤 : URA M) (H : Heap 𝓤) (A : Atoms 𝓤) (W : Given
   to-number = ((tt, tt, tt, args-number, (vq h ∷ [], (vint w8 object ∷ [], tt))), tt)
 
   goes-number : Is Q h (vq h ∷ []) → ent 𝓤 (emp 𝓤) (On-number 𝓤 H A at-mem run .pre to-number)
-  goes-number is-h = qed W [] ∵ says ! must $ nothing ! $ owned ! u8 (Is u8) (uint-makes 𝓤 H A W w8) object _ (refl, object-fits) $ fjoin ! $ owned ! Q (Is Q) (LL.makes Q-.the-type Q′.the-plain 𝓤 H A) h _ is-h $ fjoin ! $ nothing ! $ join ! $ done !
+  goes-number is-h =
+      qed W [] ∵ says ! must $ nothing ! $ owned ! u8 (Is u8) (uint-makes 𝓤 H A W w8) object _ (refl, object-fits) $
+      fjoin ! $ owned ! Q (Is Q) (LL.makes Q-.the-type Q′.the-plain 𝓤 H A) h _ is-h $ fjoin ! $ nothing ! $ join ! $ done !
 
   got-number : (r : Request) → ent 𝓤 (ensured 𝓤 H A number-c.ended (number-c.clauses 𝓤 H A at-mem run) tt args-number tt r) (fact 𝓤 (r ≡ r₀))
   got-number r = exE 𝓤 _ (λ ws. snd∗ 𝓤 (sem 𝓤 H A (lasts number-c.ended tt args-number ws)) (fact 𝓤 (r ≡ r₀)))
 
-  exits : (r : Request) → r ≡ r₀ → Is Q r (vq r ∷ []) → ent 𝓤 (⋆ 𝓤 H A (‵ (fobs γ (Q .coded .code r)) ∷ ‵ (fbor κ (Body (mem Q) b o γ)) ∷ ‵ (flft κ q) ∷ [])) (Post (vint w32 (r .number)))
+  exits : (r : Request) → r ≡ r₀ → Is Q r (vq r ∷ [])
+      → ent 𝓤 (⋆ 𝓤 H A (‵ (fobs γ (Q .coded .code r)) ∷ ‵ (fbor κ (Body (mem Q) b o γ)) ∷ ‵ (flft κ q) ∷ []))
+      (Post (vint w32 (r .number)))
   exits r e is =
       qed W (‵ (fobs γ (Q .coded .code r)) ∷ ‵ (fbor κ (Body (mem Q) b o γ)) ∷ ‵ (flft κ q) ∷ []) ∵
-      suffices ! _ (ends-at 𝓤 H A this.ended stayed (this.clauses 𝓤 H A at-mem run) W (((κ, tt), (q, tt), tt, a, at), tt) (vint w32 (r .number)) (r .number) (r, (tt, tt)) (tt, (tt, tt))) $ says ! (ap (λ (z : Request). z .number) e, e) $
-      nothing ! $ move ! (3 ∷ 0 ∷ []) $ join ! $ frame ! $ feqI ! (List Val) (vptr b o ∷ []) (vptr b o ∷ []) refl $ fjoin3 ! $ nothing ! $ owned ! u8 (Is u8) (uint-makes 𝓤 H A W w8) object _ (refl, object-fits) $ fjoin ! $ move ! (1 ∷ 0 ∷ []) $ fjoin ! $ frame ! $ owned ! u32 (Is u32) (uint-makes 𝓤 H A W w32) (r .number) _ (LL.owed Q-.the-type Q′.the-laws r _ is .1 .1 .0) $ done !
+      suffices ! _ (ends-at 𝓤 H A this.ended stayed (this.clauses 𝓤 H A at-mem run)
+      W (((κ, tt), (q, tt), tt, a, at), tt) (vint w32 (r .number)) (r .number) (r, (tt, tt)) (tt, (tt, tt))) $
+      says ! (ap (λ (z : Request). z .number) e, e) $
+      nothing ! $ move ! (3 ∷ 0 ∷ []) $ join ! $ frame ! $ feqI ! (List Val) (vptr b o ∷ []) (vptr b o ∷ []) refl $
+      fjoin3 ! $ nothing ! $ owned ! u8 (Is u8) (uint-makes 𝓤 H A W w8) object _ (refl, object-fits) $
+      fjoin ! $ move ! (1 ∷ 0 ∷ []) $ fjoin ! $ frame ! $
+      owned ! u32 (Is u32) (uint-makes 𝓤 H A W w32) (r .number) _ (LL.owed Q-.the-type Q′.the-laws r _ is .1 .1 .0) $
+      done !
 
   module _ (𝓣 : Tables 𝓤 H) (fm : FmC 𝓤 H (W .laws) (𝓣 .C)) (known-number : Triple 𝓤 (𝓣 .C #cache·request·number) (On-number 𝓤 H A at-mem run)) where
     walk : ent 𝓤 (onEntry 𝓤 H A this.signature (κ, tt) (q, tt) a at) (WpFn 𝓤 H (𝓣 .C) (𝓣 .Λ) code.function (vptr b o ∷ vint w8 object ∷ []) Post)
     walk =
         qed W ((‵ (flft κ q) ⊛ ‵ ftrue) ∷ ‵ (owns (MutRef (named 0) κ Q ∷ u8 ∷ []) a at) ∷ []) ∵ enter ! (𝓣 .C) (𝓣 .Λ) code.function (vptr b o ∷ vint w8 object ∷ []) _ $
-        alloc1 ! (λ l₀. alloc1 ! (λ l₁. alloc1 ! (λ l₂. alloc1 ! (λ l₃. alloc1 ! (λ l₄. alloc0 ! $ params1 ! $ pass1 ! (init ! 6 refl (tt, tt)) $ pass1 ! (init ! 4 refl (tt, record { fits = object-fits })) $ pass0 ! $
+        alloc1 ! (λ l₀. alloc1 ! (λ l₁. alloc1 ! (λ l₂. alloc1 ! (λ l₃. alloc1 ! (λ l₄. alloc0 ! $ params1 ! $
+        pass1 ! (init ! 6 refl (tt, tt)) $ pass1 ! (init ! 4 refl (tt, record { fits = object-fits })) $ pass0 ! $
         move ! (11 ∷ []) $ fsplit ! $ fsplit3 ! $ drop ! $ move ! (13 ∷ []) $ split ! $
-        move ! (2 ∷ 3 ∷ 0 ∷ []) $ opens ! tt Q {h = h} b o (λ vs. spelt ! Q (Is Q) (shows 𝓤 H A Q) (LL.vals Q-.the-type Q′.the-laws) (LL.tells Q-.the-type Q′.the-laws) fullShare h vs b o $
+        move ! (2 ∷ 3 ∷ 0 ∷ []) $ opens ! tt Q {h = h} b o (λ vs. spelt ! Q (Is Q)
+        (shows 𝓤 H A Q) (LL.vals Q-.the-type Q′.the-laws) (LL.tells Q-.the-type Q′.the-laws) fullShare h vs b o $
         use1 W (‵ (fat fullShare Q′.mir b o (vq h))) (W .laws .raw-at fullShare Q′.mir b o (vq h)) $ move ! (1 ∷ []) $ facts ! Q (Is Q) (shows 𝓤 H A Q) h (vq h ∷ []) (λ is-h.
         assigns ! (of-opd ! (load ! (from ! (hop ! (look ! 12 refl) (stop !))) (look ! 0 refl))) (from ! (stop !)) (init ! 6 refl (LL.lawful Q-.the-type Q′.the-laws 𝓤 H A W .typed h _ is-h .0)) $
         use0 W (raw (On-number 𝓤 H A at-mem run .pre to-number)) (goes-number is-h) $
-        calls-at ! fm (On-number 𝓤 H A at-mem run) known-number to-number (and-then ! (load ! (from ! (stop !)) (look ! 7 refl)) (and-then ! (load ! (from ! (stop !)) (look ! 11 refl)) (no-more !))) (λ w.
-        use1 W (later (some (λ (r : Request). (‵ ftrue ⊛ ‵ (Q .own r (w ∷ []))) ⊛ raw (ensured 𝓤 H A number-c.ended (number-c.clauses 𝓤 H A at-mem run) tt args-number tt r)))) (id⊢ 𝓤 _) $ await ! tt $ pick ! (λ r.
-        split ! $ move ! (1 ∷ []) $ use1 W (raw (fact 𝓤 (r ≡ r₀))) (got-number r) $ heard ! (r ≡ r₀) (λ e. split ! $ drop ! $ facts ! Q (Is Q) (shows 𝓤 H A Q) r (w ∷ []) (λ is-w. let is : Is Q r (vq r ∷ []) = subst (λ (vs : List Val). Is Q r vs) (LL.tells Q-.the-type Q′.the-laws r (w ∷ []) is-w) is-w in
-        land ! (from ! (stop !)) (init ! 8 refl (LL.lawful Q-.the-type Q′.the-laws 𝓤 H A W .typed r _ is-w .0)) $ rewrite ! 8 (λ (u : Val). ‵ (fat fullShare Q′.mir l₃ 0 u)) (ap only (LL.tells Q-.the-type Q′.the-laws r _ is-w)) refl $
+        calls-at ! fm (On-number 𝓤 H A at-mem run)
+        known-number to-number (and-then ! (load ! (from ! (stop !)) (look ! 7 refl))
+        (and-then ! (load ! (from ! (stop !)) (look ! 11 refl)) (no-more !))) (λ w.
+        use1 W (later (some (λ (r : Request). (‵ ftrue ⊛ ‵ (Q .own r (w ∷ [])))
+        ⊛ raw (ensured 𝓤 H A number-c.ended (number-c.clauses 𝓤 H A at-mem run) tt args-number tt r)))) (id⊢ 𝓤 _) $
+        await ! tt $ pick ! (λ r.
+        split ! $ move ! (1 ∷ []) $ use1 W (raw (fact 𝓤 (r ≡ r₀))) (got-number r) $
+        heard ! (r ≡ r₀) (λ e. split ! $ drop ! $ facts ! Q (Is Q) (shows 𝓤 H A Q) r (w ∷ []) (λ is-w. let is : Is Q
+        r (vq r ∷ []) = subst (λ (vs : List Val). Is Q r vs) (LL.tells Q-.the-type Q′.the-laws r (w ∷ []) is-w) is-w in
+        land ! (from ! (stop !)) (init ! 8 refl (LL.lawful Q-.the-type Q′.the-laws 𝓤 H A W .typed r _ is-w .0)) $
+        rewrite ! 8 (λ (u : Val). ‵ (fat fullShare Q′.mir l₃ 0 u))
+        (ap only (LL.tells Q-.the-type Q′.the-laws r _ is-w)) refl $
         assigns ! (of-opd ! (load ! (from ! (stop !)) (look ! 8 refl))) (from ! (hop ! (look ! 12 refl) (stop !))) (store ! 0 refl (LL.lawful Q-.the-type Q′.the-laws 𝓤 H A W .typed r _ is .0)) $
-        assigns ! (of-opd ! (load ! (from ! (fld ! refl (stop !))) (look-in ! 8 (sub ! 2 refl (whole !))))) (from ! (stop !)) (init ! 14 refl (tt, record { fits = LL.owed Q-.the-type Q′.the-laws r _ is .1 .1 .0 .1 })) $
-        move ! (0 ∷ []) $ use1 W (‵ (cellAt fullShare (Q .mir) (vq r ∷ []) b o)) (W .laws .at-raw fullShare Q′.mir b o (vq r)) $ owned ! Q (Is Q) (LL.makes Q-.the-type Q′.the-plain 𝓤 H A) r _ is $
+        assigns ! (of-opd ! (load ! (from ! (fld ! refl (stop !))) (look-in ! 8 (sub ! 2 refl (whole !)))))
+        (from ! (stop !)) (init ! 14 refl (tt, record { fits = LL.owed Q-.the-type Q′.the-laws r _ is .1 .1 .0 .1 })) $
+        move ! (0 ∷ []) $
+        use1 W (‵ (cellAt fullShare (Q .mir) (vq r ∷ []) b o)) (W .laws .at-raw fullShare Q′.mir b o (vq r)) $
+        owned ! Q (Is Q) (LL.makes Q-.the-type Q′.the-plain 𝓤 H A) r _ is $
         move ! (1 ∷ 0 ∷ 2 ∷ 3 ∷ 4 ∷ []) $ closes ! tt Q r (vq r ∷ []) b o $
         returns ! (look ! 13 refl) $ forget ! 13 refl $ forget ! 11 refl $ forget ! 9 refl $ forget ! 7 refl $ forget ! 5 refl $
-        move ! (13 ∷ 14 ∷ []) $ free1 ! $ move ! (11 ∷ 12 ∷ []) $ free1 ! $ move ! (9 ∷ 10 ∷ []) $ free1 ! $ move ! (7 ∷ 8 ∷ []) $ free1 ! $ move ! (5 ∷ 6 ∷ []) $ free1 ! $ free0 ! $
+        move ! (13 ∷ 14 ∷ []) $ free1 ! $ move ! (11 ∷ 12 ∷ []) $ free1 ! $
+        move ! (9 ∷ 10 ∷ []) $ free1 ! $ move ! (7 ∷ 8 ∷ []) $ free1 ! $ move ! (5 ∷ 6 ∷ []) $ free1 ! $ free0 ! $
         keep ! (0 ∷ 1 ∷ 2 ∷ []) $ by ! (exits r e is))))))))))))
 
 module _ {M : Type 1} (𝓤 : URA M) (H : Heap 𝓤) (A : Atoms 𝓤) (W : Given 𝓤 H A) (mem : Memory → SProp 𝓤) (run : Routine → Fun 𝓤) where
-  this-walks : (𝓣 : Tables 𝓤 H) → Triple 𝓤 (𝓣 .C #cache·request·number) (On-number 𝓤 H A mem run) → Walks 𝓤 H A this.ended stayed (WpFn 𝓤 H (𝓣 .C) (𝓣 .Λ) code.function) (this.clauses 𝓤 H A mem run)
-  this-walks 𝓣 known-number = walked 𝓤 H A this.ended stayed (this.clauses 𝓤 H A mem run) (WpFn 𝓤 H (𝓣 .C) (𝓣 .Λ) code.function) (λ κs. (ptr-vals, (uint-vals w8, tt))) (λ κs. (mut-tells (named 0) (κs .0) Q, (uint-tells w8, tt)))
-      (λ κs qs bounds a g are. needs 𝓤 (a .0 .now .next < 4294967295) _ (λ must. walk 𝓤 H A W mem run (κs .0) (qs .0) (a .0 .ptr .0) (a .0 .ptr .1) (a .0 .name) (a .0 .now) (a .1 .0) (are .1 .0 .1) must 𝓣 (fmOf 𝓤 H (W .laws) 𝓣) known-number))
+  this-walks : (𝓣 : Tables 𝓤 H) → Triple 𝓤 (𝓣 .C #cache·request·number) (On-number 𝓤 H A mem run)
+      → Walks 𝓤 H A this.ended stayed (WpFn 𝓤 H (𝓣 .C) (𝓣 .Λ) code.function) (this.clauses 𝓤 H A mem run)
+  this-walks 𝓣 known-number =
+      walked 𝓤 H A this.ended stayed (this.clauses 𝓤 H A mem run) (WpFn 𝓤 H (𝓣 .C) (𝓣 .Λ) code.function)
+      (λ κs. (ptr-vals, (uint-vals w8, tt))) (λ κs. (mut-tells (named 0) (κs .0) Q, (uint-tells w8, tt)))
+      (λ κs qs bounds a g are.
+      needs 𝓤 (a .0 .now .next < 4294967295) _ (λ must. walk 𝓤 H A W mem run (κs .0) (qs .0) (a .0 .ptr .0)
+      (a .0 .ptr .1) (a .0 .name) (a .0 .now) (a .1 .0) (are .1 .0 .1) must 𝓣 (fmOf 𝓤 H (W .laws) 𝓣) known-number))
 
 this-meets : {M : Type 1} (𝓤 : URA M) (H : Heap 𝓤) (A : Atoms 𝓤) → Given 𝓤 H A → (mem : Memory → SProp 𝓤) (run : Routine → Fun 𝓤) (𝓣 : Tables 𝓤 H)
     → Triple 𝓤 (𝓣 .C #cache·request·number) (On-number 𝓤 H A mem run) → Meets 𝓤 H A this.signature (WpFn 𝓤 H (𝓣 .C) (𝓣 .Λ) code.function) (this.spec 𝓤 H A mem run)
@@ -138,4 +170,5 @@ take-number-spec 𝓤 H 𝓜 𝓖 𝓡 =
     entered 𝓤 H (tripleOf 𝓤 H (𝓖 .A) this.signature (this.spec 𝓤 H (𝓖 .A) (𝓜 .mem) (𝓡 .run)))
     (tables 𝓤 H 𝓜 𝓡 code.env .C) (tables 𝓤 H 𝓜 𝓡 code.env .Λ) #lent-requests·requests·take-number code.function (code.unfolded 𝓤 H 𝓜 𝓡)
     (this-meets 𝓤 H (𝓖 .A) (givenOf 𝓤 H 𝓜 𝓖) (𝓜 .mem) (𝓡 .run) (tablesOf 𝓤 H 𝓜 (tables 𝓤 H 𝓜 𝓡 code.env))
-    (cited 𝓤 H (On-number 𝓤 H (𝓖 .A) (𝓜 .mem) (𝓡 .run)) 𝓜 𝓡 code.env #cache·request·number number-def.routine code.calls-client-cache·request·number (number-thm.met 𝓤 H 𝓜 𝓖 𝓡)))
+    (cited 𝓤 H (On-number 𝓤 H (𝓖 .A) (𝓜 .mem) (𝓡 .run)) 𝓜 𝓡 code.env
+    #cache·request·number number-def.routine code.calls-client-cache·request·number (number-thm.met 𝓤 H 𝓜 𝓖 𝓡)))
