@@ -33,6 +33,13 @@
 extern "C" {
 #endif
 
+/* The version of this library. The second number grows when callers or files
+   have to change, and CHANGES.md in the repository says how; else the third. */
+#define GEVTSOMI_VERSION "0.5.0"
+#define GEVTSOMI_VERSION_MAJOR 0
+#define GEVTSOMI_VERSION_MINOR 5
+#define GEVTSOMI_VERSION_PATCH 0
+
 /* What a call returns when it is not refused. */
 #define GEVTSOMI_DONE 0
 /* Not a setup, or one out of range. */
@@ -100,7 +107,7 @@ enum gevtsomi_field {
     GEVTSOMI_NUMBER,
     GEVTSOMI_VOLUME_EXPIRY,
     GEVTSOMI_EPOCH,
-    GEVTSOMI_VERSION,
+    GEVTSOMI_OBJECT_VERSION,
     GEVTSOMI_OBJECT_EXPIRY,
     GEVTSOMI_VALUE,
     GEVTSOMI_FIELDS

@@ -24,7 +24,7 @@ int main(void)
         return 1;
     }
     printf("client %" PRIu64 " object %" PRIu64 " version %" PRIu64 " value %" PRIu64 "\n",
-           fields[GEVTSOMI_CLIENT], fields[GEVTSOMI_ITEM], fields[GEVTSOMI_VERSION],
+           fields[GEVTSOMI_CLIENT], fields[GEVTSOMI_ITEM], fields[GEVTSOMI_OBJECT_VERSION],
            fields[GEVTSOMI_VALUE]);
     return 0;
 }

@@ -8,11 +8,22 @@ use gevtsomi::{
 const HEADER: &str = include_str!("../gevtsomi.h");
 const FILE: &[u8] = include_bytes!("data/document.run");
 
-/// Returns the number that the header defines for a name.
-fn defined(name: &str) -> usize {
+/// Returns what the header defines a name as.
+fn text(name: &str) -> &str {
     let mut definitions = HEADER.lines().filter_map(|line| line.strip_prefix("#define ")?.split_once(' '));
-    let (_, number) = definitions.find(|(defined, _)| *defined == name).expect(name);
-    number.parse().expect(name)
+    definitions.find(|(defined, _)| *defined == name).expect(name).1
+}
+
+fn defined(name: &str) -> usize {
+    text(name).parse().expect(name)
+}
+
+#[test]
+fn its_version_is_the_packages() {
+    assert_eq!(text("GEVTSOMI_VERSION"), concat!('"', env!("CARGO_PKG_VERSION"), '"'));
+    assert_eq!(text("GEVTSOMI_VERSION_MAJOR"), env!("CARGO_PKG_VERSION_MAJOR"));
+    assert_eq!(text("GEVTSOMI_VERSION_MINOR"), env!("CARGO_PKG_VERSION_MINOR"));
+    assert_eq!(text("GEVTSOMI_VERSION_PATCH"), env!("CARGO_PKG_VERSION_PATCH"));
 }
 
 #[test]
