@@ -72,7 +72,7 @@ fn no_example_is_left_over() {
     let names: Vec<&str> = all().iter().map(|example| example.name).collect();
     for entry in fs::read_dir(example_path("")).unwrap() {
         let name = entry.unwrap().file_name().into_string().unwrap();
-        let (stem, ending) = name.split_once('.').unwrap();
+        let (stem, ending) = name.split_once('.').unwrap_or((&name, ""));
         assert!(!["runtext", "svg"].contains(&ending) || names.contains(&stem), "{name}");
     }
 }
