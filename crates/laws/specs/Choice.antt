@@ -49,6 +49,10 @@ pub and-yes : (b : Bool) → (b && true) ≡ b
 and-yes true = refl
 and-yes false = refl
 
+pub and-no : (b : Bool) → (b && false) ≡ false
+and-no true = refl
+and-no false = refl
+
 pub or-yes : (b : Bool) → true ≡ (b || true)
 or-yes true = refl
 or-yes false = refl

@@ -6,6 +6,8 @@ pub mod Updated
 pub mod Lists
 pub mod Each
 pub mod Count
+pub mod Sets
+pub mod First
 pub mod Skip
 pub mod Parts
 pub mod Flags
