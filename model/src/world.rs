@@ -36,26 +36,18 @@ impl World<'_> {
         self.tables.server.write[object].waiting & self.setup.all_clients()
     }
 
-    /// Opens a write.
+    /// Opens a write. Whom it waits for is stored as a whole, so that members
+    /// past the client count go.
     #[inline]
     pub fn open_write(&mut self, object: usize, write: Write) {
         self.tables.server.standing |= 1 << object;
-        self.store_write(object, write);
+        self.tables.server.write[object] = write;
     }
 
     /// Ends the standing write.
     #[inline]
     pub fn end_write(&mut self, object: usize) {
         self.tables.server.standing &= !(1 << object);
-        self.store_write(object, Write::NONE);
-    }
-
-    /// Stores a write. Members of the set past the client count are free slots
-    /// and stay.
-    #[inline]
-    fn store_write(&mut self, object: usize, write: Write) {
-        let slot = &mut self.tables.server.write[object];
-        let past_count = slot.waiting & !self.setup.all_clients();
-        *slot = Write { waiting: write.waiting | past_count, ..write };
+        self.tables.server.write[object] = Write::NONE;
     }
 }

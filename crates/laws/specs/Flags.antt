@@ -5,7 +5,7 @@ use mathlib.Core.List.{List, [], _∷_, map}
 use mathlib.Core.Logic.{_⊎_, inl, inr}
 use mathlib.Core.Path.{_≡_, refl, sym, ap, _∙_}
 use lib.Dec.{eqb}
-use lib.ListN.{length, length-map, getD, set, replicate, List·getD-map}
+use lib.ListN.{getD, set, replicate, List·getD-map}
 use borrow.Author.Tests.{eq-eqb, ne-eqb}
 use Rattle.laws.specs.Choice.{true-or-false}
 use Rattle.laws.specs.Loop.{foldFrom}
@@ -29,10 +29,6 @@ flags l = map flag l
 flags-at : (l : List ℕ) (i : ℕ) → getD (flags l) i false ≡ flag (getD l i 0)
 unfolding flags
 flags-at l i = List·getD-map flag l i 0
-
-pub flags-length : (l : List ℕ) → length (flags l) ≡ length l
-unfolding flags
-flags-length l = length-map l flag
 
 pub flags-set : (l : List ℕ) (i x : ℕ) → flags (set l i x) ≡ set (flags l) i (flag x)
 unfolding flags

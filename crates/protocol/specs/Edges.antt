@@ -1,13 +1,14 @@
 -- 01, "Edges": the starred ones, one table of equations computed by one theorem, on tables of full size.
 -- Letters: t tables, x a step, k its kind, i its place, c its clock, y its value.
 use Prim.Native.Nat.{ℕ}
-use mathlib.Core.Bool.{Bool, true, false}
+use mathlib.Core.Bool.{Bool, true, false, cond}
 use mathlib.Core.Path.{_≡_, refl}
 use lib.ListN.{set, replicate}
 use Rattle.laws.specs.Loop.{foldFrom, anyFrom, allFrom, firstFrom}
 use Rattle.laws.specs.Lists.{removeAt}
 use Rattle.laws.specs.Store.{storeEach}
 use Rattle.laws.specs.Greatest.{greatest}
+use Rattle.laws.specs.Sets.{bitAt, setOf}
 use Rattle.protocol.specs.declared.message.Kind.the-variants.{Offer}
 use Rattle.protocol.specs.declared.message.Queue.{Queue}
 use Rattle.protocol.specs.declared.setup.Setup.{Setup}
@@ -53,7 +54,7 @@ standing-until : ℕ → ℕ → Bool → Tables
 standing-until end guard waiting =
     withHolders
     (withVolumes (withObjects freshTables (setWrite freshObjects 0 true 7 end)) (withGuard (withVolumeExpiry freshVolumes (replicate 8 guard)) (replicate 8 guard)))
-    (setWaiting freshHolders 0 0 waiting)
+    (setWaiting freshHolders 0 (cond waiting 1 0))
 
 -- the list full of OFFERs, the last with another number
 full-list : Queue
@@ -103,5 +104,5 @@ Table =
     × (answer (standing-until 20 20 false) (clock 20) ≡ (3, 1)) × (stands-after (standing-until 20 20 false) (clock 20) ≡ false)
 
 pub edges : Table
-unfolding Table tiny step clock write lose double with-tables standing-until full-list full at-clock-5 answer after stands-after value-after foldFrom anyFrom allFrom firstFrom removeAt storeEach greatest inRange pushed removed freshTables serverAlive clientAlive clientClock guardPassed endOver waits latestEnd opened awaited notified waited ready due deserted posted released completed settled written swept sweptAll queueSound tablesSound copiesSound requestsSound sound known exists timely vacant growable refusalOfStep refusal performed decided target decision stepped
+unfolding Table tiny step clock write lose double with-tables standing-until full-list full at-clock-5 answer after stands-after value-after foldFrom anyFrom allFrom firstFrom removeAt storeEach greatest bitAt setOf inRange pushed removed freshTables serverAlive clientAlive clientClock guardPassed endOver waits latestEnd opened awaited notified waited ready due deserted posted released completed settled written swept sweptAll queueSound tablesSound copiesSound requestsSound sound known exists timely vacant growable refusalOfStep refusal performed decided target decision stepped
 edges = (refl, refl, refl, refl, refl, refl, refl, refl, refl, refl, refl, refl, refl, refl, refl, refl, refl, refl, refl, refl, refl, refl, refl)

@@ -4,6 +4,7 @@ use Prim.Native.Nat.{ℕ, _+_}
 use mathlib.Core.Bool.{Bool, false, cond, not, _&&_, _||_}
 use lib.Dec.{ltb, leb, eqb}
 use Rattle.laws.specs.Loop.{firstFrom}
+use Rattle.laws.specs.Sets.{removed}
 use Rattle.laws.specs.Store.{storeEach, always}
 use Rattle.protocol.specs.declared.message.Message.{Message}
 use Rattle.protocol.specs.declared.message.Payload.{Payload}
@@ -16,7 +17,7 @@ use Rattle.protocol.specs.declared.tables.Holders.{Holders}
 use Rattle.protocol.specs.declared.tables.Tables.{Tables}
 use Rattle.protocol.specs.Setup.{volumeOf}
 use Rattle.protocol.specs.Messages.{message, pushed}
-use Rattle.protocol.specs.Tables.{byObject, epochAt, seenAt, unreachableAt, offerAt, valueAt, versionAt, standingAt, waitingAt, withVolumes, withSessions, withObjects, withHolders, withQueue, freshSessions, freshObjects, freshHolders}
+use Rattle.protocol.specs.Tables.{byObject, epochAt, seenAt, unreachableAt, offerAt, valueAt, versionAt, standingAt, awaitedAt, waitingAt, withVolumes, withSessions, withObjects, withHolders, withQueue, freshSessions, freshObjects, freshHolders}
 use Rattle.protocol.specs.Updates.{withEpoch, withGuard, setVolumeExpiry, setSeen, setSessionExpiry, withUnreachable, setUnreachable, setOffer, withValue, withVersion, setObjectExpiry, withLease, withWaiting, setLease, setWaiting}
 use Rattle.protocol.specs.Writes.{Staged, unstaged, invalidation, ready, marked}
 
@@ -102,7 +103,7 @@ ackTaken s t o e w = standingAt t o && (eqb e (epochAt t (volumeOf s o)) && eqb 
 
 -- "Clear that dash's object lease and its waiting"
 unfoldable pub acked : Tables → ℕ → ℕ → Tables
-acked t d o = withHolders t (setWaiting (setLease (t .holders) d o 0) d o false)
+acked t d o = withHolders t (setWaiting (setLease (t .holders) d o 0) o (removed (awaitedAt t o) d))
 
 -- "complete if none waits and the clock is at or past guard"
 unfoldable pub ackStaged : Setup → Tables → ℕ → ℕ → ℕ → ℕ → Staged
@@ -122,7 +123,7 @@ unfoldable pub disowned : Setup → Tables → ℕ → ℕ → Holders
 disowned s t d v =
     withWaiting
     (withLease (t .holders) (storeEach (ofVolume s v) (byObject d) (λ (o : ℕ). 0) (t .holders .lease) (s .objects)))
-    (storeEach (ofVolume s v) (byObject d) (λ (o : ℕ). false) (t .holders .waiting) (s .objects))
+    (storeEach (ofVolume s v) (λ (o : ℕ). o) (λ (o : ℕ). removed (awaitedAt t o) d) (t .holders .waiting) (s .objects))
 
 -- "Clear the dash's leases in the volume, mark, offer and waiting there"
 unfoldable pub dropped : Setup → Tables → ℕ → ℕ → Tables

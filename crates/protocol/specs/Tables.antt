@@ -2,6 +2,7 @@
 use Prim.Native.Nat.{ℕ, _+_, _*_}
 use mathlib.Core.Bool.{Bool, false}
 use lib.ListN.{getD, replicate}
+use Rattle.laws.specs.Sets.{bitAt}
 use Rattle.protocol.specs.declared.message.Queue.{Queue}
 use Rattle.protocol.specs.declared.records.Copy.{Copy}
 use Rattle.protocol.specs.declared.records.Request.{Request}
@@ -66,8 +67,12 @@ endAt t o = getD (t .objects .end) o 0
 abbrev pub leaseAt : Tables → ℕ → ℕ → ℕ
 leaseAt t d o = getD (t .holders .lease) (byObject d o) 0
 
+-- the clients that the standing write of o waits for, and whether d is one
+abbrev pub awaitedAt : Tables → ℕ → ℕ
+awaitedAt t o = getD (t .holders .waiting) o 0
+
 abbrev pub waitingAt : Tables → ℕ → ℕ → Bool
-waitingAt t d o = getD (t .holders .waiting) (byObject d o) false
+waitingAt t d o = bitAt (awaitedAt t o) d
 
 -- Client, per volume
 abbrev pub viewEpochAt : Tables → ℕ → ℕ → ℕ
@@ -126,7 +131,7 @@ freshObjects = record {
 }
 
 abbrev pub freshHolders : Holders
-freshHolders = record { lease = replicate 512 0; waiting = replicate 512 false }
+freshHolders = record { lease = replicate 512 0; waiting = replicate 32 0 }
 
 abbrev pub freshViews : Views
 freshViews = record { epoch = replicate 128 0; expiry = replicate 128 0 }

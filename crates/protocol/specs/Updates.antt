@@ -86,14 +86,14 @@ setWrite x o stands a end = withEnd (withPending (withStanding x (set (x .standi
 abbrev pub withLease : Holders → List ℕ → Holders
 withLease x l = record { lease = l; waiting = x .waiting }
 
-abbrev pub withWaiting : Holders → List Bool → Holders
+abbrev pub withWaiting : Holders → List ℕ → Holders
 withWaiting x l = record { lease = x .lease; waiting = l }
 
 abbrev pub setLease : Holders → ℕ → ℕ → ℕ → Holders
 setLease x d o a = withLease x (set (x .lease) (byObject d o) a)
 
-abbrev pub setWaiting : Holders → ℕ → ℕ → Bool → Holders
-setWaiting x d o a = withWaiting x (set (x .waiting) (byObject d o) a)
+abbrev pub setWaiting : Holders → ℕ → ℕ → Holders
+setWaiting x o a = withWaiting x (set (x .waiting) o a)
 
 -- ---- Client, per volume
 abbrev pub withViewEpoch : Views → List ℕ → Views

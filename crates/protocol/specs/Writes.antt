@@ -6,6 +6,7 @@ use mathlib.Core.Bool.{Bool, true, false, cond, not, _&&_, _||_}
 use mathlib.Core.List.{List, [], _∷_}
 use lib.ListN.{set}
 use Rattle.laws.specs.Loop.{foldFrom, anyFrom}
+use Rattle.laws.specs.Sets.{setOf}
 use Rattle.laws.specs.Store.{storeEach, always}
 use Rattle.laws.specs.Greatest.{greatest}
 use Rattle.protocol.specs.declared.message.Message.{Message}
@@ -19,7 +20,7 @@ use Rattle.protocol.specs.declared.tables.Tables.{Tables}
 use Rattle.protocol.specs.Setup.{volumeOf}
 use Rattle.protocol.specs.Messages.{message, pushed}
 use Rattle.protocol.specs.Tables.{byVolume, byObject, epochAt, guardAt, sessionExpiryAt, unreachableAt, versionAt, standingAt, pendingAt, endAt, leaseAt, waitingAt, withClock, withSessions, withObjects, withHolders, withQueue}
-use Rattle.protocol.specs.Updates.{withUnreachable, setValue, setVersion, setWrite, withLease, withWaiting}
+use Rattle.protocol.specs.Updates.{withUnreachable, setValue, setVersion, setWrite, withLease, setWaiting}
 use Rattle.protocol.specs.Leases.{serverAlive, guardPassed, endOver}
 
 -- Step 4: "Waiting are the dashes whose object lease is alive and which either are not marked unreachable or have a live volume lease."
@@ -41,7 +42,7 @@ unfoldable pub opened : Setup → Tables → ℕ → ℕ → Objects
 opened s t o x = setWrite (t .objects) o true x (latestEnd s t o)
 
 unfoldable pub awaited : Setup → Tables → ℕ → Holders
-awaited s t o = withWaiting (t .holders) (storeEach always (λ (d : ℕ). byObject d o) (waits s t o) (t .holders .waiting) (s .clients))
+awaited s t o = setWaiting (t .holders) o (setOf (waits s t o) (s .clients))
 
 abbrev pub begun : Setup → Tables → ℕ → ℕ → Tables
 begun s t o x = withHolders (withObjects t (opened s t o x)) (awaited s t o)
@@ -87,9 +88,7 @@ posted t o = setVersion (setValue (setWrite (t .objects) o false 0 0) o (pending
 -- "clears every dash's server lease on that object"; nobody is waited for any more
 unfoldable pub released : Setup → Tables → ℕ → Holders
 released s t o =
-    withWaiting
-    (withLease (t .holders) (storeEach always (λ (d : ℕ). byObject d o) (λ (d : ℕ). 0) (t .holders .lease) (s .clients)))
-    (storeEach always (λ (d : ℕ). byObject d o) (λ (d : ℕ). false) (t .holders .waiting) (s .clients))
+    setWaiting (withLease (t .holders) (storeEach always (λ (d : ℕ). byObject d o) (λ (d : ℕ). 0) (t .holders .lease) (s .clients))) o 0
 
 -- "Completing stores the value, adds 1 to the version, marks still waiting dashes unreachable, clears every dash's server lease on that object and ends the standing write."
 unfoldable pub completed : Setup → Tables → ℕ → Tables

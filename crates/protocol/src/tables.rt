@@ -31,11 +31,11 @@ pub struct Objects {
     pub end: [u32; 32],
 }
 
-// The server's tables, per client and object at client * 32 + object. Where no write stands, `waiting` is free.
+// The server's tables of who holds what: leases per client and object at client * 32 + object.
 pub struct Holders {
     pub lease: [u32; 512],
-    // whether the object's standing write waits for the client
-    pub waiting: [bool; 512],
+    // per object, the clients that its standing write waits for, bit k for client k; where no write stands, free
+    pub waiting: [u32; 32],
 }
 
 // The clients' own tables, per client and volume at client * 8 + volume.

@@ -7,9 +7,10 @@ use mathlib.Core.Path.{_≡_, refl, sym, ap, _∙_}
 use lib.Dec.{eqb}
 use lib.ListN.{getD, set}
 use Rattle.laws.specs.Choice.{and-true}
-use Rattle.laws.specs.Flags.{flag-yes, flag-no, flags-set}
+use Rattle.laws.specs.Flags.{flag-yes, flag-no}
 use Rattle.laws.specs.Loop.{foldFrom}
-use Rattle.laws.specs.Parts.{parts, part-at, stored}
+use Rattle.laws.specs.Parts.{part-at, stored}
+use Rattle.laws.specs.Sets.{removed}
 use Rattle.protocol.specs.declared.setup.Setup.{Setup}
 use Rattle.protocol.specs.declared.tables.Tables.{Tables}
 use Rattle.protocol.specs.SoundLaws.{Growing}
@@ -55,21 +56,21 @@ module _ (s : Setup) (w x : List ℕ) (d o e z : ℕ) (m : Bool) (k : m ≡ ackT
   unfolding ackStaged settled foldFrom
   ack-no h = (rw (sym taken ∙ h), refl)
 
-  module _ (i : d < 16) (l : o < 32) where
+  -- `rest` is left of the clients that the write waits for, and the lease goes
+  module _ (rest : ℕ) (i : d < 16) (l : o < 32) (q : rest ≡ removed (getD w (at WAITING + o) 0) d) where
     abbrev words-acked : List ℕ
-    words-acked = set (set w (at LEASE + byObject d o) 0) (at WAITING + byObject d o) 0
+    words-acked = set (set w (at WAITING + o) rest) (at LEASE + byObject d o) 0
 
     inside : byObject d o < 512
     inside = omega arith
 
     acks : tablesOf words-acked x ≡ acked (tablesOf w x) d o
     unfolding acked tablesOf
-    acks =
-        rw (stored wordLengths _ WAITING (byObject d o) 0 inside, stored wordLengths _ LEASE (byObject d o) 0 inside, flags-set (parts wordLengths w WAITING) (byObject d o) 0)
+    acks = rw (stored wordLengths _ LEASE (byObject d o) 0 inside, stored wordLengths w WAITING o rest l, q, part-at wordLengths w WAITING o l)
 
     records-acked : recordsOf words-acked x ≡ recordsOf w x
     unfolding recordsOf
-    records-acked = rw (stored wordLengths _ WAITING (byObject d o) 0 inside, stored wordLengths _ LEASE (byObject d o) 0 inside)
+    records-acked = rw (stored wordLengths _ LEASE (byObject d o) 0 inside, stored wordLengths w WAITING o rest l)
 
     pub ack-keeps : versionAt (tablesOf words-acked x) o ≡ versionAt (tablesOf w x) o
     unfolding acked

@@ -48,8 +48,8 @@ pub fn receive_ack(
     ensures { λ _. ⌜ recordsOf (now (words .exit)) (now (values .exit)) ≡ recordsOf (now (words .entry)) (now (values .entry)) ⌝ }
 {
     if ack_taken(setup, &*words, object, epoch, version) {
+        words[server::WAITING + object] = sets::without(words[server::WAITING + object], client);
         words[server::LEASE + (client * OBJECTS + object)] = 0;
-        words[server::WAITING + (client * OBJECTS + object)] = 0;
         return server_complete::completion::settle_one(setup, &mut *words, &mut *values, object);
     }
     0

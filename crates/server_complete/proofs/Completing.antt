@@ -8,6 +8,7 @@ use lib.ListN.{getD, set}
 use Rattle.laws.specs.Flags.{flags-set, flags-each}
 use Rattle.laws.specs.Loop.{foldFrom}
 use Rattle.laws.specs.Parts.{parts, withPart, part-at, stored, stored-each}
+use Rattle.laws.specs.Sets.{bitAt}
 use Rattle.laws.specs.Store.{storeEach, always}
 use Rattle.protocol.specs.declared.setup.Setup.{Setup}
 use Rattle.protocol.specs.Tables.{byVolume, byObject, versionAt, withObjects}
@@ -17,7 +18,6 @@ use Rattle.lease_tests.specs.Parts.{Placed}
 use Rattle.state_words.specs.Fields.{wordLengths, valueLengths, at, atValue, UNREACHABLE, VERSION, STANDING, END, LEASE, WAITING, VALUE, PENDING}
 use Rattle.state_words.specs.View.{tablesOf, numbersOf, recordsOf}
 use Rattle.server_due.specs.Triggers.{oneStaged}
-use Rattle.server_waiting.specs.Waiting.{waitingFor, waitingIn}
 
 -- the test does not depend on the values
 ready-same : (s : Setup) (w : List ℕ) (o : ℕ) (x : List ℕ) → ready s (numbersOf w) o ≡ ready s (tablesOf w x) o
@@ -53,21 +53,20 @@ module _ (w x : List ℕ) (o : ℕ) (h : o < 32) where
   pub posts : (tablesOf words-posted values-posted ≡ withObjects (tablesOf w x) (posted (tablesOf w x) o)) × (recordsOf words-posted values-posted ≡ recordsOf w x)
   posts = (tables-posted, records-posted)
 
--- the three loops turn the words w into a, then b, then c
-module _ (s : Setup) (w a b c x : List ℕ) (o v n : ℕ) (p : Placed s o v) (i : n ≡ s .clients)
-    (e : a ≡ storeEach (waitingFor (waitingIn w) o) (λ (d : ℕ). at UNREACHABLE + byVolume d v) (λ (d : ℕ). 1) w n)
-    (f : b ≡ storeEach always (λ (d : ℕ). at LEASE + byObject d o) (λ (d : ℕ). 0) a n)
-    (g : c ≡ storeEach always (λ (d : ℕ). at WAITING + byObject d o) (λ (d : ℕ). 0) b n) where
+-- m is the set of the clients that are waited for; the two loops turn the words w into a, then b, and c has nobody waited for
+module _ (s : Setup) (w a b x : List ℕ) (o v n m : ℕ) (p : Placed s o v) (i : n ≡ s .clients) (q : m ≡ getD w (at WAITING + o) 0)
+    (e : a ≡ storeEach (bitAt m) (λ (d : ℕ). at UNREACHABLE + byVolume d v) (λ (d : ℕ). 1) w n)
+    (f : b ≡ storeEach always (λ (d : ℕ). at LEASE + byObject d o) (λ (d : ℕ). 0) a n) where
+  abbrev c : List ℕ
+  c = set b (at WAITING + o) 0
+
   abbrev marks : List ℕ
-  marks = storeEach (waitingFor (waitingIn w) o) (λ (d : ℕ). byVolume d v) (λ (d : ℕ). 1) (parts wordLengths w UNREACHABLE) n
+  marks = storeEach (bitAt m) (λ (d : ℕ). byVolume d v) (λ (d : ℕ). 1) (parts wordLengths w UNREACHABLE) n
 
   abbrev leases : List ℕ
   leases = storeEach always (λ (d : ℕ). byObject d o) (λ (d : ℕ). 0) (parts wordLengths w LEASE) n
 
-  abbrev waiting : List ℕ
-  waiting = storeEach always (λ (d : ℕ). byObject d o) (λ (d : ℕ). 0) (parts wordLengths w WAITING) n
-
-  fields-released : parts wordLengths c ≡ withPart (withPart (withPart (parts wordLengths w) UNREACHABLE marks) LEASE leases) WAITING waiting
+  fields-released : parts wordLengths c ≡ withPart (withPart (withPart (parts wordLengths w) UNREACHABLE marks) LEASE leases) WAITING (set (parts wordLengths w WAITING) o 0)
   fields-released =
       let h = p .clients in
       let vs = p .volume in
@@ -75,13 +74,15 @@ module _ (s : Setup) (w a b c x : List ℕ) (o v n : ℕ) (p : Placed s o v) (i 
       let j : (d : ℕ) → d < n → byVolume d v < 128 = (λ d k. omega arith) in
       let k : (d : ℕ) → d < n → byObject d o < 512 = (λ d k. omega arith) in
       rw (
-        g,
-        stored-each wordLengths WAITING always (λ (d : ℕ). byObject d o) (λ (d : ℕ). 0) n k b,
+        stored wordLengths b WAITING o 0 os,
         f,
         stored-each wordLengths LEASE always (λ (d : ℕ). byObject d o) (λ (d : ℕ). 0) n k a,
         e,
-        stored-each wordLengths UNREACHABLE (waitingFor (waitingIn w) o) (λ (d : ℕ). byVolume d v) (λ (d : ℕ). 1) n j w,
+        stored-each wordLengths UNREACHABLE (bitAt m) (λ (d : ℕ). byVolume d v) (λ (d : ℕ). 1) n j w,
       )
+
+  awaited : m ≡ getD (parts wordLengths w WAITING) o 0
+  awaited = q ∙ part-at wordLengths w WAITING o (p .object)
 
   -- the loops do not change the version
   pub released-version : versionAt (tablesOf c x) o ≡ versionAt (tablesOf w x) o
@@ -96,14 +97,7 @@ module _ (s : Setup) (w a b c x : List ℕ) (o v n : ℕ) (p : Placed s o v) (i 
     tables-completed : tablesOf w′ x′ ≡ withObjects (tablesOf c x) (posted (tablesOf c x) o) → tablesOf w′ x′ ≡ completed s (tablesOf w x) o
     unfolding completed posted released deserted tablesOf storeEach
     tables-completed h =
-        h ∙ rw (
-          fields-released,
-          flags-each (waitingFor (waitingIn w) o)
-              (λ (d : ℕ). byVolume d v) (λ (d : ℕ). 1) (parts wordLengths w UNREACHABLE) n,
-          flags-each always (λ (d : ℕ). byObject d o) (λ (d : ℕ). 0) (parts wordLengths w WAITING) n,
-          i,
-          p .is,
-        )
+        h ∙ rw (fields-released, flags-each (bitAt m) (λ (d : ℕ). byVolume d v) (λ (d : ℕ). 1) (parts wordLengths w UNREACHABLE) n, awaited, i, p .is)
 
     pub completes : (tablesOf w′ x′ ≡ withObjects (tablesOf c x) (posted (tablesOf c x) o)) × (recordsOf w′ x′ ≡ recordsOf c x)
         → (tablesOf w′ x′ ≡ completed s (tablesOf w x) o) × (recordsOf w′ x′ ≡ recordsOf w x)

@@ -40,9 +40,10 @@ pub fn complete(setup: Setup, words: &mut Words, values: &mut Values, object: us
 {
     let volume = place::volume_of(setup, object);
     let n = setup.clients as usize;
-    clients::mark_waiting(&mut *words, volume, object, n);
-    clients::clear_object(&mut *words, server::LEASE, object, n);
-    clients::clear_object(&mut *words, server::WAITING, object, n);
+    let waiting = words[server::WAITING + object];
+    clients::mark_waiting(&mut *words, waiting, volume, n);
+    clients::clear_leases(&mut *words, object, n);
+    words[server::WAITING + object] = 0;
     post(&mut *words, &mut *values, object);
 }
 

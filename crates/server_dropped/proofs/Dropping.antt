@@ -1,15 +1,19 @@
 -- The result of receiving a DROPPED.
-use Prim.Native.Nat.{ℕ, _+_, _<_, _≤_}
+use Prim.Native.Nat.{ℕ, _+_, _-_, _<_, _≤_}
 use native.Mathlib.Omega.{arith}
-use mathlib.Core.Bool.{Bool, true, false, not, _&&_}
+use mathlib.Core.Bool.{Bool, true, false, cond, not, _&&_}
 use mathlib.Core.List.{List}
 use mathlib.Core.Path.{_≡_, refl, sym, _∙_}
 use lib.Dec.{eqb}
 use lib.ListN.{getD, set}
-use Rattle.laws.specs.Flags.{flags-set, flags-each}
-use Rattle.laws.specs.Loop.{foldFrom}
+use lib.Seq.{getD-set-other}
+use Rattle.laws.specs.Choice.{cond-keeps}
+use Rattle.laws.specs.Flags.{flags-set}
+use Rattle.laws.specs.Loop.{foldFrom, fold-again}
 use Rattle.laws.specs.Parts.{parts, part-at, stored, stored-each}
-use Rattle.laws.specs.Store.{storeEach}
+use Rattle.laws.specs.Sets.{removed}
+use Rattle.laws.specs.Shift.{Above}
+use Rattle.laws.specs.Store.{storeAt, storeEach}
 use Rattle.protocol.specs.declared.setup.Setup.{Setup}
 use Rattle.protocol.specs.SoundLaws.{Growing}
 use Rattle.protocol.specs.Tables.{byVolume, byObject}
@@ -19,6 +23,7 @@ use Rattle.state_words.specs.Fields.{wordLengths, at, VOLUME-EPOCH, SESSION-EXP
 use Rattle.state_words.specs.View.{tablesOf, numbersOf, recordsOf}
 use Rattle.server_due.specs.declared.Trigger.the-variants.{Volume}
 use Rattle.server_due.specs.Triggers.{triggered, triggerStaged}
+use Rattle.server_waiting.specs.Waiting.{awaitedIn}
 
 pub drop-takes : (w : List ℕ) (d v n e : ℕ) → d < 16 → v < 8
     → (eqb e (getD w (at VOLUME-EPOCH + v) 0) && (not (eqb n 0) && eqb n (getD w (at OFFER + byVolume d v) 0))) ≡ dropTaken (numbersOf w) d v n e
@@ -30,32 +35,51 @@ drop-same : (w x : List ℕ) (d v n e : ℕ) → dropTaken (numbersOf w) d v n e
 unfolding dropTaken tablesOf
 drop-same w x d v n e = refl
 
+-- one iteration of the loop over the objects' sets: those from o on are as they were
+module _ (w₀ w u : List ℕ) (b : Bool) (o m : ℕ) (a : Above w₀ w (at WAITING + o)) (e : u ≡ cond b (set w (at WAITING + o) m) w) where
+  pub stop-keeps : Above w₀ u (at WAITING + (o + 1))
+  stop-keeps =
+      rw e
+      (cond-keeps (λ (x : List ℕ). Above w₀ x (at WAITING + (o + 1))) b
+      (λ _. record { same = λ q k. getD-set-other w (at WAITING + o) q m 0 (λ z. omega arith) ∙ a .same q (omega arith) })
+      (λ _. record { same = λ q k. a .same q (omega arith) }))
+
+  pub stop-again : (s : Setup) (d v : ℕ) (A : List ℕ) → o < 32 → o < s .objects → b ≡ ofVolume s v o → m ≡ removed (getD w (at WAITING + o) 0) d
+      → foldFrom (storeAt (ofVolume s v) (λ (o : ℕ). at WAITING + o) (λ (o : ℕ). removed (awaitedIn w₀ o) d)) w o (s .objects - o) ≡ A
+      → foldFrom (storeAt (ofVolume s v) (λ (o : ℕ). at WAITING + o) (λ (o : ℕ). removed (awaitedIn w₀ o) d)) u (o + 1) (s .objects - (o + 1)) ≡ A
+  stop-again s d v A l h g q i =
+      let same = a .same (at WAITING + o) (omega arith) ∙ part-at wordLengths w₀ WAITING o l in
+      fold-again (storeAt (ofVolume s v) (λ (o : ℕ). at WAITING + o) (λ (o : ℕ). removed (awaitedIn w₀ o) d)) (s .objects) o w u A h (e ∙ rw (g, q, same)) i
+
 -- after the stores to w in `unleased`, the two loops give a, then b
 module _ (s : Setup) (w x a b : List ℕ) (d v : ℕ) (i : d < 16) (l : v < 8) (k : s .objects ≤ 32) where
   abbrev unleased : List ℕ
   unleased = set (set (set w (at SESSION-EXPIRY + byVolume d v) 0) (at UNREACHABLE + byVolume d v) 0) (at OFFER + byVolume d v) 0
 
   module _ (e : a ≡ storeEach (ofVolume s v) (λ (o : ℕ). at LEASE + byObject d o) (λ (o : ℕ). 0) unleased (s .objects))
-      (f : b ≡ storeEach (ofVolume s v) (λ (o : ℕ). at WAITING + byObject d o) (λ (o : ℕ). 0) a (s .objects)) where
+      (f : b ≡ storeEach (ofVolume s v) (λ (o : ℕ). at WAITING + o) (λ (o : ℕ). removed (awaitedIn a o) d) a (s .objects)) where
     session-place : byVolume d v < 128
     session-place = omega arith
 
     lease-place : (o : ℕ) → o < s .objects → byObject d o < 512
     lease-place o h = omega arith
 
+    waiting-place : (o : ℕ) → o < s .objects → o < 32
+    waiting-place o h = omega arith
+
     tables-dropped : tablesOf b x ≡ dropped s (tablesOf w x) d v
     unfolding dropped disowned tablesOf
     tables-dropped =
         rw (
           f,
-          stored-each wordLengths WAITING (ofVolume s v) (byObject d) (λ (o : ℕ). 0) (s .objects) lease-place a,
+          stored-each wordLengths
+              WAITING (ofVolume s v) (λ (o : ℕ). o) (λ (o : ℕ). removed (awaitedIn a o) d) (s .objects) waiting-place a,
           e,
           stored-each wordLengths LEASE (ofVolume s v) (byObject d) (λ (o : ℕ). 0) (s .objects) lease-place unleased,
           stored wordLengths _ OFFER (byVolume d v) 0 session-place,
           stored wordLengths _ UNREACHABLE (byVolume d v) 0 session-place,
           stored wordLengths _ SESSION-EXPIRY (byVolume d v) 0 session-place,
           flags-set (parts wordLengths w UNREACHABLE) (byVolume d v) 0,
-          flags-each (ofVolume s v) (byObject d) (λ (o : ℕ). 0) (parts wordLengths w WAITING) (s .objects),
         )
 
     records-dropped : recordsOf b x ≡ recordsOf w x
@@ -63,7 +87,8 @@ module _ (s : Setup) (w x a b : List ℕ) (d v : ℕ) (i : d < 16) (l : v < 8) (
     records-dropped =
         rw (
           f,
-          stored-each wordLengths WAITING (ofVolume s v) (byObject d) (λ (o : ℕ). 0) (s .objects) lease-place a,
+          stored-each wordLengths
+              WAITING (ofVolume s v) (λ (o : ℕ). o) (λ (o : ℕ). removed (awaitedIn a o) d) (s .objects) waiting-place a,
           e,
           stored-each wordLengths LEASE (ofVolume s v) (byObject d) (λ (o : ℕ). 0) (s .objects) lease-place unleased,
           stored wordLengths _ OFFER (byVolume d v) 0 session-place,

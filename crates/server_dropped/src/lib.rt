@@ -1,15 +1,17 @@
 // DROPPED received at the server (01, "Messages received").
 ghost use mathlib.Core.Path.{_≡_};
 ghost use mathlib.Core.Bool.{true};
-ghost use Prim.Native.Nat.{ℕ, _+_, _≤_, _<_};
+ghost use Prim.Native.Nat.{ℕ, _+_, _<_};
+ghost use Rattle.laws.specs.Sets.{removed};
 ghost use Rattle.laws.specs.Store.{storeEach};
 ghost use Rattle.protocol.specs.Setup.{inRange};
 ghost use Rattle.protocol.specs.SoundLaws.{Growing};
 ghost use Rattle.protocol.specs.Tables.{byObject};
 ghost use Rattle.protocol.specs.Writes.{settled};
 ghost use Rattle.protocol.specs.Server.{ofVolume, dropTaken, dropStaged};
-ghost use Rattle.state_words.specs.Fields.{WORDS};
+ghost use Rattle.state_words.specs.Fields.{at, LEASE, WAITING};
 ghost use Rattle.state_words.specs.View.{tablesOf, numbersOf, recordsOf};
+ghost use Rattle.server_waiting.specs.Waiting.{awaitedIn};
 use lease_tests::place;
 use protocol::setup::Setup;
 use server_complete::settle;
@@ -21,13 +23,11 @@ use state_words::Words;
 use state_words::pass;
 use state_words::server;
 
-// Zeroes one field of the client for each object of the volume: "Clear the dash's leases in the volume, .. and waiting there". `field` is where the field
-// starts.
-fn clear_in_volume(setup: Setup, words: &mut Words, field: usize, client: usize, volume: usize)
+// Zeroes the client's lease on each object of the volume: "Clear the dash's leases in the volume".
+fn clear_leases(setup: Setup, words: &mut Words, client: usize, volume: usize)
     requires { ⌜ inRange setup ≡ true ⌝ }
-    requires { ⌜ field + 512 ≤ WORDS ⌝ }
     requires { ⌜ client < setup .clients ⌝ }
-    ensures { λ _. ⌜ now (words .exit) ≡ storeEach (ofVolume setup volume) (λ (o : ℕ). field + byObject client o) (λ (o : ℕ). 0) (now (words .entry)) (setup .objects) ⌝ }
+    ensures { λ _. ⌜ now (words .exit) ≡ storeEach (ofVolume setup volume) (λ (o : ℕ). at LEASE + byObject client o) (λ (o : ℕ). 0) (now (words .entry)) (setup .objects) ⌝ }
 {
     let n = setup.objects as usize;
     let mut object = 0;
@@ -36,9 +36,26 @@ fn clear_in_volume(setup: Setup, words: &mut Words, field: usize, client: usize,
         pass::put_if(
             &mut *words,
             own == volume,
-            field + (client * OBJECTS + object),
+            server::LEASE + (client * OBJECTS + object),
             0,
         );
+        object += 1;
+    }
+}
+
+// Takes the client out of those that the writes in the volume wait for: "Clear .. waiting there".
+fn stop_waiting(setup: Setup, words: &mut Words, client: usize, volume: usize)
+    requires { ⌜ inRange setup ≡ true ⌝ }
+    requires { ⌜ client < setup .clients ⌝ }
+    ensures { λ _. ⌜ now (words .exit) ≡ storeEach (ofVolume setup volume) (λ (o : ℕ). at WAITING + o) (λ (o : ℕ). removed (awaitedIn (now (words .entry)) o) client) (now (words .entry)) (setup .objects) ⌝ }
+{
+    let n = setup.objects as usize;
+    let mut object = 0;
+    while object < n {
+        let own = place::volume_of(setup, object);
+        let i = server::WAITING + object;
+        let waiting = sets::without(words[i], client);
+        pass::put_if(&mut *words, own == volume, i, waiting);
         object += 1;
     }
 }
@@ -75,8 +92,8 @@ pub fn receive_dropped(
         words[server::SESSION_EXPIRY + (client * VOLUMES + volume)] = 0;
         words[server::UNREACHABLE + (client * VOLUMES + volume)] = 0;
         words[server::OFFER + (client * VOLUMES + volume)] = 0;
-        clear_in_volume(setup, &mut *words, server::LEASE, client, volume);
-        clear_in_volume(setup, &mut *words, server::WAITING, client, volume);
+        clear_leases(setup, &mut *words, client, volume);
+        stop_waiting(setup, &mut *words, client, volume);
         return settle::settle(setup, Trigger::Volume(volume), &mut *words, &mut *values);
     }
     0

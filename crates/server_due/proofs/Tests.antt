@@ -10,6 +10,7 @@ use Rattle.laws.specs.Choice.{not-both}
 use Rattle.laws.specs.Flags.{flag, flags, flag-at, flag-yes, flag-no}
 use Rattle.laws.specs.Loop.{anyFrom}
 use Rattle.laws.specs.Parts.{parts, part-at}
+use Rattle.laws.specs.Sets.{bitAt}
 use Rattle.protocol.specs.declared.setup.Setup.{Setup}
 use Rattle.protocol.specs.declared.tables.Tables.{Tables}
 use Rattle.protocol.specs.Setup.{volumeOf}
@@ -22,7 +23,7 @@ use Rattle.state_words.specs.View.{tablesOf, numbersOf}
 use Rattle.server_due.specs.declared.Trigger.{Trigger}
 use Rattle.server_due.specs.declared.Trigger.the-variants.{Clock, Volume}
 use Rattle.server_due.specs.Triggers.{triggered}
-use Rattle.server_waiting.specs.Waiting.{waitingFor, waitingIn}
+use Rattle.server_waiting.specs.Waiting.{awaitedIn}
 
 or-in : (a b x : Bool) → (a && b) ≡ true → true ≡ (a && (b || x))
 or-in true true x e = refl
@@ -35,7 +36,7 @@ or-out true false x e = refl
 or-out false b x e = refl
 
 module _ (s : Setup) (w : List ℕ) (o : ℕ) where
-  pub ready-yes : (v : ℕ) (any late : Bool) → Placed s o v → (getD w (at STANDING + o) 0 ≡ 0 → ⊥) → any ≡ anyFrom (waitingFor (waitingIn w) o) 0 (s .clients)
+  pub ready-yes : (v : ℕ) (any late : Bool) → Placed s o v → (getD w (at STANDING + o) 0 ≡ 0 → ⊥) → any ≡ anyFrom (bitAt (awaitedIn w o)) 0 (s .clients)
       → late ≡ not (serverAlive (getD w 0 0) (getD w (at GUARD + v) 0)) → (not any && late) ≡ ready s (numbersOf w) o
   unfolding ready waited guardPassed tablesOf
   ready-yes v any late p h a b =

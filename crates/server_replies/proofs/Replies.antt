@@ -1,7 +1,7 @@
 -- The replies to a RENEW, and the test whether the write of an object waits for the client.
 use Prim.Native.Nat.{ℕ, _+_, _<_}
 use native.Mathlib.Omega.{arith}
-use mathlib.Core.Bool.{_&&_}
+use mathlib.Core.Bool.{Bool, _&&_}
 use mathlib.Core.List.{List}
 use mathlib.Core.Path.{_≡_, sym, _∙_}
 use lib.Dec.{eqb}
@@ -9,12 +9,13 @@ use lib.ListN.{getD}
 use borrow.Author.Tests.{eq-eqb, ne-eqb}
 use Rattle.laws.specs.Flags.{flag, flag-at}
 use Rattle.laws.specs.Parts.{part-at}
+use Rattle.laws.specs.Sets.{bitAt}
 use Rattle.protocol.specs.declared.message.Payload.{Payload}
 use Rattle.protocol.specs.declared.message.Kind.the-variants.{Grant, Invalidate, Offer}
 use Rattle.protocol.specs.declared.message.Payload.the-variants.{Same, Value}
 use Rattle.protocol.specs.declared.setup.Setup.{Setup}
 use Rattle.protocol.specs.Messages.{message}
-use Rattle.protocol.specs.Tables.{byObject, versionAt}
+use Rattle.protocol.specs.Tables.{versionAt}
 use Rattle.protocol.specs.Writes.{invalidation}
 use Rattle.protocol.specs.Server.{offering, waitedIn, payloadFor, granting}
 use Rattle.lease_tests.specs.Parts.{Placed}
@@ -22,12 +23,10 @@ use Rattle.state_words.specs.Fields.{wordLengths, valueLengths, at, atValue, CL
 use Rattle.state_words.specs.View.{tablesOf, numbersOf}
 
 module _ (w : List ℕ) where
-  pub waits-in : (s : Setup) (d v o u : ℕ) → Placed s o u → d < 16
-      → (eqb u v && (flag (getD w (at STANDING + o) 0) && flag (getD w (at WAITING + byObject d o) 0))) ≡ waitedIn s (numbersOf w) d v o
+  pub waits-in : (s : Setup) (d v o u : ℕ) (r : Bool) → Placed s o u → r ≡ bitAt (getD w (at WAITING + o) 0) d
+      → (eqb u v && (flag (getD w (at STANDING + o) 0) && r)) ≡ waitedIn s (numbersOf w) d v o
   unfolding tablesOf
-  waits-in s d v o u p h =
-      let l = p .object in
-      rw (flag-at wordLengths w STANDING o (p .object), flag-at wordLengths w WAITING (byObject d o) (omega arith), p .is)
+  waits-in s d v o u r p h = rw (flag-at wordLengths w STANDING o (p .object), h, part-at wordLengths w WAITING o (p .object), p .is)
 
 module _ (w x : List ℕ) where
   pub pays-same : (o held : ℕ) → o < 32 → getD w (at VERSION + o) 0 ≡ held → Same ≡ payloadFor (tablesOf w x) o held

@@ -7,7 +7,6 @@ ghost use Rattle.protocol.specs.Server.{waitedIn, lowestWaited};
 ghost use Rattle.state_words.specs.View.{numbersOf};
 use lease_tests::place;
 use protocol::setup::Setup;
-use state_words::OBJECTS;
 use state_words::Words;
 use state_words::server;
 
@@ -19,8 +18,8 @@ fn waited_in(setup: Setup, words: &Words, client: usize, volume: usize, object: 
     ensures { λ r. ⌜ r ≡ waitedIn setup (numbersOf (now (words .entry))) client volume object ⌝ }
 {
     let own = place::volume_of(setup, object);
-    let i = client * OBJECTS + object;
-    (own == volume) & ((words[server::STANDING + object] != 0) & (words[server::WAITING + i] != 0))
+    let waited = sets::has(words[server::WAITING + object], client);
+    (own == volume) & ((words[server::STANDING + object] != 0) & waited)
 }
 
 // Returns the first object of the volume whose standing write waits for the client, "its lowest such object", or the number of objects if there is none.

@@ -107,7 +107,7 @@ module _ (w u : List ℕ) (h : length w ≡ WORDS) where
         filled-field wordLengths w leases OBJECT-EXPIRY 0 (omega (arith, h)) refl,
       )
 
-  pub holders-fields : u ≡ holdersCleared w → parts wordLengths u ≡ withPart (withPart (parts wordLengths w) LEASE (replicate 512 0)) WAITING (replicate 512 0)
+  pub holders-fields : u ≡ holdersCleared w → parts wordLengths u ≡ withPart (withPart (parts wordLengths w) LEASE (replicate 512 0)) WAITING (replicate 32 0)
   holders-fields e =
       let a = cleared LEASE 512 w h in
       rw (filled-field wordLengths held u WAITING 0 (omega (arith, a)) e, filled-field wordLengths w held LEASE 0 (omega (arith, h)) refl)
@@ -144,7 +144,6 @@ module _ (s : Setup) (w a b c d u x y : List ℕ) (n : ℕ) (h : length w ≡ WO
             (parts wordLengths w VOLUME-EXPIRY) 8 (part-length wordLengths w GUARD (omega (arith, h)))
             (part-length wordLengths w VOLUME-EXPIRY (omega (arith, h))),
         filled-field valueLengths x y PENDING 0 (omega (arith, l)) f,
-        flags-zero 512,
         flags-zero 128,
         flags-zero 32,
         i,

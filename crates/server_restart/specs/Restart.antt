@@ -17,4 +17,4 @@ abbrev pub objectsCleared : List ℕ → List ℕ
 objectsCleared words = filling (at END) 32 0 (filling (at STANDING) 32 0 (filling (at OBJECT-EXPIRY) 32 0 words))
 
 abbrev pub holdersCleared : List ℕ → List ℕ
-holdersCleared words = filling (at WAITING) 512 0 (filling (at LEASE) 512 0 words)
+holdersCleared words = filling (at WAITING) 32 0 (filling (at LEASE) 512 0 words)

@@ -59,12 +59,12 @@ fn clear_objects(words: &mut Words)
     pass::fill(&mut *words, server::END, 32, 0);
 }
 
-// Zeroes all object leases and waiting marks ("its other fields become fresh").
+// Zeroes all object leases and whom the writes wait for ("its other fields become fresh").
 fn clear_holders(words: &mut Words)
     ensures { λ _. ⌜ now (words .exit) ≡ holdersCleared (now (words .entry)) ⌝ }
 {
     pass::fill(&mut *words, server::LEASE, 512, 0);
-    pass::fill(&mut *words, server::WAITING, 512, 0);
+    pass::fill(&mut *words, server::WAITING, 32, 0);
 }
 
 // Restarts the server, step 8: "values, versions, VE remain; every epoch grows by 1; guard becomes VE; its other fields become fresh. Messages remain."

@@ -9,13 +9,9 @@ use Rattle.protocol.specs.Tables.{byVolume, byObject}
 use Rattle.lease_tests.specs.Parts.{waitsBy}
 use Rattle.state_words.specs.Fields.{wordLengths, CLOCK, SESSION-EXPIRY, UNREACHABLE, LEASE, WAITING}
 
--- whether the write of object o waits for client d
-abbrev pub waitingFor : List Bool → ℕ → ℕ → Bool
-waitingFor waiting o d = getD waiting (byObject d o) false
-
--- the waiting marks in the words
-abbrev pub waitingIn : List ℕ → List Bool
-waitingIn words = flags (parts wordLengths words WAITING)
+-- `awaitedAt`, read from the words: the clients that the write of object o waits for
+abbrev pub awaitedIn : List ℕ → ℕ → ℕ
+awaitedIn words o = getD (parts wordLengths words WAITING) o 0
 
 -- `waits`, read from the words: whether a new write of object o, in volume v, has to wait for client d
 abbrev pub waitsIn : List ℕ → ℕ → ℕ → ℕ → Bool

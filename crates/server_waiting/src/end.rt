@@ -2,7 +2,8 @@
 ghost use mathlib.Core.Path.{_≡_};
 ghost use Prim.Native.Nat.{_≤_, _<_};
 ghost use Rattle.laws.specs.Greatest.{greatest};
-ghost use Rattle.server_waiting.specs.Waiting.{waitingFor, waitingIn, leasedIn};
+ghost use Rattle.laws.specs.Sets.{bitAt};
+ghost use Rattle.server_waiting.specs.Waiting.{leasedIn};
 use lease_tests::time;
 use state_words::OBJECTS;
 use state_words::VOLUMES;
@@ -10,22 +11,27 @@ use state_words::Words;
 use state_words::server;
 
 // Returns the latest end (02, A3): the greatest of `least` and, "over the waiting dashes, the lesser of that dash's volume and object expiry".
-pub fn latest_end(words: &Words, volume: usize, object: usize, least: u32, n: usize) -> u32
+pub fn latest_end(
+    words: &Words,
+    waiting: u32,
+    volume: usize,
+    object: usize,
+    least: u32,
+    n: usize,
+) -> u32
     requires { ⌜ volume < 8 ⌝ }
     requires { ⌜ object < 32 ⌝ }
     requires { ⌜ n ≤ 16 ⌝ }
-    ensures { λ r. ⌜ r ≡ greatest (waitingFor (waitingIn (now (words .entry))) object) (leasedIn (now (words .entry)) volume object) least n ⌝ }
+    ensures { λ r. ⌜ r ≡ greatest (bitAt waiting) (leasedIn (now (words .entry)) volume object) least n ⌝ }
 {
     let mut end = least;
     let mut client = 0;
     while client < n {
-        let i = client * OBJECTS + object;
-        let j = client * VOLUMES + volume;
         end = time::outlast(
             end,
-            words[server::WAITING + i] != 0,
-            words[server::SESSION_EXPIRY + j],
-            words[server::LEASE + i],
+            sets::has(waiting, client),
+            words[server::SESSION_EXPIRY + (client * VOLUMES + volume)],
+            words[server::LEASE + (client * OBJECTS + object)],
         );
         client += 1;
     }

@@ -1,11 +1,12 @@
 -- Sending the INVALIDATEs: which clients get one, and what else stays unchanged.
 use Prim.Native.Nat.{ℕ, _+_, _-_, _<_, _≤_}
-use mathlib.Core.Bool.{Bool, false}
+use mathlib.Core.Bool.{false}
 use mathlib.Core.List.{List}
 use mathlib.Core.Path.{_≡_, refl, sym, ap, _∙_}
 use lib.ListN.{getD}
 use Rattle.laws.specs.Loop.{foldFrom, fold-again, fold-end}
 use Rattle.laws.specs.Parts.{part-at}
+use Rattle.laws.specs.Sets.{bitAt}
 use Rattle.laws.specs.Skip.{Found, fold-skip, first-is}
 use Rattle.protocol.specs.declared.message.Queue.{Queue}
 use Rattle.protocol.specs.declared.message.Kind.the-variants.{Invalidate}
@@ -16,14 +17,9 @@ use Rattle.protocol.specs.Tables.{withQueue}
 use Rattle.protocol.specs.Writes.{notified}
 use Rattle.protocol.specs.Server.{sent}
 use Rattle.lease_tests.specs.Parts.{Placed}
-use Rattle.state_words.specs.Fields.{wordLengths, at, VOLUME-EPOCH, VERSION}
+use Rattle.state_words.specs.Fields.{wordLengths, at, VOLUME-EPOCH, VERSION, WAITING}
 use Rattle.state_words.specs.View.{tablesOf, recordsOf}
-use Rattle.server_waiting.specs.Waiting.{waitingFor, waitingIn}
 use Rattle.server_write.specs.Invalidates.{notifyOne, invalidated}
-
-waiting-same : (w x u v : List ℕ) (q : Queue) → tablesOf u v ≡ withQueue (tablesOf w x) q → waitingIn u ≡ waitingIn w
-unfolding tablesOf
-waiting-same w x u v q e = ap (λ (t : Tables). t .holders .waiting) e
 
 -- the loop's invariant: nothing has changed except the message list
 pub record Sending (w₀ x₀ w x : List ℕ) : Type 0 where
@@ -43,33 +39,27 @@ sending-again w₀ x₀ w x u v q s e = record {
   records = e .1 ∙ s .records;
 }
 
-module _ (w₀ x₀ w x : List ℕ) (o e z N from d : ℕ) (A : Queue) (s : Sending w₀ x₀ w x) (l : from ≤ N) (f : Found (waitingFor (waitingIn w) o) from N d)
-    (i : foldFrom (notifyOne (waitingIn w₀) o e z) (tablesOf w x .queue) from (N - from) ≡ A) where
-  same : waitingIn w ≡ waitingIn w₀
-  same = waiting-same w₀ x₀ w x (tablesOf w x .queue) (s .tables)
-
-  nobody : (q : Queue) (d : ℕ) → waitingFor (waitingIn w) o d ≡ false → notifyOne (waitingIn w) o e z q d ≡ q
+module _ (w₀ x₀ w x : List ℕ) (m o e z N from d : ℕ) (A : Queue) (s : Sending w₀ x₀ w x) (l : from ≤ N) (f : Found (bitAt m) from N d)
+    (i : foldFrom (notifyOne m o e z) (tablesOf w x .queue) from (N - from) ≡ A) where
+  nobody : (q : Queue) (d : ℕ) → bitAt m d ≡ false → notifyOne m o e z q d ≡ q
   nobody q d h = rw h
 
-  passed : foldFrom (notifyOne (waitingIn w) o e z) (tablesOf w x .queue) d (N - d) ≡ A
-  passed =
-      fold-skip (notifyOne (waitingIn w) o e z) (λ q d. waitingFor (waitingIn w) o d) nobody N from d (tablesOf w x .queue) A l (f .is)
-      (ap (λ (b : List Bool). foldFrom (notifyOne b o e z) (tablesOf w x .queue) from (N - from)) same ∙ i)
+  passed : foldFrom (notifyOne m o e z) (tablesOf w x .queue) d (N - d) ≡ A
+  passed = fold-skip (notifyOne m o e z) (λ q d. bitAt m d) nobody N from d (tablesOf w x .queue) A l (f .is) i
 
   pub notify-again : (u v : List ℕ) → d < N → tablesOf u v ≡ sent (tablesOf w x) (message d (Invalidate o e z))
-      → foldFrom (notifyOne (waitingIn w₀) o e z) (tablesOf u v .queue) (d + 1) (N - (d + 1)) ≡ A
+      → foldFrom (notifyOne m o e z) (tablesOf u v .queue) (d + 1) (N - (d + 1)) ≡ A
   notify-again u v h g =
-      ap (λ (b : List Bool). foldFrom (notifyOne b o e z) (tablesOf u v .queue) (d + 1) (N - (d + 1))) (sym same)
-      ∙ fold-again (notifyOne (waitingIn w) o e z) N d (tablesOf w x .queue) (tablesOf u v .queue) A h
-      (ap (λ (t : Tables). t .queue) g ∙ rw (first-is (waitingFor (waitingIn w) o) N from d l (f .is) h)) passed
+      fold-again (notifyOne m o e z) N d (tablesOf w x .queue) (tablesOf u v .queue) A h
+      (ap (λ (t : Tables). t .queue) g ∙ rw (first-is (bitAt m) N from d l (f .is) h)) passed
 
   pub notify-end : N ≤ d → (tablesOf w x ≡ withQueue (tablesOf w₀ x₀) A) × (recordsOf w x ≡ recordsOf w₀ x₀)
-  notify-end h =
-      (s .tables ∙ ap (withQueue (tablesOf w₀ x₀)) (fold-end (notifyOne (waitingIn w) o e z) N d (tablesOf w x .queue) A h passed), s .records)
+  notify-end h = (s .tables ∙ ap (withQueue (tablesOf w₀ x₀)) (fold-end (notifyOne m o e z) N d (tablesOf w x .queue) A h passed), s .records)
 
--- the loop, with the epoch and new version read from the words, sends what `notified` says
+-- the loop, with the set, the epoch and the new version read from the words, sends what `notified` says
 pub notifies : (s : Setup) (w x : List ℕ) (o v : ℕ) (t : Tables) → Placed s o v
-    → t ≡ invalidated (tablesOf w x) o (getD w (at VOLUME-EPOCH + v) 0) (getD w (at VERSION + o) 0 + 1) (s .clients) → t ≡ withQueue (tablesOf w x) (notified s (tablesOf w x) o)
+    → t ≡ invalidated (tablesOf w x) (getD w (at WAITING + o) 0) o (getD w (at VOLUME-EPOCH + v) 0)
+    (getD w (at VERSION + o) 0 + 1) (s .clients) → t ≡ withQueue (tablesOf w x) (notified s (tablesOf w x) o)
 unfolding notified tablesOf
 notifies s w x o v t p e =
-    e ∙ rw (part-at wordLengths w VOLUME-EPOCH v (p .volume), part-at wordLengths w VERSION o (p .object), p .is)
+    e ∙ rw (part-at wordLengths w VOLUME-EPOCH v (p .volume), part-at wordLengths w VERSION o (p .object), part-at wordLengths w WAITING o (p .object), p .is)

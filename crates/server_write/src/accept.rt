@@ -17,7 +17,6 @@ use server_waiting::end::latest_end;
 use state_words::Values;
 use state_words::Words;
 use state_words::network;
-use state_words::pass;
 use state_words::server;
 
 // Opens the write of `value`: stores which clients it waits for and its latest end (02, A3), "the greatest of clock + m, guard, and, over the waiting
@@ -31,13 +30,13 @@ fn begin(setup: Setup, words: &mut Words, values: &mut Values, object: usize, va
 {
     let volume = place::volume_of(setup, object);
     let n = setup.clients as usize;
-    pass::sized(&*words);
-    clients::await_clients(&mut *words, volume, object, n);
+    let waiting = clients::awaited(&*words, volume, object, n);
     let least = time::larger(
         words[network::CLOCK] + setup.m,
         words[server::GUARD + volume],
     );
-    let end = latest_end(words, volume, object, least, n);
+    let end = latest_end(&*words, waiting, volume, object, least, n);
+    words[server::WAITING + object] = waiting;
     words[server::STANDING + object] = 1;
     words[server::END + object] = end;
     values[server::PENDING + object] = value;

@@ -13,15 +13,15 @@ use network_send::push;
 use protocol::message::Kind;
 use protocol::message::Message;
 use protocol::setup::Setup;
-use server_waiting::clients;
 use state_words::Values;
 use state_words::Words;
 use state_words::server;
 
-// Sends an INVALIDATE with this epoch and new version to those of the first n clients that the write waits for, "in dash order".
+// Sends an INVALIDATE with this epoch and new version to those of the first n clients that are in `waiting`: "Send each INVALIDATE in dash order".
 fn invalidate(
     words: &mut Words,
     values: &mut Values,
+    waiting: u32,
     object: usize,
     epoch: u32,
     version: u32,
@@ -29,12 +29,12 @@ fn invalidate(
 )
     requires { ⌜ object < 32 ⌝ }
     requires { ⌜ n ≤ 16 ⌝ }
-    ensures { λ _. ⌜ tablesOf (now (words .exit)) (now (values .exit)) ≡ invalidated (tablesOf (now (words .entry)) (now (values .entry))) object epoch version n ⌝ }
+    ensures { λ _. ⌜ tablesOf (now (words .exit)) (now (values .exit)) ≡ invalidated (tablesOf (now (words .entry)) (now (values .entry))) waiting object epoch version n ⌝ }
     ensures { λ _. ⌜ recordsOf (now (words .exit)) (now (values .exit)) ≡ recordsOf (now (words .entry)) (now (values .entry)) ⌝ }
 {
     let mut from = 0;
     loop {
-        let client = clients::next_waiting(&*words, object, from, n);
+        let client = sets::next(waiting, from, n);
         if n <= client {
             break;
         }
@@ -65,11 +65,13 @@ pub fn notify(setup: Setup, words: &mut Words, values: &mut Values, object: usiz
     ensures { λ _. ⌜ recordsOf (now (words .exit)) (now (values .exit)) ≡ recordsOf (now (words .entry)) (now (values .entry)) ⌝ }
 {
     let volume = place::volume_of(setup, object);
+    let waiting = words[server::WAITING + object];
     let epoch = words[server::VOLUME_EPOCH + volume];
     let version = words[server::VERSION + object] + 1;
     invalidate(
         &mut *words,
         &mut *values,
+        waiting,
         object,
         epoch,
         version,

@@ -68,7 +68,6 @@ module _ (w x a b c : List ℕ) (l : length w ≡ WORDS)
         no-messages _ _ 64,
         flags-zero 128,
         flags-zero 32,
-        flags-zero 512,
       )
 
   records-filled : recordsOf c x ≡ freshRecords

@@ -7,7 +7,7 @@ use Rattle.laws.specs.Parts.{start}
 abbrev pub wordLengths : List ℕ
 wordLengths =
     1 ∷ 1 ∷ 576
-    ∷ 8 ∷ 8 ∷ 8 ∷ 16 ∷ 128 ∷ 128 ∷ 128 ∷ 32 ∷ 32 ∷ 32 ∷ 32 ∷ 512 ∷ 512
+    ∷ 8 ∷ 8 ∷ 8 ∷ 16 ∷ 128 ∷ 128 ∷ 128 ∷ 32 ∷ 32 ∷ 32 ∷ 32 ∷ 512 ∷ 32
     ∷ 128 ∷ 128 ∷ 512 ∷ 512 ∷ 16 ∷ 16 ∷ 16 ∷ 16 ∷ []
 
 abbrev pub valueLengths : List ℕ
@@ -103,7 +103,7 @@ COPY-VALUE = 3
 
 -- the number of words, and of values
 abbrev pub WORDS : ℕ
-WORDS = 3498
+WORDS = 3018
 
 abbrev pub VALUES : ℕ
 VALUES = 640

@@ -31,7 +31,7 @@ tablesIn words values = record {
     pending = values PENDING;
     end = words END;
   };
-  holders = record { lease = words LEASE; waiting = flags (words WAITING) };
+  holders = record { lease = words LEASE; waiting = words WAITING };
   views = record { epoch = words VIEW-EPOCH; expiry = words VIEW-EXPIRY };
   queue = queueIn words values;
 }

@@ -11,8 +11,8 @@ pub const VOLUMES: usize = 8;
 // the stride of a field with one word for each client and object
 pub const OBJECTS: usize = 32;
 
-// the words hold all 32-bit numbers and all flags
-pub const WORDS: usize = 3498;
+// the words hold all 32-bit numbers, flags and sets
+pub const WORDS: usize = 3018;
 
 pub type Words = [u32; WORDS];
 

@@ -1,4 +1,4 @@
-// Offsets of the server's fields: per volume, per client, per client and volume, per object, per client and object.
+// Offsets of the server's fields: per volume, per client, per client and volume, per object, per client and object; last, a set of clients per object.
 
 // "Server, per volume: epoch (fresh 1), largest volume expiry VE, guard."
 pub const VOLUME_EPOCH: usize = 578;

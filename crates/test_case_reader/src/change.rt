@@ -3,6 +3,7 @@ use crate::Case;
 use crate::text::byte;
 use crate::text::word;
 use protocol::setup::Setup;
+use state_words::OBJECTS;
 use state_words::VALUES;
 use state_words::Values;
 use state_words::WORDS;
@@ -72,7 +73,6 @@ fn in_words(field: u64) -> usize {
         23 => server::STANDING,
         25 => server::END,
         26 => server::LEASE,
-        27 => server::WAITING,
         30 => client::VIEW_EPOCH,
         31 => client::VIEW_EXPIRY,
         40 => network::LENGTH,
@@ -103,6 +103,16 @@ fn put(words: &mut Words, from: usize, place: usize, number: u64) {
         if place < WORDS - from {
             words[from + place] = word(number);
         }
+    }
+}
+
+// Stores whether the write of an object waits for a client, unless there is no such place.
+fn put_waiting(words: &mut Words, place: usize, number: u64) {
+    if place < 512 {
+        let i = server::WAITING + place % OBJECTS;
+        let client = place / OBJECTS;
+        let others = sets::without(words[i], client);
+        words[i] = sets::with_if(others, client, number != 0);
     }
 }
 
@@ -152,6 +162,10 @@ pub fn change(
     }
     if field == 74 {
         case.requests = number as usize;
+        return case;
+    }
+    if field == 27 {
+        put_waiting(words, place, number);
         return case;
     }
     put(&mut *words, in_words(field), place, number);

@@ -116,7 +116,7 @@ fn cases(bytes: &[u8], from: usize, base: Case, words: &Words, values: &Values) 
 // Performs all cases. The text begins with the changes that make the base, which every case starts from.
 fn run(bytes: &[u8]) {
     let changes = test_case_reader::text::number(bytes, 0);
-    let mut words = [0u32; 3498];
+    let mut words = [0u32; 3018];
     let mut values = [0u64; 640];
     state_words::fresh::fresh(&mut words, &mut values);
     let base = changed(

@@ -1,6 +1,6 @@
 // Prints a line `name place: number` for each element of a field that a step changed. A place per client and volume, or per client and object, is two
 // numbers.
-ghost use Prim.Native.Nat.{_+_, _≤_};
+ghost use Prim.Native.Nat.{_+_, _≤_, _<_};
 ghost use Rattle.state_words.specs.Fields.{WORDS, VALUES};
 use crate::lines::end;
 use crate::lines::number;
@@ -8,6 +8,7 @@ use crate::lines::spaced;
 use crate::lines::text;
 use state_words::Values;
 use state_words::Words;
+use state_words::pass;
 
 // How the elements of a field are counted: by one number, by client and volume, or by client and object.
 pub enum Row {
@@ -51,6 +52,31 @@ pub fn words(name: &[u8], row: Row, from: usize, count: usize, before: &Words, a
     let mut i = 0;
     while i < count {
         word(name, row, i, before[from + i], after[from + i]);
+        i += 1;
+    }
+}
+
+fn member(set: u32, client: usize) -> u32
+    requires { ⌜ client < 32 ⌝ }
+{
+    pass::word(sets::has(set, client))
+}
+
+// Prints the changes among the clients in the 32 sets from `from` on, one per object.
+pub fn members(name: &[u8], from: usize, before: &Words, after: &Words)
+    requires { ⌜ from + 32 ≤ WORDS ⌝ }
+{
+    let mut i = 0;
+    while i < 512 {
+        let object = from + i % 32;
+        let client = i / 32;
+        word(
+            name,
+            Row::Objects,
+            i,
+            member(before[object], client),
+            member(after[object], client),
+        );
         i += 1;
     }
 }

@@ -1,6 +1,7 @@
 // Prints a line for each element of the tables that a step changed.
 
 use crate::elements::Row;
+use crate::elements::members;
 use crate::elements::values;
 use crate::elements::words;
 use crate::lines::end;
@@ -57,14 +58,7 @@ pub fn objects(before: &Words, values_before: &Values, after: &Words, values_aft
         before,
         after,
     );
-    words(
-        b"waiting",
-        Row::Objects,
-        server::WAITING,
-        512,
-        before,
-        after,
-    );
+    members(b"waiting", server::WAITING, before, after);
 }
 
 pub fn views(before: &Words, after: &Words) {

@@ -1,28 +1,30 @@
 -- The server takes an ACK: the client holds no copy, and no GRANT under way can bring it one, so its lease may go.
 use Prim.Native.Nat.{ℕ, _+_, _<_, _≤_}
 use native.Mathlib.Omega.{arith}
-use mathlib.Core.Bool.{Bool, true, false, _&&_}
+use mathlib.Core.Bool.{true, false, _&&_}
 use mathlib.Core.List.{List}
-use mathlib.Core.Logic.{inl, ⊎-elim}
+use mathlib.Core.Logic.{inl, inr, ⊎-elim}
 use mathlib.Core.Path.{_≡_, sym, _∙_}
 use lib.Dec.{eqb}
 use lib.ListN.{getD, set}
 use borrow.Author.Tests.{eqb-true}
 use Rattle.laws.specs.Choice.{not-both, and-true}
+use Rattle.laws.specs.Sets.{bitAt, removed}
+use Rattle.laws.specs.Store.{set-at}
 use Rattle.laws.specs.Updated.{updated-other}
 use Rattle.protocol.specs.declared.message.Kind.{Kind}
 use Rattle.protocol.specs.declared.message.Kind.the-variants.{Renew, Grant, Invalidate, Ack, Offer, Dropped}
 use Rattle.protocol.specs.declared.setup.Setup.{Setup}
 use Rattle.protocol.specs.declared.tables.Tables.{Tables}
 use Rattle.protocol.specs.Setup.{volumeOf}
-use Rattle.protocol.specs.Tables.{byObject, epochAt, versionAt, standingAt, leaseAt, waitingAt}
+use Rattle.protocol.specs.Tables.{byObject, epochAt, versionAt, standingAt, leaseAt, awaitedAt, waitingAt}
 use Rattle.protocol.specs.Server.{ackTaken, acked}
 use Rattle.protocol.specs.World.{World}
 use Rattle.protocol.specs.Ranges.{Ranges}
 use Rattle.protocol.specs.Soundness.Shape.{Shape}
 use Rattle.protocol.specs.Safety.View.{copyAt, heldOf, View, Held}
 use Rattle.protocol.specs.Safety.Invariant.{Inv, Sent, from, Bringing, AcknowledgesIn}
-use Rattle.protocol.specs.Safety.Stores.{After, object-set}
+use Rattle.protocol.specs.Safety.Stores.{After, object-set, object-fits, client-removed}
 use Rattle.protocol.specs.Safety.Tools.{zero-dead, left-below}
 use Rattle.protocol.specs.Safety.Replaced.{withTables}
 use Rattle.protocol.specs.Safety.Covering.{covered-by, remains-by, grant-covered}
@@ -41,14 +43,19 @@ module _ (s : Setup) (range : Ranges s) (w : World) (inv : Inv s w) (shape : Sha
   abbrev lease : List ℕ
   lease = set (w .tables .holders .lease) (byObject d o) 0
 
-  abbrev waiting : List Bool
-  waiting = set (w .tables .holders .waiting) (byObject d o) false
+  abbrev waiting : List ℕ
+  waiting = set (w .tables .holders .waiting) o (removed (awaitedAt (w .tables) o) d)
 
   at-lease : (k i : ℕ) → i < s .objects → After d o k i (getD lease (byObject k i) 0) 0 (leaseAt (w .tables) k i)
   at-lease k i h = object-set range hd ho (w .tables .holders .lease) 0 0 (shape .holders .lease) k i h
 
-  at-waiting : (k i : ℕ) → i < s .objects → After d o k i (getD waiting (byObject k i) false) false (waitingAt (w .tables) k i)
-  at-waiting k i h = object-set range hd ho (w .tables .holders .waiting) false false (shape .holders .waiting) k i h
+  at-waiting : (k i : ℕ) → k < s .clients → After d o k i (bitAt (getD waiting i 0) k) false (waitingAt (w .tables) k i)
+  at-waiting k i hk =
+      let l = shape .holders .waiting in
+      let f = object-fits range ho in
+      ⊎-elim
+      (λ a. ⊎-elim (λ b. inl (b .0, a .0, rw (a .1) (b .1))) (λ b. inr (λ p q. b .0 p, rw (a .1, a .0) (b .1))) (client-removed range (awaitedAt (w .tables) o) d k hk))
+      (λ a. inr (λ p q. a .0 q, rw (a .1))) (set-at (w .tables .holders .waiting) o (removed (awaitedAt (w .tables) o) d) i 0 (omega arith))
 
   -- a view without the object needs the lease no longer
   unowed : (k v clock : ℕ) (view : View) → (k ≡ d → view .held o ≡ 0) → (i : ℕ) → Held s clock v view i → leaseAt (w .tables) k i ≤ getD lease (byObject k i) 0
@@ -90,9 +97,9 @@ module _ (s : Setup) (range : Ranges s) (w : World) (inv : Inv s w) (shape : Sha
     writes = record {
       guards = inv .writes .guards;
       waits = λ k i hk h a b. ⊎-elim (λ q. not-both b (q .2))
-          (λ q. ⊎-elim (λ r. absurd (q .0 (r .0) (r .1))) (λ r. rw (r .1) (inv .writes .waits k i hk h a (sym (q .1) ∙ b))) (at-lease k i h)) (at-waiting k i h);
+          (λ q. ⊎-elim (λ r. absurd (q .0 (r .0) (r .1))) (λ r. rw (r .1) (inv .writes .waits k i hk h a (sym (q .1) ∙ b))) (at-lease k i h)) (at-waiting k i hk);
       others = λ k i hk h a b. ⊎-elim (λ r. inl (rw (r .2) (zero-dead (w .tables .clock))))
-          (λ r. ⊎-elim (λ q. absurd (r .0 (q .0) (q .1))) (λ q. rw (r .1) (inv .writes .others k i hk h a (sym (q .1) ∙ b))) (at-waiting k i h)) (at-lease k i h);
+          (λ r. ⊎-elim (λ q. absurd (r .0 (q .0) (q .1))) (λ q. rw (r .1) (inv .writes .others k i hk h a (sym (q .1) ∙ b))) (at-waiting k i hk)) (at-lease k i h);
     };
     views = λ k v hk hv. covered-by (inv .views k v hk hv) (omega arith) (λ j h q b. b) (unowed k _ _ _ (gone-at k));
     messages = each inv keeps;

@@ -8,6 +8,7 @@ use mathlib.Core.Path.{_≡_, refl, sym, _∙_}
 use lib.ListN.{getD}
 use Rattle.laws.specs.Choice.{cond-keeps, same?, not-both, and-false, or-false}
 use Rattle.laws.specs.Loop.{fold-keeps-in}
+use Rattle.laws.specs.Sets.{setOf, set-in}
 use Rattle.protocol.specs.declared.message.Queue.{Queue}
 use Rattle.protocol.specs.declared.message.Kind.the-variants.{Renew, Grant, Invalidate, Ack, Offer, Dropped}
 use Rattle.protocol.specs.declared.setup.Setup.{Setup}
@@ -21,7 +22,7 @@ use Rattle.protocol.specs.World.{World}
 use Rattle.protocol.specs.Soundness.Shape.{Shape, sent-shape}
 use Rattle.protocol.specs.Safety.Invariant.{InvalidateOk, Acknowledges, Unwaited, excusesOf, Inv}
 use Rattle.protocol.specs.Safety.Tools.{marked-excused, left-none}
-use Rattle.protocol.specs.Safety.Replaced.{withTables, Replaced, here-at, here-for, set-replaced, store-replaced}
+use Rattle.protocol.specs.Safety.Replaced.{withTables, Replaced, here-at, set-replaced}
 use Rattle.protocol.specs.Safety.Sending.{listing, Keeps, each, acked-before, send-single}
 use Rattle.protocol.specs.Ranges.{Ranges}
 use Rattle.protocol.specs.Soundness.ShapeKept.{begun-shape}
@@ -86,7 +87,7 @@ module _ (s : Setup) (w : World) (o new : ℕ) (range : Ranges s) (shape : Shape
       let b = range .objects .1 in
       let t = w .tables in
       let end = set-replaced (t .objects .end) o (latestEnd s t o) 0 (omega (arith, shape .objects .end)) in
-      let waiting = store-replaced s (t .holders .waiting) o (waits s t o) false (range .clients .1) b (shape .holders .waiting) ho in
+      let waiting = set-replaced (t .holders .waiting) o (setOf (waits s t o) (s .clients)) 0 (omega (arith, shape .holders .waiting)) in
       record {
         bounds = inv .bounds;
         epochs = inv .epochs;
@@ -98,11 +99,11 @@ module _ (s : Setup) (w : World) (o new : ℕ) (range : Ranges s) (shape : Shape
               ⊎-elim (λ q. rw (here-at end j q) (rw q (ends-after-guard s t o)))
               (λ q. rw (end .other j q) (inv .writes .guards j hj (sym (standing .other j q) ∙ st))) (same? j o);
           waits = λ d j hd hj st wt.
-              ⊎-elim (λ q. rw (here-at end j q) (rw q (outlasts s t o d hd (sym (here-for waiting d j hd q) ∙ wt))))
-              (λ q. rw (end .other j q) (inv .writes .waits d j hd hj (sym (standing .other j q) ∙ st) (sym (waiting .other d j hj q) ∙ wt))) (same? j o);
+              ⊎-elim (λ q. rw (here-at end j q) (rw q (outlasts s t o d hd (sym (set-in (waits s t o) (s .clients) d hd) ∙ rw (here-at waiting j q) at wt))))
+              (λ q. rw (end .other j q) (inv .writes .waits d j hd hj (sym (standing .other j q) ∙ st) (rw (waiting .other j q) at wt))) (same? j o);
           others = λ d j hd hj st wt.
-              ⊎-elim (λ q. rw q (unwaited s t o d (sym (here-for waiting d j hd q) ∙ wt)))
-              (λ q. inv .writes .others d j hd hj (sym (standing .other j q) ∙ st) (sym (waiting .other d j hj q) ∙ wt)) (same? j o);
+              ⊎-elim (λ q. rw q (unwaited s t o d (sym (set-in (waits s t o) (s .clients) d hd) ∙ rw (here-at waiting j q) at wt)))
+              (λ q. inv .writes .others d j hd hj (sym (standing .other j q) ∙ st) (rw (waiting .other j q) at wt)) (same? j o);
         };
         views = inv .views;
         messages = each inv keeps;

@@ -176,9 +176,9 @@ module _ (s : Setup) (w : World) (o : ℕ) (range : Ranges s) (objects : Objects
   unfolding posted released
   lease = store-replaced s (w .tables .holders .lease) o (λ (d : ℕ). 0) 0 (range .clients .1) (range .objects .1) (holders .lease) ho
 
-  waiting : ReplacedFor s o (λ _. false) false (w .tables .holders .waiting) (after .tables .holders .waiting)
+  waiting : Replaced o 0 0 (w .tables .holders .waiting) (after .tables .holders .waiting)
   unfolding posted released
-  waiting = store-replaced s (w .tables .holders .waiting) o (λ (d : ℕ). false) false (range .clients .1) (range .objects .1) (holders .waiting) ho
+  waiting = let b = few in set-replaced (w .tables .holders .waiting) o 0 0 (omega (arith, holders .waiting))
 
   keeps : Keeps s w after
   unfolding posted released
@@ -234,10 +234,10 @@ module _ (s : Setup) (w : World) (o : ℕ) (range : Ranges s) (objects : Objects
       guards = λ j hj st. let ne = still-other standing j st in rw (end .other j ne) (inv .writes .guards j hj (sym (standing .other j ne) ∙ st));
       waits = λ d j hd hj st wt.
           let ne = still-other standing j st in
-          rw (end .other j ne, lease .other d j hj ne) (inv .writes .waits d j hd hj (sym (standing .other j ne) ∙ st) (sym (waiting .other d j hj ne) ∙ wt));
+          rw (end .other j ne, lease .other d j hj ne) (inv .writes .waits d j hd hj (sym (standing .other j ne) ∙ st) (rw (waiting .other j ne) at wt));
       others = λ d j hd hj st wt.
           let ne = still-other standing j st in
-          rw (lease .other d j hj ne) (inv .writes .others d j hd hj (sym (standing .other j ne) ∙ st) (sym (waiting .other d j hj ne) ∙ wt));
+          rw (lease .other d j hj ne) (inv .writes .others d j hd hj (sym (standing .other j ne) ∙ st) (rw (waiting .other j ne) at wt));
     };
     views = λ d v hd hv. covered-posted s w o inv ho stands may mark version lease d v _ hd (inv .epochs d v hd hv) (inv .views d v hd hv);
     messages = each inv keeps;

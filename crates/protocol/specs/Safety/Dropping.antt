@@ -10,19 +10,20 @@ use lib.Dec.{eqb}
 use lib.ListN.{length, getD}
 use borrow.Author.Tests.{eqb-true, eqb-false, eq-eqb, not-true}
 use Rattle.laws.specs.Choice.{same?, not-both, and-true}
+use Rattle.laws.specs.Sets.{removed}
 use Rattle.laws.specs.Store.{storeEach, store-hit, store-other}
 use Rattle.protocol.specs.declared.message.Kind.the-variants.{Renew, Grant, Invalidate, Ack, Offer, Dropped}
 use Rattle.protocol.specs.declared.setup.Setup.{Setup}
 use Rattle.protocol.specs.declared.tables.Tables.{Tables}
 use Rattle.protocol.specs.Setup.{volumeOf}
-use Rattle.protocol.specs.Tables.{byVolume, byObject, epochAt, sessionExpiryAt, unreachableAt, offerAt, leaseAt, waitingAt}
+use Rattle.protocol.specs.Tables.{byVolume, byObject, epochAt, sessionExpiryAt, unreachableAt, offerAt, leaseAt, awaitedAt, waitingAt}
 use Rattle.protocol.specs.Server.{dropTaken, ofVolume, disowned, dropped}
 use Rattle.protocol.specs.World.{World}
 use Rattle.protocol.specs.Ranges.{Ranges}
 use Rattle.protocol.specs.Soundness.Shape.{Shape}
 use Rattle.protocol.specs.Safety.View.{left, View}
 use Rattle.protocol.specs.Safety.Invariant.{Inv, excusesOf, viewIn, AnswersIn, KindOk, CoveredIn}
-use Rattle.protocol.specs.Safety.Stores.{After, at-place, off-place, volume-set, object-fits}
+use Rattle.protocol.specs.Safety.Stores.{After, at-place, off-place, volume-set, object-fits, client-removed}
 use Rattle.protocol.specs.Safety.Tools.{zero-dead, left-below, excused-grows}
 use Rattle.protocol.specs.Safety.Replaced.{withTables}
 use Rattle.protocol.specs.Safety.Covering.{covered-by, remains-by, covered-left, covered-older}
@@ -72,9 +73,25 @@ module _ (s : Setup) (range : Ranges s) (w : World) (inv : Inv s w) (shape : Sha
   unfolding dropped disowned left
   at-lease k i h = at-object (w .tables .holders .lease) 0 0 (shape .holders .lease) k i h
 
-  at-waiting : (k i : ℕ) → i < s .objects → After d v k (volumeOf s i) (waitingAt t k i) false (waitingAt (w .tables) k i)
+  -- it is waited for in the volume no more
+  awaited-here : (i : ℕ) → i < s .objects → volumeOf s i ≡ v → awaitedAt t i ≡ removed (awaitedAt (w .tables) i) d
   unfolding dropped disowned
-  at-waiting k i h = at-object (w .tables .holders .waiting) false false (shape .holders .waiting) k i h
+  awaited-here i h q =
+      let l = shape .holders .waiting in
+      let f = object-fits range h in
+      store-hit (ofVolume s v) (λ (o : ℕ). o) (λ (o : ℕ). removed (awaitedAt (w .tables) o) d) (λ a b z. z) (w .tables .holders .waiting) (s .objects) i 0 h (eq-eqb _ _ q) (omega arith)
+
+  awaited-still : (i : ℕ) → (volumeOf s i ≡ v → ⊥) → awaitedAt t i ≡ awaitedAt (w .tables) i
+  unfolding dropped disowned
+  awaited-still i ne =
+      store-other (ofVolume s v) (λ (o : ℕ). o) (λ (o : ℕ). removed (awaitedAt (w .tables) o) d) (w .tables .holders .waiting) (s .objects) i 0
+      (λ j g c z. ne (sym (ap (volumeOf s) z) ∙ eqb-true _ _ c))
+
+  at-waiting : (k i : ℕ) → k < s .clients → i < s .objects → After d v k (volumeOf s i) (waitingAt t k i) false (waitingAt (w .tables) k i)
+  at-waiting k i hk h =
+      ⊎-elim
+      (λ q. ⊎-elim (λ b. inl (b .0, q, rw (awaited-here i h q) (b .1))) (λ b. inr (λ p r. b .0 p, rw (awaited-here i h q) (b .1))) (client-removed range (awaitedAt (w .tables) i) d k hk))
+      (λ q. inr (λ p r. q r, rw (awaited-still i q))) (same? (volumeOf s i) v)
 
   at-session : (k u : ℕ) → u < s .volumes → After d v k u (sessionExpiryAt t k u) 0 (sessionExpiryAt (w .tables) k u)
   unfolding dropped
@@ -164,10 +181,10 @@ module _ (s : Setup) (range : Ranges s) (w : World) (inv : Inv s w) (shape : Sha
     writes = record {
       guards = inv .writes .guards;
       waits = λ k i hk h a b. ⊎-elim (λ q. not-both b (q .2))
-          (λ q. rw (same-lease k i h (q .0), off-place (at-session k (volumeOf s i) (range .within i h)) (q .0)) (inv .writes .waits k i hk h a (sym (q .1) ∙ b))) (at-waiting k i h);
+          (λ q. rw (same-lease k i h (q .0), off-place (at-session k (volumeOf s i) (range .within i h)) (q .0)) (inv .writes .waits k i hk h a (sym (q .1) ∙ b))) (at-waiting k i hk h);
       others = λ k i hk h a b. ⊎-elim (λ q. inl (rw (q .2, q .0, ok .writes answers i h (q .1) a) (zero-dead (w .tables .clock))))
           (λ q. rw (q .1, off-place (at-session k (volumeOf s i) (range .within i h)) (q .0))
-          (⊎-elim inl (λ r. inr (r .0, excused-still k (volumeOf s i) i (range .within i h) (q .0) (r .1))) (inv .writes .others k i hk h a (sym (off-place (at-waiting k i h) (q .0)) ∙ b))))
+          (⊎-elim inl (λ r. inr (r .0, excused-still k (volumeOf s i) i (range .within i h) (q .0) (r .1))) (inv .writes .others k i hk h a (sym (off-place (at-waiting k i hk h) (q .0)) ∙ b))))
           (at-lease k i h);
     };
     views = λ k u hk h. ⊎-elim (λ a. rw (a .0, a .1) here) (λ a. elsewhere k u _ h (a .0) (inv .views k u hk h)) (at-session k u h);

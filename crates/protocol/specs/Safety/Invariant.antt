@@ -10,6 +10,7 @@ use mathlib.Core.List.{List}
 use mathlib.Core.Logic.{_⊎_}
 use mathlib.Core.Path.{_≡_}
 use lib.ListN.{getD}
+use Rattle.laws.specs.Sets.{bitAt}
 use Rattle.protocol.specs.declared.message.Message.{Message}
 use Rattle.protocol.specs.declared.message.Queue.{Queue}
 use Rattle.protocol.specs.declared.message.Payload.{Payload}
@@ -62,11 +63,11 @@ abbrev pub Unwaited : ℕ → ℕ → ℕ → Bool → Type 0
 Unwaited clock lease session excuse = (serverAlive clock lease ≡ false) ⊎ ((serverAlive clock session ≡ false) × (excuse ≡ true))
 
 -- a standing write outlasts the guard and the leases of whom it waits for
-pub record Writes (s : Setup) (clock : ℕ) (guard session : List ℕ) (excuse : ℕ → ℕ → ℕ → Bool) (standing : List Bool) (end lease : List ℕ) (waiting : List Bool) : Type 0 where
+pub record Writes (s : Setup) (clock : ℕ) (guard session : List ℕ) (excuse : ℕ → ℕ → ℕ → Bool) (standing : List Bool) (end lease waiting : List ℕ) : Type 0 where
   pub guards : (o : ℕ) → o < s .objects → getD standing o false ≡ true → getD guard (volumeOf s o) 0 ≤ getD end o 0
-  pub waits : (d o : ℕ) → d < s .clients → o < s .objects → getD standing o false ≡ true → getD waiting (byObject d o) false ≡ true
+  pub waits : (d o : ℕ) → d < s .clients → o < s .objects → getD standing o false ≡ true → bitAt (getD waiting o 0) d ≡ true
       → min (getD lease (byObject d o) 0) (getD session (byVolume d (volumeOf s o)) 0) ≤ getD end o 0
-  pub others : (d o : ℕ) → d < s .clients → o < s .objects → getD standing o false ≡ true → getD waiting (byObject d o) false ≡ false
+  pub others : (d o : ℕ) → d < s .clients → o < s .objects → getD standing o false ≡ true → bitAt (getD waiting o 0) d ≡ false
       → Unwaited clock (getD lease (byObject d o) 0) (getD session (byVolume d (volumeOf s o)) 0) (excuse d (volumeOf s o) o)
 
 -- ---- the messages, kind by kind

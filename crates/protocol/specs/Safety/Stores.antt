@@ -6,10 +6,12 @@ use native.Mathlib.Omega.{arith}
 use mathlib.Core.Bool.{Bool, true, false}
 use mathlib.Core.List.{List}
 use mathlib.Core.Logic.{_⊎_, inl, inr, ⊎-elim}
-use mathlib.Core.Path.{_≡_, ap}
+use mathlib.Core.Path.{_≡_, ap, _∙_}
 use lib.ListN.{length, getD, set, replicate, getD-replicate}
-use Rattle.laws.specs.Choice.{not-both}
+use borrow.Author.Tests.{eq-eqb, ne-eqb}
+use Rattle.laws.specs.Choice.{not-both, same?, and-yes, and-no}
 use Rattle.laws.specs.Store.{set-at}
+use Rattle.laws.specs.Sets.{bitAt, removed, bit-removed}
 use Rattle.protocol.specs.declared.records.Copy.{Copy}
 use Rattle.protocol.specs.declared.setup.Setup.{Setup}
 use Rattle.protocol.specs.Tables.{byVolume, byObject, noCopy}
@@ -91,6 +93,13 @@ module _ {s : Setup} (range : Ranges s) where
         let r = holder-fits hd ho in
         ⊎-elim (λ a. inl (omega (arith, a .0), omega (arith, a .0), a .1)) (λ a. inr (λ p q. a .0 (omega arith), a .1))
         (set-at l (byObject d o) x (byObject k i) y (omega arith))
+
+-- ---- a client taken out of the set of one object
+pub client-removed : {s : Setup} → Ranges s → (m d k : ℕ) → k < s .clients → ((k ≡ d) × (bitAt (removed m d) k ≡ false)) ⊎ ((k ≡ d → ⊥) × (bitAt (removed m d) k ≡ bitAt m k))
+client-removed range m d k hk =
+    let a = client-fits range hk in
+    let b = bit-removed m d k (omega arith) in
+    ⊎-elim (λ q. inl (q, b ∙ rw (eq-eqb k d q) (and-no (bitAt m k)))) (λ q. inr (q, b ∙ rw (ne-eqb k d q) (and-yes (bitAt m k)))) (same? k d)
 
 -- ---- a copy stored
 

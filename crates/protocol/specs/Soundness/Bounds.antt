@@ -139,7 +139,7 @@ write-bounded {x} o stands a end g p h = end-bounded _ (each-set Timed (x .end) 
 pub lease-bounded : {x : Holders} (l : List ℕ) → All Timed l → HoldersBounded x → HoldersBounded (withLease x l)
 lease-bounded l e h = record { lease = e }
 
-pub waiting-bounded : {x : Holders} (l : List Bool) → HoldersBounded x → HoldersBounded (withWaiting x l)
+pub waiting-bounded : {x : Holders} (l : List ℕ) → HoldersBounded x → HoldersBounded (withWaiting x l)
 waiting-bounded l h = record { lease = h .lease }
 
 pub view-epoch-bounded : {x : Views} (l : List ℕ) → ViewsBounded x → ViewsBounded (withViewEpoch x l)

@@ -45,7 +45,7 @@ pub record ObjectsShape (x : Objects) : Type 0 where
 
 pub record HoldersShape (x : Holders) : Type 0 where
   pub lease : length (x .lease) ≡ 512
-  pub waiting : length (x .waiting) ≡ 512
+  pub waiting : length (x .waiting) ≡ 32
 
 pub record ViewsShape (x : Views) : Type 0 where
   pub epoch : length (x .epoch) ≡ 128
@@ -113,7 +113,7 @@ write-shape o stands a end h = end-shape _ (simp length-set) (pending-shape _ (s
 pub lease-shape : {x : Holders} (l : List ℕ) → length l ≡ length (x .lease) → HoldersShape x → HoldersShape (withLease x l)
 lease-shape l e h = record { lease = e ∙ h .lease; waiting = h .waiting }
 
-pub waiting-shape : {x : Holders} (l : List Bool) → length l ≡ length (x .waiting) → HoldersShape x → HoldersShape (withWaiting x l)
+pub waiting-shape : {x : Holders} (l : List ℕ) → length l ≡ length (x .waiting) → HoldersShape x → HoldersShape (withWaiting x l)
 waiting-shape l e h = record { lease = h .lease; waiting = e ∙ h .waiting }
 
 pub view-epoch-shape : {x : Views} (l : List ℕ) → length l ≡ length (x .epoch) → ViewsShape x → ViewsShape (withViewEpoch x l)

@@ -38,7 +38,7 @@ use Rattle.protocol.specs.Soundness.Shape.{ViewsShape, QueueShape, Shape
 pub begun-shape : (s : Setup) (t : Tables) (o x : ℕ) → Shape t → Shape (begun s t o x)
 unfolding opened awaited
 begun-shape s t o x h =
-    holders-shape (waiting-shape _ (simp length-store) (h .holders)) (objects-shape (write-shape o true x _ (h .objects)) h)
+    holders-shape (waiting-shape _ (simp length-set) (h .holders)) (objects-shape (write-shape o true x _ (h .objects)) h)
 
 notified-shape : (s : Setup) (t : Tables) (o : ℕ) → QueueShape (t .queue) → QueueShape (notified s t o)
 unfolding notified
@@ -60,7 +60,7 @@ pub completed-shape : (s : Setup) (t : Tables) (o : ℕ) → Shape t → Shape (
 unfolding completed posted released deserted
 completed-shape s t o h =
     sessions-shape (unreachable-shape _ (marked-length s t o _) (h .sessions))
-    (holders-shape (waiting-shape _ (simp length-store) (lease-shape _ (simp length-store) (h .holders)))
+    (holders-shape (waiting-shape _ (simp length-set) (lease-shape _ (simp length-store) (h .holders)))
     (objects-shape (version-shape _ (simp length-set) (value-shape _ (simp length-set) (write-shape o false 0 0 (h .objects)))) h))
 
 settled-shape : (s : Setup) (g : Staged) → Shape (g .tables) → Shape (settled s g .tables)

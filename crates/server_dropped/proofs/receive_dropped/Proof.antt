@@ -59,32 +59,32 @@ element-write-words-3 c =
     let a = c .before .before .before in
     omega (arith, a .pre .1 .1 .0, a .pre .1 .1 .1, ranges _ (a .pre .0) .clients .1, ranges _ (a .pre .0) .volumes .1)
 
-clear-in-volume-requires : tie.Need-clear-in-volume-requires
-clear-in-volume-requires c κs = search needs
+clear-leases-requires : tie.Need-clear-leases-requires
+clear-leases-requires c κs = search needs
 
-clear-in-volume-requires-2 : tie.Need-clear-in-volume-requires-2
-clear-in-volume-requires-2 c κs = search needs
+stop-waiting-requires : tie.Need-stop-waiting-requires
+stop-waiting-requires c κs = search needs
 
 settle-requires : tie.Need-settle-requires
 settle-requires c κs =
-    let at-clear-in-volume = c .before .before .before .before in
-    let a = at-clear-in-volume .before .before .before .before .before in (
+    let at-clear-leases = c .before .before .before .before in
+    let a = at-clear-leases .before .before .before .before .before in (
       a .pre .0,
       drop-grows _ _ (a .args .values .now) _ _ _ _ (omega (arith, a .pre .1 .1 .0, ranges _ (a .pre .0) .clients .1))
           (omega (arith, a .pre .1 .1 .1, ranges _ (a .pre .0) .volumes .1)) (ranges _ (a .pre .0) .objects .1)
-          (at-clear-in-volume .clear-in-volume .ensures) (c .before .before .clear-in-volume2 .ensures) (a .pre .1 .0),
+          (at-clear-leases .clear-leases .ensures) (c .before .before .stop-waiting .ensures) (a .pre .1 .0),
     )
 
 returns : tie.Need-returns
 returns c =
-    let at-clear-in-volume2 = c .before .before .before in
-    let at-clear-in-volume = at-clear-in-volume2 .before .before in
-    let at-if1 = at-clear-in-volume .before .before in
+    let at-stop-waiting = c .before .before .before in
+    let at-clear-leases = at-stop-waiting .before .before in
+    let at-if1 = at-clear-leases .before .before in
     let at-drop-taken = at-if1 .before in
     let a = at-drop-taken .before .before in
     drop-yes _ _ _ _ _ _ _ (omega (arith, a .pre .1 .1 .0, ranges _ (a .pre .0) .clients .1))
-    (omega (arith, a .pre .1 .1 .1, ranges _ (a .pre .0) .volumes .1)) (ranges _ (a .pre .0) .objects .1)
-    (at-clear-in-volume .clear-in-volume .ensures) (at-clear-in-volume2 .clear-in-volume2 .ensures)
+    (omega (arith, a .pre .1 .1 .1, ranges _ (a .pre .0) .volumes .1))
+    (ranges _ (a .pre .0) .objects .1) (at-clear-leases .clear-leases .ensures) (at-stop-waiting .stop-waiting .ensures)
     _ _ _ _ _ _ (at-drop-taken .drop-taken .ensures) (at-if1 .if1 .taken) (c .settle .ensures)
 
 returns-2 : tie.Need-returns-2
@@ -110,8 +110,8 @@ receive-dropped-spec =
     add-words-6
     mul-words-6
     element-write-words-3
-    clear-in-volume-requires
-    clear-in-volume-requires-2
+    clear-leases-requires
+    stop-waiting-requires
     settle-requires
     returns
     returns-2)

@@ -12,7 +12,7 @@ fill-requires-2 : tie.Need-fill-requires-2
 fill-requires-2 c κs = search needs
 
 returns : tie.Need-returns
-returns c = c .fill2 .ensures ∙ ap (filling (at WAITING) 512 0) (c .before .before .fill .ensures)
+returns c = c .fill2 .ensures ∙ ap (filling (at WAITING) 32 0) (c .before .before .fill .ensures)
 
 pub clear-holders-spec : {M : Type 1} → statement M
 clear-holders-spec = tie.close (tie.spec fill-requires fill-requires-2 returns)

@@ -177,7 +177,7 @@ abbrev G : RattleType
 G = G-.the-row
 
 abbrev Ws : RattleType
-Ws = Array u32 3498
+Ws = Array u32 3018
 
 abbrev Vs : RattleType
 Vs = Array u64 640

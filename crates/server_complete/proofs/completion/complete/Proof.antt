@@ -10,34 +10,46 @@ volume-of-requires c κs = search needs
 cast-n : tie.Need-cast-n
 cast-n c = search needs
 
+add-waiting : tie.Need-add-waiting
+add-waiting c = search needs
+
+mul-waiting : tie.Need-mul-waiting
+mul-waiting c = search needs
+
+element-copy-out-waiting : tie.Need-element-copy-out-waiting
+element-copy-out-waiting c = search needs
+
 mark-waiting-requires : tie.Need-mark-waiting-requires
 mark-waiting-requires c κs = search needs
 
-clear-object-requires : tie.Need-clear-object-requires
-clear-object-requires c κs = search needs
+clear-leases-requires : tie.Need-clear-leases-requires
+clear-leases-requires c κs = search needs
 
-clear-object-requires-2 : tie.Need-clear-object-requires-2
-clear-object-requires-2 c κs = search needs
+add-words : tie.Need-add-words
+add-words c = search needs
+
+mul-words : tie.Need-mul-words
+mul-words c = search needs
+
+element-write-words : tie.Need-element-write-words
+element-write-words c = search needs
 
 post-requires : tie.Need-post-requires
 post-requires c κs =
-    let at-clear-object = c .before .before .before .before in
-    let at-mark-waiting = at-clear-object .before .before in
-    let a = at-mark-waiting .before .before .before .before in
-    let p = at-mark-waiting .before .before .before .volume-of .ensures in (
+    let at-mark-waiting = c .before .before .before .before in
+    let a = at-mark-waiting .before .before .before .before .before in
+    let p = at-mark-waiting .before .before .before .before .volume-of .ensures in (
       p .object,
-      rw (released-version _ _ _ _ _ (a .args .values .now) _ _ _ p refl (at-mark-waiting .mark-waiting .ensures)
-          (at-clear-object .clear-object .ensures) (c .before .before .clear-object2 .ensures)) (a .pre .1 .1),
+      rw (released-version _ (a .args .words .now) _ _ (a .args .values .now) _ _ _
+          _ p refl refl (at-mark-waiting .mark-waiting .ensures) (c .before .before .clear-leases .ensures)) (a .pre .1 .1),
     )
 
 returns : tie.Need-returns
 returns c =
-    let at-clear-object2 = c .before .before .before in
-    let at-clear-object = at-clear-object2 .before .before in
-    let at-mark-waiting = at-clear-object .before .before in
-    let at-volume-of = at-mark-waiting .before .before .before in
-    completes _ _ _ _ _ _ _ _ _ (at-volume-of .volume-of .ensures) refl (at-mark-waiting .mark-waiting .ensures)
-    (at-clear-object .clear-object .ensures) (at-clear-object2 .clear-object2 .ensures) _ _ (c .post .ensures)
+    let at-clear-leases = c .before .before .before in
+    let at-mark-waiting = at-clear-leases .before .before in
+    let at-volume-of = at-mark-waiting .before .before .before .before in
+    completes _ _ _ _ _ _ _ _ _ (at-volume-of .volume-of .ensures) refl refl (at-mark-waiting .mark-waiting .ensures) (at-clear-leases .clear-leases .ensures) _ _ (c .post .ensures)
 
 pub complete-spec : {M : Type 1} → statement M
 complete-spec =
@@ -45,8 +57,13 @@ complete-spec =
     (tie.spec
     volume-of-requires
     cast-n
+    add-waiting
+    mul-waiting
+    element-copy-out-waiting
     mark-waiting-requires
-    clear-object-requires
-    clear-object-requires-2
+    clear-leases-requires
+    add-words
+    mul-words
+    element-write-words
     post-requires
     returns)

@@ -1,7 +1,8 @@
 use native.Mathlib.Omega.{arith}
 use mathlib.Core.Path.{refl}
 use Rattle.protocol.specs.Ranges.{ranges}
-use Rattle.server_write.proofs.Accepting.{clock-awaited, begins}
+use Rattle.state_words.specs.Reads.{clock-word}
+use Rattle.server_write.proofs.Accepting.{begins}
 use borrow.Author.Needs.{needs}
 use Rattle.server_write.proofs.accept.begin.Statement.{statement}
 use Rattle.server_write.proofs.accept.begin.Tie as tie
@@ -12,20 +13,14 @@ volume-of-requires c κs = search needs
 cast-n : tie.Need-cast-n
 cast-n c = search needs
 
-sized-requires : tie.Need-sized-requires
-sized-requires c κs = search needs
-
-await-clients-requires : tie.Need-await-clients-requires
-await-clients-requires c κs = search needs
+awaited-requires : tie.Need-awaited-requires
+awaited-requires c κs = search needs
 
 element-copy-out-larger : tie.Need-element-copy-out-larger
 element-copy-out-larger c = search needs
 
 add-larger : tie.Need-add-larger
-add-larger c =
-    let at-volume-of = c .before .before .before .before .before .before .before .before in
-    let a = at-volume-of .before in
-    omega (arith, ranges _ (a .pre .0) .m .1, a .pre .1 .0, clock-awaited _ _ _ (a .args .values .now) _ _ _ (at-volume-of .volume-of .ensures) refl (c .before .before .await-clients .ensures))
+add-larger c = let a = c .before .before .before .before .before .before in omega (arith, ranges _ (a .pre .0) .m .1, a .pre .1 .0, clock-word (a .args .words .now) (a .args .values .now))
 
 add-larger-2 : tie.Need-add-larger-2
 add-larger-2 c = search needs
@@ -60,6 +55,15 @@ mul-words-2 c = search needs
 element-write-words-2 : tie.Need-element-write-words-2
 element-write-words-2 c = search needs
 
+add-words-3 : tie.Need-add-words-3
+add-words-3 c = search needs
+
+mul-words-3 : tie.Need-mul-words-3
+mul-words-3 c = search needs
+
+element-write-words-3 : tie.Need-element-write-words-3
+element-write-words-3 c = search needs
+
 add-values : tie.Need-add-values
 add-values c = search needs
 
@@ -71,11 +75,9 @@ element-write-values c = search needs
 
 returns : tie.Need-returns
 returns c =
-    let at-await-clients = c .before .before .before .before .before .before in
-    let at-sized-arg2 = at-await-clients .before .before .before in
-    let at-volume-of = at-sized-arg2 .before .before .before in
-    begins _ _ _ _ _ _ _ (at-volume-of .volume-of .ensures) refl (at-await-clients .await-clients .ensures)
-    (at-sized-arg2 .sized-arg2 .given .0) _ _ (c .before .before .larger .ensures) (c .latest-end .ensures) _
+    let at-awaited = c .before .before .before .before .before .before in
+    let at-volume-of = at-awaited .before .before .before in
+    begins _ _ _ _ _ _ _ _ _ (at-volume-of .volume-of .ensures) refl (at-awaited .awaited .ensures) (c .before .before .larger .ensures) (c .latest-end .ensures) _
 
 pub begin-spec : {M : Type 1} → statement M
 begin-spec =
@@ -83,8 +85,7 @@ begin-spec =
     (tie.spec
     volume-of-requires
     cast-n
-    sized-requires
-    await-clients-requires
+    awaited-requires
     element-copy-out-larger
     add-larger
     add-larger-2
@@ -98,6 +99,9 @@ begin-spec =
     add-words-2
     mul-words-2
     element-write-words-2
+    add-words-3
+    mul-words-3
+    element-write-words-3
     add-values
     mul-values
     element-write-values

@@ -5,17 +5,18 @@ use Rattle.laws.specs.Loop.{foldFrom, fold-again, fold-end}
 use Rattle.laws.specs.Store.{storeAt, storeEach}
 use Rattle.protocol.specs.Tables.{byObject}
 use Rattle.protocol.specs.Server.{ofVolume}
+use Rattle.state_words.specs.Fields.{at, LEASE}
 use borrow.Author.Needs.{needs}
-use Rattle.server_dropped.proofs.clear_in_volume.Statement.{statement}
-use Rattle.server_dropped.proofs.clear_in_volume.Tie as tie
+use Rattle.server_dropped.proofs.clear_leases.Statement.{statement}
+use Rattle.server_dropped.proofs.clear_leases.Tie as tie
 
 abbrev Inv-loop : tie.InvT-loop
-Inv-loop s words₀ field client volume n object₀ words object =
-    let one-turn = storeAt {A = ℕ} (ofVolume s volume) (λ (o : ℕ). field + byObject client o) (λ (o : ℕ). 0) in
+Inv-loop s words₀ client volume n object₀ words object =
+    let one-turn = storeAt {A = ℕ} (ofVolume s volume) (λ (o : ℕ). at LEASE + byObject client o) (λ (o : ℕ). 0) in
     (object ≤ s .objects) × (foldFrom one-turn words object (s .objects - object) ≡ foldFrom one-turn words₀ 0 (s .objects))
 
 abbrev μ-loop : tie.MeasureT-loop
-μ-loop s words₀ field client volume n object₀ words object = s .objects - object
+μ-loop s words₀ client volume n object₀ words object = s .objects - object
 
 cast-n : tie.Need-cast-n Inv-loop μ-loop
 cast-n c = search needs
@@ -54,8 +55,8 @@ returns : tie.Need-returns Inv-loop μ-loop
 unfolding storeEach
 returns c = search fold-end
 
-pub clear-in-volume-spec : {M : Type 1} → statement M
-clear-in-volume-spec =
+pub clear-leases-spec : {M : Type 1} → statement M
+clear-leases-spec =
     tie.close
     (tie.spec
     Inv-loop

@@ -4,17 +4,18 @@ use native.Mathlib.Nat.{sub-zero}
 use Rattle.laws.specs.Loop.{foldFrom, fold-again, fold-end}
 use Rattle.laws.specs.Store.{storeAt, storeEach, always}
 use Rattle.protocol.specs.Tables.{byObject}
+use Rattle.state_words.specs.Fields.{at, LEASE}
 use borrow.Author.Needs.{needs}
-use Rattle.server_waiting.proofs.clients.clear_object.Statement.{statement}
-use Rattle.server_waiting.proofs.clients.clear_object.Tie as tie
+use Rattle.server_waiting.proofs.clients.clear_leases.Statement.{statement}
+use Rattle.server_waiting.proofs.clients.clear_leases.Tie as tie
 
 abbrev Inv-loop : tie.InvT-loop
-Inv-loop words₀ field object n d₀ words d =
-    let one-turn = storeAt {A = ℕ} always (λ (d : ℕ). field + byObject d object) (λ (d : ℕ). 0) in
-    (d ≤ n) × (foldFrom one-turn words d (n - d) ≡ foldFrom one-turn words₀ 0 n)
+Inv-loop words₀ object n client₀ words client =
+    let one-turn = storeAt {A = ℕ} always (λ (d : ℕ). at LEASE + byObject d object) (λ (d : ℕ). 0) in
+    (client ≤ n) × (foldFrom one-turn words client (n - client) ≡ foldFrom one-turn words₀ 0 n)
 
 abbrev μ-loop : tie.MeasureT-loop
-μ-loop words₀ field object n d₀ words d = n - d
+μ-loop words₀ object n client₀ words client = n - client
 
 loop-holds : tie.Need-loop-holds Inv-loop μ-loop
 loop-holds c = (search needs, rw sub-zero)
@@ -47,8 +48,8 @@ returns : tie.Need-returns Inv-loop μ-loop
 unfolding storeEach
 returns c = search fold-end
 
-pub clear-object-spec : {M : Type 1} → statement M
-clear-object-spec =
+pub clear-leases-spec : {M : Type 1} → statement M
+clear-leases-spec =
     tie.close
     (tie.spec
     Inv-loop
