@@ -2,16 +2,11 @@ ghost use mathlib.Core.Path.{_≡_};
 ghost use Rattle.protocol.specs.Leases.{clientAlive};
 ghost use Rattle.protocol.specs.Setup.{volumeOf};
 ghost use Rattle.protocol.specs.Tables.{noCopy};
-ghost use Rattle.protocol.specs.Client.{payloadOr, grantStored, swept};
-ghost use Rattle.protocol.specs.Decide.{kept};
+ghost use Rattle.protocol.specs.Client.{swept};
 ghost use Rattle.client_cache.specs.Shown.{shownAt};
-use protocol::message::Payload;
 use protocol::records::Copy;
 use protocol::setup::Setup;
-use protocol::step::Change;
-use protocol::step::CopyChange;
 use protocol::step::Sweep;
-use protocol::step::Turn;
 
 // Returns whether a lease is alive by the client's clock: "A lease is alive when its expiry is greater than the clock."
 fn alive(clock: u32, expiry: u32) -> bool
@@ -27,33 +22,6 @@ pub fn showable(clock: u32, lease: u32, c: Copy) -> bool
     let leased = alive(clock, lease);
     let held = alive(clock, c.expiry);
     (c.version != 0) & (leased & held)
-}
-
-// 02, A4: "A GRANT without a value .. keeps the value held."
-fn payload_or(held: u64, payload: Payload) -> u64
-    ensures { λ r. ⌜ r ≡ payloadOr held payload ⌝ }
-{
-    match payload {
-        Payload::Same => held,
-        Payload::Value(x) => x,
-    }
-}
-
-// Returns the change that a GRANT makes: "store its fields .. and end the request". 02, A4: "A GRANT without a value now always stores its other fields".
-pub fn store_grant(c: Copy, version: u32, expiry: u32, payload: Payload) -> Change
-    ensures { λ g. ⌜ g ≡ grantStored c version expiry payload ⌝ }
-{
-    let value = payload_or(c.value, payload);
-    let stored = Copy {
-        version: version,
-        value: value,
-        expiry: expiry,
-    };
-    Change {
-        copy: CopyChange::Fill(stored),
-        request: Turn::End,
-        sweep: Sweep::Keep,
-    }
 }
 
 // Returns an erased copy: "erase the copy (version, value and expiry 0)"; "version (0 is no copy)".
@@ -94,16 +62,5 @@ pub fn sweep(setup: Setup, g: Sweep, c: Copy, object: usize) -> Copy
             c
         }
         Sweep::Erase => none(),
-    }
-}
-
-// Returns the change that keeps all of a client's records.
-pub fn kept() -> Change
-    ensures { λ g. ⌜ g ≡ kept ⌝ }
-{
-    Change {
-        copy: CopyChange::Keep,
-        request: Turn::Keep,
-        sweep: Sweep::Keep,
     }
 }

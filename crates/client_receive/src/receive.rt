@@ -7,7 +7,7 @@ ghost use Rattle.protocol.specs.Decide.{byClient, invalidateReceived, offerRece
 ghost use Rattle.state_words.specs.View.{tablesOf, recordsOf};
 ghost use Rattle.client_receive.specs.Views.{grantHeard};
 use crate::view;
-use client_cache::copy;
+use client_cache::change;
 use client_cache::request;
 use lease_tests::place;
 use network_send::push;
@@ -61,9 +61,9 @@ pub fn grant(
             g.volume_expiry,
         );
         let payload = g.payload;
-        return copy::store_grant(c, g.version, g.object_expiry, payload);
+        return change::store_grant(c, g.version, g.object_expiry, payload);
     }
-    copy::kept()
+    change::unchanged()
 }
 
 // INVALIDATE: "erase the copy, forget a standing request for that object, send ACK with the same epoch and new version".
@@ -122,5 +122,5 @@ pub fn offer(
             sweep: Sweep::Expire(volume),
         };
     }
-    copy::kept()
+    change::unchanged()
 }

@@ -20,6 +20,7 @@ use Rattle.protocol.specs.Gate.{refusalOfStep, refusal}
 use Rattle.protocol.specs.Decide.{kept, answered, performed, decided}
 use Rattle.protocol.specs.Soundness.StepCases.{step-passes, accepted-all, setup-in-range, tables-sound}
 use Rattle.protocol.specs.Soundness.Answered.{performed-not-refused}
+use Rattle.step_verdict.specs.declared.Verdict.{Verdict}
 
 module _ (s : Setup) (t : Tables) (records : Bool) (r : Request) (x : Step) (k : ℕ) (p : k ≡ refusal s t records r x) where
   pub asked : k ≡ 0 → (inRange s ≡ true) × ((tablesSound s t ≡ true) × (refusalOfStep s t r x ≡ 0))
@@ -37,6 +38,6 @@ module _ (s : Setup) (t : Tables) (records : Bool) (r : Request) (x : Step) (k :
       not-both (eq-eqb (answerNumber a) 4 n)
       (ap (λ (d : Decision). isRefused (d .outcome .answer)) e ∙ performed-not-refused s t c r records x (accepted-all s t records r x (sym p ∙ h)))
 
-  pub refuses : (c : Copy) (g : Change) → (k ≡ 0 → ⊥) → g ≡ kept → answered g t (Refused k) ≡ decided s t records c r x
+  pub refuses : (c : Copy) (v : Verdict) → (k ≡ 0 → ⊥) → v ≡ record { change = kept; answer = Refused k } → answered (v .change) t (v .answer) ≡ decided s t records c r x
   unfolding decided
-  refuses c g h e = rw (← p, ne-eqb _ _ h, e)
+  refuses c v h e = rw (← p, ne-eqb _ _ h, e)

@@ -31,8 +31,5 @@ pub fn decide(
     if no == 0 {
         return step_perform::perform(setup, &mut *words, &mut *values, c, r, step);
     }
-    Verdict {
-        change: client_cache::copy::kept(),
-        answer: Answer::Refused(no),
-    }
+    step_verdict::keeping(Answer::Refused(no))
 }

@@ -8,7 +8,7 @@ ghost use Rattle.protocol.specs.SoundLaws.{Growing};
 ghost use Rattle.protocol.specs.Decide.{byClient, answered, deliverDecided};
 ghost use Rattle.state_words.specs.View.{tablesOf, recordsOf};
 ghost use Rattle.step_deliver.specs.Sides.{served, heard};
-use client_cache::copy;
+use client_cache::change;
 use client_receive::receive::Terms;
 use client_receive::receive::grant;
 use client_receive::receive::invalidate;
@@ -117,7 +117,7 @@ fn by_client(
             number,
             epoch,
         } => offer(words, values, r, client, volume, number, epoch),
-        _ => copy::kept(),
+        _ => change::unchanged(),
     }
 }
 

@@ -15,7 +15,7 @@ pub fn keeping(answer: Answer) -> Verdict
     ensures { λ v. ⌜ v ≡ record { change = kept; answer = answer } ⌝ }
 {
     Verdict {
-        change: client_cache::copy::kept(),
+        change: client_cache::change::unchanged(),
         answer,
     }
 }

@@ -21,12 +21,12 @@ returns c =
       ),
     )
 
-kept-requires : tie.Need-kept-requires
-kept-requires c κs = search needs
+keeping-requires : tie.Need-keeping-requires
+keeping-requires c κs = search needs
 
 returns-2 : tie.Need-returns-2
-returns-2 c = (refuses _ _ _ _ _ _ (c .before .before .refusal .ensures) _ _ (c .before .if1 .left) (c .kept .ensures), (λ n. (refl, refl), refl))
+returns-2 c = (refuses _ _ _ _ _ _ (c .before .before .refusal .ensures) _ _ (c .before .if1 .left) (c .keeping .ensures), (λ n. (refl, refl), refl))
 
 pub decide-spec : {M : Type 1} → statement M
 decide-spec =
-    tie.close (tie.spec refusal-requires perform-requires returns kept-requires returns-2)
+    tie.close (tie.spec refusal-requires perform-requires returns keeping-requires returns-2)

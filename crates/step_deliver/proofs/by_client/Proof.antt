@@ -29,8 +29,8 @@ offer-requires c κs =
     let h = offer-in _ _ (a .pre .1 .1) _ _ _ (at-k3 .k3 .given .1) in
     (omega (arith, a .pre .1 .0), omega arith)
 
-kept-requires : tie.Need-kept-requires
-kept-requires c κs = search needs
+unchanged-requires : tie.Need-unchanged-requires
+unchanged-requires c κs = search needs
 
 returns : tie.Need-returns
 returns c = (hears-grant _ _ _ _ _ _ _ _ _ _ _ _ _ _ (c .before .before .before .before .k .given .1) (c .grant .ensures .0), c .grant .ensures .1)
@@ -42,7 +42,7 @@ returns-3 : tie.Need-returns-3
 returns-3 c = (hears-offer _ _ _ _ _ _ _ _ _ _ (c .before .before .before .before .k3 .given .1) (c .offer .ensures .0), c .offer .ensures .1)
 
 returns-4 : tie.Need-returns-4
-returns-4 c = (hears-none _ _ _ _ _ _ _ (c .kept .ensures) (c .before .match .keys4), refl)
+returns-4 c = (hears-none _ _ _ _ _ _ _ (c .unchanged .ensures) (c .before .match .keys4), refl)
 
 pub by-client-spec : {M : Type 1} → statement M
 by-client-spec =
@@ -54,7 +54,7 @@ by-client-spec =
     invalidate-requires
     enum-known-k-3
     offer-requires
-    kept-requires
+    unchanged-requires
     returns
     returns-2
     returns-3

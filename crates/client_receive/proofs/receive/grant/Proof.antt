@@ -23,11 +23,11 @@ returns c =
     let a = at-stands .before in
     grant-yes _ _ _ _ _ _ _ (a .args .g) _ (at-stands .stands .ensures) _ _ _ (a .pre .1 .0) (at-volume-of .volume-of .ensures) (at-if1 .if1 .taken) (c .before .put .ensures) (c .store-grant .ensures)
 
-kept-requires : tie.Need-kept-requires
-kept-requires c κs = search needs
+unchanged-requires : tie.Need-unchanged-requires
+unchanged-requires c κs = search needs
 
 returns-2 : tie.Need-returns-2
-returns-2 c = grant-no _ _ _ _ _ _ _ (c .before .before .before .args .g) _ (c .before .before .stands .ensures) _ (c .before .if1 .left) (c .kept .ensures)
+returns-2 c = grant-no _ _ _ _ _ _ _ (c .before .before .before .args .g) _ (c .before .before .stands .ensures) _ (c .before .if1 .left) (c .unchanged .ensures)
 
 pub grant-spec : {M : Type 1} → statement M
 grant-spec =
@@ -38,5 +38,5 @@ grant-spec =
     put-requires
     store-grant-requires
     returns
-    kept-requires
+    unchanged-requires
     returns-2)

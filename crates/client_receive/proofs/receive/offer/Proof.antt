@@ -20,12 +20,12 @@ returns c =
     let a = at-stands .before in
     offer-yes _ _ _ _ _ _ _ _ (at-stands .stands .ensures) _ _ _ (a .pre .0) (a .pre .1) (at-if1 .if1 .taken) (at-put .put .ensures) (c .push .ensures)
 
-kept-requires : tie.Need-kept-requires
-kept-requires c κs = search needs
+unchanged-requires : tie.Need-unchanged-requires
+unchanged-requires c κs = search needs
 
 returns-2 : tie.Need-returns-2
-returns-2 c = offer-no _ _ _ _ _ _ _ _ (c .before .before .stands .ensures) _ (c .before .if1 .left) (c .kept .ensures)
+returns-2 c = offer-no _ _ _ _ _ _ _ _ (c .before .before .stands .ensures) _ (c .before .if1 .left) (c .unchanged .ensures)
 
 pub offer-spec : {M : Type 1} → statement M
 offer-spec =
-    tie.close (tie.spec stands-requires put-requires push-requires returns kept-requires returns-2)
+    tie.close (tie.spec stands-requires put-requires push-requires returns unchanged-requires returns-2)

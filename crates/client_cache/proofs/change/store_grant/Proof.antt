@@ -1,6 +1,6 @@
 use borrow.Author.Needs.{needs}
-use Rattle.client_cache.proofs.copy.store_grant.Statement.{statement}
-use Rattle.client_cache.proofs.copy.store_grant.Tie as tie
+use Rattle.client_cache.proofs.change.store_grant.Statement.{statement}
+use Rattle.client_cache.proofs.change.store_grant.Tie as tie
 
 payload-or-requires : tie.Need-payload-or-requires
 payload-or-requires c κs = search needs
