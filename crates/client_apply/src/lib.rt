@@ -9,7 +9,6 @@ ghost use Rattle.protocol.specs.Tables.{noCopy, noRequest};
 ghost use Rattle.protocol.specs.Client.{sweeps, CanTurn};
 ghost use Rattle.state_words.specs.View.{worldOf};
 ghost use Rattle.client_apply.specs.Changes.{copyPut, copyChanged, sweptOf, requestTurned, changedAt};
-use client_cache::copy;
 use client_cache::request;
 use client_records::copies;
 use client_records::requests;
@@ -21,6 +20,7 @@ use protocol::step::CopyChange;
 use protocol::step::Sweep;
 use protocol::step::Target;
 use protocol::step::Turn;
+use setup::fresh;
 use state_words::Values;
 use state_words::Words;
 
@@ -32,7 +32,7 @@ pub fn copy_of<'a>(setup: Setup, words: &'a Words, values: &'a Values, at: Targe
     if at.copy < setup.clients as usize * setup.objects as usize {
         return copies::copy_at(words, values, at.copy);
     }
-    copy::none()
+    fresh::fresh_copy()
 }
 
 // Returns the request that the step can touch. Only the contract needs the values.
@@ -43,12 +43,7 @@ pub fn request_of<'a>(setup: Setup, words: &'a Words, values: &'a Values, at: Ta
     if at.client < setup.clients as usize {
         return requests::request_at(words, at.client);
     }
-    Request {
-        next: 0,
-        standing: false,
-        number: 0,
-        object: 0,
-    }
+    fresh::no_request()
 }
 
 // Stores a copy if its place is within the setup.
@@ -70,7 +65,7 @@ fn change_copy(setup: Setup, words: &mut Words, values: &mut Values, place: usiz
     match u {
         CopyChange::Keep => {}
         CopyChange::Fill(c) => put_copy(setup, &mut *words, &mut *values, place, c),
-        CopyChange::Erase => put_copy(setup, &mut *words, &mut *values, place, copy::none()),
+        CopyChange::Erase => put_copy(setup, &mut *words, &mut *values, place, fresh::fresh_copy()),
     }
 }
 

@@ -1,12 +1,12 @@
 ghost use mathlib.Core.Path.{_≡_};
 ghost use Rattle.protocol.specs.Leases.{clientAlive};
 ghost use Rattle.protocol.specs.Setup.{volumeOf};
-ghost use Rattle.protocol.specs.Tables.{noCopy};
 ghost use Rattle.protocol.specs.Client.{swept};
 ghost use Rattle.client_cache.specs.Shown.{shownAt};
 use protocol::records::Copy;
 use protocol::setup::Setup;
 use protocol::step::Sweep;
+use setup::fresh::fresh_copy;
 
 // Returns whether a lease is alive by the client's clock: "A lease is alive when its expiry is greater than the clock."
 fn alive(clock: u32, expiry: u32) -> bool
@@ -22,17 +22,6 @@ pub fn showable(clock: u32, lease: u32, c: Copy) -> bool
     let leased = alive(clock, lease);
     let held = alive(clock, c.expiry);
     (c.version != 0) & (leased & held)
-}
-
-// Returns an erased copy: "erase the copy (version, value and expiry 0)"; "version (0 is no copy)".
-pub fn none() -> Copy
-    ensures { λ r. ⌜ r ≡ noCopy ⌝ }
-{
-    Copy {
-        version: 0,
-        value: 0,
-        expiry: 0,
-    }
 }
 
 // Returns the object's volume, or 0 if there is no slot for it.
@@ -61,6 +50,6 @@ pub fn sweep(setup: Setup, g: Sweep, c: Copy, object: usize) -> Copy
             }
             c
         }
-        Sweep::Erase => none(),
+        Sweep::Erase => fresh_copy(),
     }
 }

@@ -4,6 +4,7 @@ ghost use Rattle.protocol.specs.Client.{numbered, ended, turned, CanTurn, stand
 ghost use Rattle.setup.specs.Limits.{largest};
 use protocol::records::Request;
 use protocol::step::Turn;
+use setup::fresh::idle;
 
 // Step 3: "take the next number, replace the standing request".
 pub fn number(r: Request, object: u8) -> Request
@@ -22,12 +23,7 @@ pub fn number(r: Request, object: u8) -> Request
 pub fn end(r: Request) -> Request
     ensures { λ q. ⌜ q ≡ ended r ⌝ }
 {
-    Request {
-        next: r.next,
-        standing: false,
-        number: 0,
-        object: 0,
-    }
+    idle(r.next)
 }
 
 // Returns the request after a turn.

@@ -3,12 +3,12 @@ ghost use lib.ListN.{getD, set};
 ghost use Rattle.protocol.specs.Tables.{noCopy};
 ghost use Rattle.protocol.specs.Client.{changed};
 ghost use Rattle.protocol.specs.Sound.{copiesSound};
-use client_cache::copy::none;
 use gate_records::copies::as_many;
 use gate_records::copies::still_sound;
 use protocol::records::Copy;
 use protocol::setup::Setup;
 use protocol::step::CopyChange;
+use setup::fresh::fresh_copy;
 
 // Returns the copy at index i of "a lent list of records, all dashes' in one"; indices past the end read as no copy.
 pub fn look(copies: &[Copy], i: usize) -> Copy
@@ -17,11 +17,7 @@ pub fn look(copies: &[Copy], i: usize) -> Copy
     if i < copies.len() {
         return copies[i];
     }
-    Copy {
-        version: 0,
-        value: 0,
-        expiry: 0,
-    }
+    fresh_copy()
 }
 
 // Stores a copy at index i, or does nothing if i is past the end.
@@ -37,7 +33,7 @@ pub fn store(copies: &mut [Copy], i: usize, c: Copy)
 pub fn erase(copies: &mut [Copy], i: usize)
     ensures { λ _. ⌜ now (copies .exit) ≡ set (now (copies .entry)) i noCopy ⌝ }
 {
-    let c = none();
+    let c = fresh_copy();
     store(&mut *copies, i, c);
 }
 

@@ -11,6 +11,7 @@ use gate_records::requests::as_many;
 use gate_records::requests::still_sound;
 use protocol::records::Request;
 use protocol::setup::Setup;
+use setup::fresh::no_request;
 
 // Returns the request of client i; indices past the end read as no request.
 pub fn look(requests: &[Request], i: usize) -> Request
@@ -19,12 +20,7 @@ pub fn look(requests: &[Request], i: usize) -> Request
     if i < requests.len() {
         return requests[i];
     }
-    Request {
-        next: 0,
-        standing: false,
-        number: 0,
-        object: 0,
-    }
+    no_request()
 }
 
 // Takes the next number for a request for the object, which becomes the standing request: "one record, lent and updated". Returns the number.

@@ -15,8 +15,8 @@ put-copy-requires c κs = search needs
 enum-told-2 : tie.Need-enum-told-2
 enum-told-2 c = search needs
 
-none-requires : tie.Need-none-requires
-none-requires c κs = search needs
+fresh-copy-requires : tie.Need-fresh-copy-requires
+fresh-copy-requires c κs = search needs
 
 put-copy-requires-2 : tie.Need-put-copy-requires-2
 put-copy-requires-2 c κs = search needs
@@ -38,7 +38,7 @@ change-copy-spec =
     enum-known-u
     put-copy-requires
     enum-told-2
-    none-requires
+    fresh-copy-requires
     put-copy-requires-2
     returns
     returns-2

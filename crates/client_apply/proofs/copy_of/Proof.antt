@@ -20,13 +20,13 @@ copy-at-requires c κs = copy-there _ (c .before .before .before .before .pre) _
 returns : tie.Need-returns
 returns c = copy-inside (c .before .before .before .before .before .args .setup) _ _ _ _ (c .before .if1 .taken) (c .copy-at .ensures)
 
-none-requires : tie.Need-none-requires
-none-requires c κs = search needs
+fresh-copy-requires : tie.Need-fresh-copy-requires
+fresh-copy-requires c κs = search needs
 
 returns-2 : tie.Need-returns-2
-returns-2 c = copy-past (c .before .before .before .before .before .args .setup) _ _ _ _ (c .before .if1 .left) (c .none .ensures)
+returns-2 c = copy-past (c .before .before .before .before .before .args .setup) _ _ _ _ (c .before .if1 .left) (c .fresh-copy .ensures)
 
 pub copy-of-spec : {M : Type 1} → statement M
 copy-of-spec =
     tie.close
-    (tie.spec cast-if1 cast-if1-2 mul-if1 copy-at-requires returns none-requires returns-2)
+    (tie.spec cast-if1 cast-if1-2 mul-if1 copy-at-requires returns fresh-copy-requires returns-2)

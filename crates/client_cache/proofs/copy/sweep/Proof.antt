@@ -18,8 +18,8 @@ returns c = search sweeping
 enum-told-2 : tie.Need-enum-told-2
 enum-told-2 c = search needs
 
-none-requires : tie.Need-none-requires
-none-requires c κs = search needs
+fresh-copy-requires : tie.Need-fresh-copy-requires
+fresh-copy-requires c κs = search needs
 
 returns-2 : tie.Need-returns-2
 returns-2 c = search sweeping
@@ -39,7 +39,7 @@ sweep-spec =
     volume-of-requires
     returns
     enum-told-2
-    none-requires
+    fresh-copy-requires
     returns-2
     returns-3
     returns-4)

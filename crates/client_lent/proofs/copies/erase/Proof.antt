@@ -49,10 +49,10 @@ use Rattle.protocol.proofs.records.Copy as R-
 use Rattle.protocol.proofs.records.Copy.Laws as R′
 use denote.Struct.Laws as LL
 use Rattle.client_lent.specs.Rows.{lend-mut, back-mut}
-use Rattle.client_cache.proofs.copy.none as no-copy-c
-use Rattle.client_cache.proofs.copy.none.Symbol as no-copy-def
-use Rattle.client_cache.proofs.copy.none.Symbol.{name as #cache·copy·none}
-use Rattle.client_cache.proofs.copy.none.Met as no-copy-thm
+use Rattle.setup.proofs.fresh.fresh_copy as no-copy-c
+use Rattle.setup.proofs.fresh.fresh_copy.Symbol as no-copy-def
+use Rattle.setup.proofs.fresh.fresh_copy.Symbol.{name as #setup·fresh·fresh-copy}
+use Rattle.setup.proofs.fresh.fresh_copy.Met as no-copy-thm
 use Rattle.client_lent.proofs.copies.store as store-c
 use Rattle.client_lent.proofs.copies.store.Symbol as store-def
 use Rattle.client_lent.proofs.copies.store.Symbol.{name as #lent-copies·copies·store}
@@ -100,7 +100,7 @@ module _ {M : Type 1} (𝓤 : URA M) (H : Heap 𝓤) (A : Atoms 𝓤) (W : Given
   said-R : {w : Val} (c : Copy) → Is R c (w ∷ []) → Is R c (val-R c ∷ [])
   said-R {w} c is = subst (λ (vs : List Val). Is R c vs) (LL.tells R-.the-type R′.the-laws c (w ∷ []) is) is
 
-  -- the call of `none`
+  -- the call of `fresh_copy`
   abbrev args-no-copy : Unit {0}
   args-no-copy = tt
 
@@ -140,8 +140,8 @@ module _ {M : Type 1} (𝓤 : URA M) (H : Heap 𝓤) (A : Atoms 𝓤) (W : Given
       nothing ! $ owned ! usize (Is usize) (uint-makes 𝓤 H A W w64) i _ (refl, i-fits) $ fjoin ! $ move ! (1 ∷ 0 ∷ []) $ fjoin ! $
       feqI ! (List Val) (vunit ∷ []) (vunit ∷ []) refl $ move ! (1 ∷ 0 ∷ []) $ done !
 
-  module _ (𝓣 : Tables 𝓤 H)
-      (fm : FmC 𝓤 H (W .laws) (𝓣 .C)) (known-no-copy : Triple 𝓤 (𝓣 .C #cache·copy·none) (On-no-copy 𝓤 H A at-mem run))
+  module _ (𝓣 : Tables 𝓤 H) (fm : FmC 𝓤 H (W .laws) (𝓣 .C))
+      (known-no-copy : Triple 𝓤 (𝓣 .C #setup·fresh·fresh-copy) (On-no-copy 𝓤 H A at-mem run))
       (known-store : Triple 𝓤 (𝓣 .C #lent-copies·copies·store) (On-store 𝓤 H A at-mem run)) where
     walk : Room R n → ent 𝓤 (onEntry 𝓤 H A this.signature (κ, tt) (q, tt) a at) (WpFn 𝓤 H (𝓣 .C) (𝓣 .Λ) code.function (s ∷ vint w64 i ∷ []) Post)
     walk gn =
@@ -150,7 +150,7 @@ module _ {M : Type 1} (𝓤 : URA M) (H : Heap 𝓤) (A : Atoms 𝓤) (W : Given
         alloc1 ! (λ l₆. alloc0 ! $ params1 ! $ pass1 ! (init ! 10 refl (tt, (tt, (record { fits = gn .0 }, tt)))) $
         pass1 ! (init ! 8 refl (tt, record { fits = i-fits })) $ pass0 ! $
         move ! (15 ∷ []) $ fsplit ! $ fsplit ! $ move ! (1 ∷ []) $ fsplit ! $ move ! (18 ∷ []) $ split ! $ move ! (2 ∷ 3 ∷ 0 ∷ []) $ opens-slice ! tt R ys b o $
-        -- the call of `none`
+        -- the call of `fresh_copy`
         use0 W (raw (On-no-copy 𝓤 H A at-mem run .pre (to-no-copy))) (goes-no-copy) $
         calls-at ! fm (On-no-copy 𝓤 H A at-mem run) known-no-copy (to-no-copy) (no-more !) (λ w.
         use1 W (later (some (λ (r : Copy). (‵ ftrue ⊛ ‵ (R .own r (w ∷ [])))
@@ -196,7 +196,7 @@ module _ {M : Type 1} (𝓤 : URA M) (H : Heap 𝓤) (A : Atoms 𝓤) (W : Given
         keep ! (0 ∷ 1 ∷ 2 ∷ []) $ by ! (exits (set ys i noCopy) refl (length-set ys i noCopy) gn))))))))))))))))))))
 
 module _ {M : Type 1} (𝓤 : URA M) (H : Heap 𝓤) (A : Atoms 𝓤) (W : Given 𝓤 H A) (mem : Memory → SProp 𝓤) (run : Routine → Fun 𝓤) where
-  this-walks : (𝓣 : Tables 𝓤 H) → Triple 𝓤 (𝓣 .C #cache·copy·none) (On-no-copy 𝓤 H A mem run)
+  this-walks : (𝓣 : Tables 𝓤 H) → Triple 𝓤 (𝓣 .C #setup·fresh·fresh-copy) (On-no-copy 𝓤 H A mem run)
       → Triple 𝓤 (𝓣 .C #lent-copies·copies·store) (On-store 𝓤 H A mem run)
       → Walks 𝓤 H A this.ended stayed (WpFn 𝓤 H (𝓣 .C) (𝓣 .Λ) code.function) (this.clauses 𝓤 H A mem run)
   this-walks 𝓣 known-no-copy known-store =
@@ -207,7 +207,7 @@ module _ {M : Type 1} (𝓤 : URA M) (H : Heap 𝓤) (A : Atoms 𝓤) (W : Given
       (a .0 .now) (a .1 .0) (are .1 .0 .1) 𝓣 (fmOf 𝓤 H (W .laws) 𝓣) known-no-copy known-store (are .0 .0 .1)))
 
 this-meets : {M : Type 1} (𝓤 : URA M) (H : Heap 𝓤) (A : Atoms 𝓤) → Given 𝓤 H A → (mem : Memory → SProp 𝓤) (run : Routine → Fun 𝓤) (𝓣 : Tables 𝓤 H)
-    → Triple 𝓤 (𝓣 .C #cache·copy·none) (On-no-copy 𝓤 H A mem run)
+    → Triple 𝓤 (𝓣 .C #setup·fresh·fresh-copy) (On-no-copy 𝓤 H A mem run)
     → Triple 𝓤 (𝓣 .C #lent-copies·copies·store) (On-store 𝓤 H A mem run)
     → Meets 𝓤 H A this.signature (WpFn 𝓤 H (𝓣 .C) (𝓣 .Λ) code.function) (this.spec 𝓤 H A mem run)
 this-meets 𝓤 H A W mem run 𝓣 known-no-copy known-store =
@@ -220,7 +220,7 @@ erase-spec 𝓤 H 𝓜 𝓖 𝓡 =
     entered 𝓤 H (tripleOf 𝓤 H (𝓖 .A) this.signature (this.spec 𝓤 H (𝓖 .A) (𝓜 .mem) (𝓡 .run)))
     (tables 𝓤 H 𝓜 𝓡 code.env .C) (tables 𝓤 H 𝓜 𝓡 code.env .Λ) #lent-copies·copies·erase code.function (code.unfolded 𝓤 H 𝓜 𝓡)
     (this-meets 𝓤 H (𝓖 .A) (givenOf 𝓤 H 𝓜 𝓖) (𝓜 .mem) (𝓡 .run) (tablesOf 𝓤 H 𝓜 (tables 𝓤 H 𝓜 𝓡 code.env))
-    (cited 𝓤 H (On-no-copy 𝓤 H (𝓖 .A) (𝓜 .mem) (𝓡 .run))
-    𝓜 𝓡 code.env #cache·copy·none no-copy-def.routine code.calls-client-cache·copy·none (no-copy-thm.met 𝓤 H 𝓜 𝓖 𝓡))
+    (cited 𝓤 H (On-no-copy 𝓤 H (𝓖 .A) (𝓜 .mem) (𝓡 .run)) 𝓜 𝓡
+    code.env #setup·fresh·fresh-copy no-copy-def.routine code.calls-setup·fresh·fresh-copy (no-copy-thm.met 𝓤 H 𝓜 𝓖 𝓡))
     (cited 𝓤 H (On-store 𝓤 H (𝓖 .A) (𝓜 .mem) (𝓡 .run)) 𝓜 𝓡
     code.env #lent-copies·copies·store store-def.routine code.calls-client-lent·copies·store (store-thm.met 𝓤 H 𝓜 𝓖 𝓡)))
