@@ -1,7 +1,7 @@
 // Converts a message to its fields as numbers, by its kind, and back.
 ghost use mathlib.Core.Path.{_≡_};
 ghost use Rattle.protocol.specs.declared.message.Kind.the-variants.{Grant};
-ghost use Rattle.message_fields.specs.Fields.{row, kindFields, fieldsOf, payloadIn, kindIn, messageIn, same, sound};
+ghost use Rattle.message_fields.specs.Fields.{row, kindFields, fieldsOf, payloadIn, kindIn, messageIn, sound};
 ghost use Rattle.message_fields.specs.Questions.{payloadRight, noLease};
 use protocol::message::Kind;
 use protocol::message::Message;
@@ -203,20 +203,6 @@ pub fn message_in(f: Fields) -> Message
         client: f.client,
         kind: kind_in(f),
     }
-}
-
-pub fn same(a: Fields, b: Fields) -> bool
-    ensures { λ r. ⌜ r ≡ same a b ⌝ }
-{
-    let head = (a.kind == b.kind)
-        & (a.client == b.client)
-        & (a.object == b.object)
-        & (a.present == b.present);
-    let times = head
-        & (a.number == b.number)
-        & (a.volume_expiry == b.volume_expiry)
-        & (a.epoch == b.epoch);
-    times & (a.version == b.version) & (a.object_expiry == b.object_expiry) & (a.value == b.value)
 }
 
 // Returns whether a GRANT's value flag is right: 1, or 0 with value 0.

@@ -3,16 +3,32 @@ use crate::lines::end;
 use crate::lines::fields;
 use crate::lines::number;
 use crate::lines::text;
+use message_fields::Fields;
 use protocol::message::Message;
 use protocol::records::Copy;
 use protocol::records::Request;
 use state_words::Values;
 use state_words::Words;
 
+fn same_fields(before: Fields, after: Fields) -> bool {
+    let head = (before.kind == after.kind)
+        & (before.client == after.client)
+        & (before.object == after.object)
+        & (before.present == after.present);
+    let times = head
+        & (before.number == after.number)
+        & (before.volume_expiry == after.volume_expiry)
+        & (before.epoch == after.epoch);
+    times
+        & (before.version == after.version)
+        & (before.object_expiry == after.object_expiry)
+        & (before.value == after.value)
+}
+
 fn message(i: usize, before: Message, after: Message) {
     let fields_before = message_fields::fields_of(before);
     let fields_after = message_fields::fields_of(after);
-    if message_fields::same(fields_before, fields_after) {
+    if same_fields(fields_before, fields_after) {
         return;
     }
     number(b"  message ", i as u64);
