@@ -7,6 +7,7 @@ use protocol::records::Copy;
 use protocol::setup::Setup;
 use protocol::step::Sweep;
 use setup::fresh::fresh_copy;
+use setup::limits::OBJECTS;
 
 // Returns whether a lease is alive by the client's clock: "A lease is alive when its expiry is greater than the clock."
 fn alive(clock: u32, expiry: u32) -> bool
@@ -28,7 +29,7 @@ pub fn showable(clock: u32, lease: u32, c: Copy) -> bool
 fn volume_of(setup: Setup, o: usize) -> u8
     ensures { λ r. ⌜ r ≡ volumeOf setup o ⌝ }
 {
-    if o < 32 {
+    if o < OBJECTS {
         return setup.volume[o];
     }
     0

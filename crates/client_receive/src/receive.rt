@@ -6,6 +6,7 @@ ghost use Rattle.protocol.specs.Setup.{inRange};
 ghost use Rattle.protocol.specs.Decide.{byClient, invalidateReceived, offerReceived};
 ghost use Rattle.state_words.specs.View.{tablesOf, recordsOf};
 ghost use Rattle.client_receive.specs.Views.{grantHeard};
+ghost use Rattle.setup.specs.Limits.{CLIENTS, VOLUMES};
 use crate::view;
 use client_cache::change;
 use client_cache::request;
@@ -103,8 +104,8 @@ pub fn offer(
     number: u32,
     epoch: u32,
 ) -> Change
-    requires { ⌜ client < 16 ⌝ }
-    requires { ⌜ volume < 8 ⌝ }
+    requires { ⌜ client < CLIENTS ⌝ }
+    requires { ⌜ volume < VOLUMES ⌝ }
     ensures { λ u. ⌜ byClient u (tablesOf (now (words .exit)) (now (values .exit))) ≡ offerReceived (tablesOf (now (words .entry)) (now (values .entry))) r client volume number epoch ⌝ }
     ensures { λ _. ⌜ recordsOf (now (words .exit)) (now (values .exit)) ≡ recordsOf (now (words .entry)) (now (values .entry)) ⌝ }
 {

@@ -3,14 +3,15 @@ ghost use mathlib.Core.Path.{_≡_};
 ghost use Prim.Native.Nat.{_<_};
 ghost use Rattle.protocol.specs.Tables.{byVolume};
 ghost use Rattle.client_receive.specs.Views.{viewStored};
-use state_words::VOLUMES;
+ghost use Rattle.setup.specs.Limits.{CLIENTS, VOLUMES};
+use setup::limits::VOLUMES;
 use state_words::Words;
 use state_words::client;
 
 // Stores the volume's epoch and the expiry of the client's volume lease: "store its fields, epoch too".
 pub fn put(words: &mut Words, client: usize, volume: usize, epoch: u32, expiry: u32)
-    requires { ⌜ client < 16 ⌝ }
-    requires { ⌜ volume < 8 ⌝ }
+    requires { ⌜ client < CLIENTS ⌝ }
+    requires { ⌜ volume < VOLUMES ⌝ }
     ensures { λ _. ⌜ now (words .exit) ≡ viewStored (now (words .entry)) (byVolume client volume) epoch expiry ⌝ }
 {
     words[client::VIEW_EPOCH + (client * VOLUMES + volume)] = epoch;

@@ -4,6 +4,7 @@ ghost use lib.ListN.{getD};
 ghost use Rattle.protocol.specs.Tables.{noCopy};
 ghost use Rattle.state_words.specs.View.{tablesOf, recordsOf};
 ghost use Rattle.client_records.specs.Stores.{withCopy, sweptOver};
+ghost use Rattle.state_words.specs.Fields.{CLIENT-OBJECTS};
 use client_cache::copy;
 use protocol::records::Copy;
 use protocol::setup::Setup;
@@ -14,7 +15,7 @@ use state_words::client as fields;
 use state_words::pass;
 
 pub fn copy_at<'a>(words: &'a Words, values: &'a Values, place: usize) -> Copy
-    requires { ⌜ place < 512 ⌝ }
+    requires { ⌜ place < CLIENT-OBJECTS ⌝ }
     ensures { λ r. ⌜ r ≡ getD (recordsOf (now (words .entry)) (now (values .entry)) .copies) place noCopy ⌝ }
 {
     Copy {
@@ -25,7 +26,7 @@ pub fn copy_at<'a>(words: &'a Words, values: &'a Values, place: usize) -> Copy
 }
 
 pub fn put_copy(words: &mut Words, values: &mut Values, place: usize, c: Copy)
-    requires { ⌜ place < 512 ⌝ }
+    requires { ⌜ place < CLIENT-OBJECTS ⌝ }
     ensures { λ _. ⌜ tablesOf (now (words .exit)) (now (values .exit)) ≡ tablesOf (now (words .entry)) (now (values .entry)) ⌝ }
     ensures { λ _. ⌜ recordsOf (now (words .exit)) (now (values .exit)) ≡ withCopy (recordsOf (now (words .entry)) (now (values .entry))) place c ⌝ }
 {
@@ -39,7 +40,7 @@ pub fn put_copy(words: &mut Words, values: &mut Values, place: usize, c: Copy)
 // Sweeps n copies, beginning at `first`: sets a volume's "object expiries to 0", or erases all, since after a restart "only its next request number
 // remains".
 pub fn sweep(setup: Setup, words: &mut Words, values: &mut Values, g: Sweep, first: usize, n: usize)
-    requires { ⌜ first + n ≤ 512 ⌝ }
+    requires { ⌜ first + n ≤ CLIENT-OBJECTS ⌝ }
     ensures { λ _. ⌜ tablesOf (now (words .exit)) (now (values .exit)) ≡ tablesOf (now (words .entry)) (now (values .entry)) ⌝ }
     ensures { λ _. ⌜ recordsOf (now (words .exit)) (now (values .exit)) ≡ sweptOver setup g first n (recordsOf (now (words .entry)) (now (values .entry))) ⌝ }
 {

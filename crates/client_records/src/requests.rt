@@ -4,6 +4,7 @@ ghost use lib.ListN.{getD};
 ghost use Rattle.protocol.specs.Tables.{noRequest};
 ghost use Rattle.state_words.specs.View.{requestsOf};
 ghost use Rattle.client_records.specs.Stores.{RequestPut};
+ghost use Rattle.setup.specs.Limits.{CLIENTS};
 use protocol::records::Request;
 use state_words::Words;
 use state_words::client as fields;
@@ -11,7 +12,7 @@ use state_words::pass;
 
 // Returns a client's request. Any nonzero word is a set flag; only the lowest byte of the object counts.
 pub fn request_at(words: &Words, client: usize) -> Request
-    requires { ⌜ client < 16 ⌝ }
+    requires { ⌜ client < CLIENTS ⌝ }
     ensures { λ r. ⌜ r ≡ getD (requestsOf (now (words .entry))) client noRequest ⌝ }
 {
     Request {
@@ -23,7 +24,7 @@ pub fn request_at(words: &Words, client: usize) -> Request
 }
 
 pub fn put_request(words: &mut Words, client: usize, r: Request)
-    requires { ⌜ client < 16 ⌝ }
+    requires { ⌜ client < CLIENTS ⌝ }
     ensures { λ _. ⌜ RequestPut (now (words .entry)) (now (words .exit)) client r ⌝ }
 {
     pass::sized(&*words);

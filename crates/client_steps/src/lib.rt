@@ -14,7 +14,7 @@ use protocol::records::Copy;
 use protocol::records::Request;
 use protocol::setup::Setup;
 use protocol::step::Answer;
-use state_words::VOLUMES;
+use setup::limits::VOLUMES;
 use state_words::Values;
 use state_words::Words;
 use state_words::client;
@@ -73,7 +73,7 @@ pub fn restart(setup: Setup, words: &mut Words, values: &Values, client: u8)
     ensures { λ _. ⌜ recordsOf (now (words .exit)) (now (values .entry)) ≡ recordsOf (now (words .entry)) (now (values .entry)) ⌝ }
 {
     let n = setup.volumes as usize;
-    let first = client as usize * 8;
+    let first = client as usize * VOLUMES;
     pass::fill(&mut *words, client::VIEW_EPOCH + first, n, 0);
     pass::fill(&mut *words, client::VIEW_EXPIRY + first, n, 0);
 }

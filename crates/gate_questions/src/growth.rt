@@ -8,6 +8,7 @@ ghost use Rattle.protocol.specs.Sound.{canGrow};
 ghost use Rattle.protocol.specs.Tables.{epochAt, versionAt};
 ghost use Rattle.protocol.specs.Gate.{isWrite, growable};
 ghost use Rattle.state_words.specs.View.{numbersOf};
+ghost use Rattle.setup.specs.Limits.{VOLUMES};
 use protocol::records::Request;
 use protocol::setup::Setup;
 use protocol::step::Step;
@@ -21,7 +22,7 @@ fn version_grows(words: &Words, step: Step) -> bool
     ensures { λ r. ⌜ r ≡ (not (isWrite step) || canGrow (versionAt (numbersOf (now (words .entry))) (step .object))) ⌝ }
 {
     let object = step.object as usize;
-    if object < 32 {
+    if object < limits::OBJECTS {
         return (step.kind != known_kinds::WRITE)
             | (words[server::VERSION + object] < limits::LARGEST);
     }
@@ -30,7 +31,7 @@ fn version_grows(words: &Words, step: Step) -> bool
 
 // Returns whether the epochs of the first n volumes can all grow: "Is .. every epoch .. that must grow below 4,294,967,295?"
 fn epochs_grow(words: &Words, n: usize) -> bool
-    requires { ⌜ n ≤ 8 ⌝ }
+    requires { ⌜ n ≤ VOLUMES ⌝ }
     ensures { λ r. ⌜ r ≡ allFrom (λ (v : ℕ). canGrow (epochAt (numbersOf (now (words .entry))) v)) 0 n ⌝ }
 {
     let mut ok = true;

@@ -4,6 +4,7 @@ ghost use Rattle.state_words.specs.View.{tablesOf};
 use gate_message::messages::message_sound;
 use network_queue::list;
 use protocol::setup::Setup;
+use setup::limits::PLACES;
 use state_words::Values;
 use state_words::Words;
 use state_words::network;
@@ -13,7 +14,7 @@ pub fn queue_sound(setup: Setup, words: &Words, values: &Values) -> bool
     ensures { λ r. ⌜ r ≡ queueSound setup (tablesOf (now (words .entry)) (now (values .entry)) .queue) ⌝ }
 {
     let length = words[network::LENGTH];
-    if 64 < length {
+    if (PLACES as u32) < length {
         return false;
     }
     let n = length as usize;

@@ -6,11 +6,12 @@ ghost use Rattle.laws.specs.Loop.{allFrom};
 ghost use Rattle.protocol.specs.Setup.{inRange};
 ghost use Rattle.protocol.specs.Sound.{volumeSound, objectSound, sessionSound, sessionsSound, holderSound, holdersSound, tablesSound};
 ghost use Rattle.state_words.specs.View.{tablesOf, numbersOf};
+ghost use Rattle.setup.specs.Limits.{CLIENTS, OBJECTS, VOLUMES};
 use crate::messages;
 use protocol::setup::Setup;
 use setup::limits;
-use state_words::OBJECTS;
-use state_words::VOLUMES;
+use setup::limits::OBJECTS;
+use setup::limits::VOLUMES;
 use state_words::Values;
 use state_words::Words;
 use state_words::client;
@@ -19,7 +20,7 @@ use state_words::server;
 
 // Returns whether the first n volumes are sound: "server epochs .. at least 1", VE and guard in range ("expiries .., guards .. at most 2,148,483,647").
 fn volumes_fit(words: &Words, n: usize) -> bool
-    requires { ⌜ n ≤ 8 ⌝ }
+    requires { ⌜ n ≤ VOLUMES ⌝ }
     ensures { λ r. ⌜ r ≡ allFrom (volumeSound (numbersOf (now (words .entry)))) 0 n ⌝ }
 {
     let mut ok = true;
@@ -38,7 +39,7 @@ fn volumes_fit(words: &Words, n: usize) -> bool
 // Returns whether the first n objects are sound: "versions .. at least 1", OEs and the latest ends of standing writes in range ("expiries .. and latest
 // ends at most 2,148,483,647"), and "a version with a standing write below 4,294,967,295".
 fn objects_fit(words: &Words, n: usize) -> bool
-    requires { ⌜ n ≤ 32 ⌝ }
+    requires { ⌜ n ≤ OBJECTS ⌝ }
     ensures { λ r. ⌜ r ≡ allFrom (objectSound (numbersOf (now (words .entry)))) 0 n ⌝ }
 {
     let mut ok = true;
@@ -56,8 +57,8 @@ fn objects_fit(words: &Words, n: usize) -> bool
 
 // Returns whether the expiries of one client's volume leases are in range, both at the server and at the client: "expiries .. at most 2,148,483,647".
 fn sessions_fit(words: &Words, client: usize, n: usize) -> bool
-    requires { ⌜ client < 16 ⌝ }
-    requires { ⌜ n ≤ 8 ⌝ }
+    requires { ⌜ client < CLIENTS ⌝ }
+    requires { ⌜ n ≤ VOLUMES ⌝ }
     ensures { λ r. ⌜ r ≡ allFrom (sessionSound (numbersOf (now (words .entry))) client) 0 n ⌝ }
 {
     let mut ok = true;
@@ -73,8 +74,8 @@ fn sessions_fit(words: &Words, client: usize, n: usize) -> bool
 
 // Returns whether the expiries of one client's object leases at the server are in range: "expiries .. at most 2,148,483,647".
 fn holders_fit(words: &Words, client: usize, n: usize) -> bool
-    requires { ⌜ client < 16 ⌝ }
-    requires { ⌜ n ≤ 32 ⌝ }
+    requires { ⌜ client < CLIENTS ⌝ }
+    requires { ⌜ n ≤ OBJECTS ⌝ }
     ensures { λ r. ⌜ r ≡ allFrom (holderSound (numbersOf (now (words .entry))) client) 0 n ⌝ }
 {
     let mut ok = true;

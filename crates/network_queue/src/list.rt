@@ -7,8 +7,10 @@ ghost use Rattle.state_words.specs.Fields.{wordLengths, valueLengths, MESSAGES,
 ghost use Rattle.state_words.specs.LiveRows.{Live};
 ghost use Rattle.state_words.specs.Rows.{stray, messageOf};
 ghost use Rattle.state_words.specs.View.{tablesOf};
+ghost use Rattle.setup.specs.Limits.{PLACES};
 use protocol::message::Kind;
 use protocol::message::Message;
+use setup::limits::PLACES;
 use state_words::Values;
 use state_words::Words;
 use state_words::network;
@@ -44,7 +46,7 @@ fn stray() -> Message
 
 // Returns the message in a row, or `stray` if the row does not encode one.
 fn message_of(words: &Words, values: &Values, place: usize) -> Message
-    requires { ⌜ place < 64 ⌝ }
+    requires { ⌜ place < PLACES ⌝ }
     ensures { λ r. ⌜ r ≡ messageOf (parts wordLengths (now (words .entry)) MESSAGES) (parts valueLengths (now (values .entry)) MESSAGE-VALUE) place ⌝ }
 {
     let found = network_rows::row::load(words, values, place);
@@ -58,7 +60,7 @@ fn message_of(words: &Words, values: &Values, place: usize) -> Message
 pub fn message_at(words: &Words, values: &Values, place: usize) -> Message
     ensures { λ r. ⌜ r ≡ messageAt (tablesOf (now (words .entry)) (now (values .entry)) .queue) place ⌝ }
 {
-    if 64 <= place {
+    if PLACES <= place {
         return blank();
     }
     if words[network::LENGTH] <= place as u32 {

@@ -3,6 +3,7 @@ ghost use mathlib.Core.Path.{_≡_};
 ghost use Prim.Native.Nat.{_<_, _≤_};
 ghost use Rattle.protocol.specs.Decide.{taken};
 ghost use Rattle.state_words.specs.View.{tablesOf, recordsOf};
+ghost use Rattle.setup.specs.Limits.{PLACES};
 use state_words::Values;
 use state_words::Words;
 use state_words::network;
@@ -11,7 +12,7 @@ use state_words::pass;
 // Removes the message at a place: "A removal closes the gap." The row left over past the new end reads as blank, so it need not be cleared.
 pub fn remove(words: &mut Words, values: &mut Values, place: usize)
     requires { ⌜ place < tablesOf (now words) (now values) .queue .len ⌝ }
-    requires { ⌜ tablesOf (now words) (now values) .queue .len ≤ 64 ⌝ }
+    requires { ⌜ tablesOf (now words) (now values) .queue .len ≤ PLACES ⌝ }
     ensures { λ _. ⌜ tablesOf (now (words .exit)) (now (values .exit)) ≡ taken (tablesOf (now (words .entry)) (now (values .entry))) place ⌝ }
     ensures { λ _. ⌜ recordsOf (now (words .exit)) (now (values .exit)) ≡ recordsOf (now (words .entry)) (now (values .entry)) ⌝ }
 {

@@ -4,14 +4,15 @@ ghost use Prim.Native.Nat.{ℕ, _+_, _*_, _%_, _<_};
 ghost use lib.ListN.{getD};
 ghost use Rattle.laws.specs.Parts.{parts};
 ghost use Rattle.laws.specs.Store.{storeEach, always};
-ghost use Rattle.state_words.specs.Fields.{wordLengths, valueLengths, at, MESSAGES, MESSAGE-VALUE};
+ghost use Rattle.state_words.specs.Fields.{wordLengths, valueLengths, at, MESSAGES, MESSAGE-VALUE, ROW};
 ghost use Rattle.state_words.specs.Rows.{wordsOf, Narrow, fieldsAt, narrowAt};
+ghost use Rattle.setup.specs.Limits.{PLACES};
 use message_fields::Fields;
 use state_words::Values;
 use state_words::Words;
 use state_words::network;
 
-pub type Row = [u32; 9];
+pub type Row = [u32; network::ROW];
 
 // Returns the lowest byte of a word.
 fn low(n: u32) -> u8
@@ -39,11 +40,11 @@ pub fn words_of(fields: Fields) -> Row
 
 // Stores the nine words of a row; the caller stores the value and the length.
 pub fn store(words: &mut Words, place: usize, row: Row)
-    requires { ⌜ place < 64 ⌝ }
-    ensures { λ _. ⌜ now (words .exit) ≡ storeEach always (λ (k : ℕ). at MESSAGES + (place * 9 + k)) (λ (k : ℕ). getD row k 0) (now (words .entry)) 9 ⌝ }
+    requires { ⌜ place < PLACES ⌝ }
+    ensures { λ _. ⌜ now (words .exit) ≡ storeEach always (λ (k : ℕ). at MESSAGES + (place * ROW + k)) (λ (k : ℕ). getD row k 0) (now (words .entry)) ROW ⌝ }
 {
     let mut k = 0;
-    while k < 9 {
+    while k < network::ROW {
         words[network::MESSAGES + (place * network::ROW + k)] = row[k];
         k += 1;
     }
@@ -51,16 +52,16 @@ pub fn store(words: &mut Words, place: usize, row: Row)
 
 // Returns word k of the row at a place.
 fn word(words: &Words, place: usize, k: usize) -> u32
-    requires { ⌜ place < 64 ⌝ }
-    requires { ⌜ k < 9 ⌝ }
-    ensures { λ r. ⌜ r ≡ getD (parts wordLengths (now (words .entry)) MESSAGES) (place * 9 + k) 0 ⌝ }
+    requires { ⌜ place < PLACES ⌝ }
+    requires { ⌜ k < ROW ⌝ }
+    ensures { λ r. ⌜ r ≡ getD (parts wordLengths (now (words .entry)) MESSAGES) (place * ROW + k) 0 ⌝ }
 {
     words[network::MESSAGES + (place * network::ROW + k)]
 }
 
 // Returns whether the first four words of a row (kind, client, object, value flag) fit in a byte.
 pub fn narrow(words: &Words, place: usize) -> bool
-    requires { ⌜ place < 64 ⌝ }
+    requires { ⌜ place < PLACES ⌝ }
     ensures { λ r. ⌜ r ≡ narrowAt (parts wordLengths (now (words .entry)) MESSAGES) place ⌝ }
 {
     let head = (word(words, place, 0) < 256) & (word(words, place, 1) < 256);
@@ -69,7 +70,7 @@ pub fn narrow(words: &Words, place: usize) -> bool
 
 // Returns the fields in a row, value included. Only the lowest byte of the first four words is read.
 pub fn load(words: &Words, values: &Values, place: usize) -> Fields
-    requires { ⌜ place < 64 ⌝ }
+    requires { ⌜ place < PLACES ⌝ }
     ensures { λ r. ⌜ r ≡ fieldsAt (parts wordLengths (now (words .entry)) MESSAGES) (parts valueLengths (now (values .entry)) MESSAGE-VALUE) place ⌝ }
 {
     Fields {

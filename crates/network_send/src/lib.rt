@@ -3,6 +3,7 @@ ghost use mathlib.Core.Path.{_≡_};
 ghost use Rattle.protocol.specs.Server.{sent};
 ghost use Rattle.state_words.specs.View.{tablesOf, recordsOf};
 use protocol::message::Message;
+use setup::limits::PLACES;
 use state_words::Values;
 use state_words::Words;
 use state_words::network;
@@ -16,7 +17,7 @@ pub fn push(words: &mut Words, values: &mut Values, message: Message)
     pass::sized(&*words);
     pass::sized_values(&*values);
     let n = words[network::LENGTH];
-    if 64 <= n {
+    if PLACES as u32 <= n {
         return;
     }
     let place = n as usize;

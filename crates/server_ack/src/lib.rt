@@ -9,7 +9,7 @@ ghost use Rattle.protocol.specs.Server.{ackTaken, ackStaged};
 ghost use Rattle.state_words.specs.View.{tablesOf, numbersOf, recordsOf};
 use lease_tests::place;
 use protocol::setup::Setup;
-use state_words::OBJECTS;
+use setup::limits::OBJECTS;
 use state_words::Values;
 use state_words::Words;
 use state_words::server;

@@ -12,12 +12,13 @@ ghost use Rattle.protocol.specs.Server.{ofVolume, dropTaken, dropStaged};
 ghost use Rattle.state_words.specs.Fields.{at, LEASE, WAITING};
 ghost use Rattle.state_words.specs.View.{tablesOf, numbersOf, recordsOf};
 ghost use Rattle.server_waiting.specs.Waiting.{awaitedIn};
+ghost use Rattle.setup.specs.Limits.{CLIENTS, VOLUMES};
 use lease_tests::place;
 use protocol::setup::Setup;
 use server_complete::settle;
 use server_due::Trigger;
-use state_words::OBJECTS;
-use state_words::VOLUMES;
+use setup::limits::OBJECTS;
+use setup::limits::VOLUMES;
 use state_words::Values;
 use state_words::Words;
 use state_words::pass;
@@ -62,8 +63,8 @@ fn stop_waiting(setup: Setup, words: &mut Words, client: usize, volume: usize)
 
 // Returns whether the DROPPED counts: it "needs the epoch and a nonzero equal offer number".
 fn drop_taken(words: &Words, client: usize, volume: usize, number: u32, epoch: u32) -> bool
-    requires { ⌜ client < 16 ⌝ }
-    requires { ⌜ volume < 8 ⌝ }
+    requires { ⌜ client < CLIENTS ⌝ }
+    requires { ⌜ volume < VOLUMES ⌝ }
     ensures { λ r. ⌜ r ≡ dropTaken (numbersOf (now (words .entry))) client volume number epoch ⌝ }
 {
     let offer = words[server::OFFER + (client * VOLUMES + volume)];

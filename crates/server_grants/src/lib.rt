@@ -6,11 +6,12 @@ ghost use Rattle.protocol.specs.Setup.{inRange};
 ghost use Rattle.protocol.specs.Server.{sent, offered, offering, granted};
 ghost use Rattle.protocol.specs.Sound.{clockLimit};
 ghost use Rattle.state_words.specs.View.{tablesOf, recordsOf};
+ghost use Rattle.setup.specs.Limits.{CLIENTS, VOLUMES};
 use lease_tests::place;
 use network_send::push;
 use protocol::setup::Setup;
-use state_words::OBJECTS;
-use state_words::VOLUMES;
+use setup::limits::OBJECTS;
+use setup::limits::VOLUMES;
 use state_words::Values;
 use state_words::Words;
 use state_words::network;
@@ -18,8 +19,8 @@ use state_words::server;
 
 // Answers with an OFFER, since the client has to drop its leases first: "mark unreachable, offer number := number, send OFFER".
 pub fn offer(words: &mut Words, values: &mut Values, client: usize, volume: usize, number: u32)
-    requires { ⌜ client < 16 ⌝ }
-    requires { ⌜ volume < 8 ⌝ }
+    requires { ⌜ client < CLIENTS ⌝ }
+    requires { ⌜ volume < VOLUMES ⌝ }
     ensures { λ _. ⌜ tablesOf (now (words .exit)) (now (values .exit)) ≡ sent (offered (tablesOf (now (words .entry)) (now (values .entry))) client volume number) (offering (tablesOf (now (words .entry)) (now (values .entry))) client volume number) ⌝ }
     ensures { λ _. ⌜ recordsOf (now (words .exit)) (now (values .exit)) ≡ recordsOf (now (words .entry)) (now (values .entry)) ⌝ }
 {
@@ -41,7 +42,7 @@ pub fn grant(
 )
     requires { ⌜ inRange setup ≡ true ⌝ }
     requires { ⌜ tablesOf (now words) (now values) .clock ≤ clockLimit ⌝ }
-    requires { ⌜ client < 16 ⌝ }
+    requires { ⌜ client < CLIENTS ⌝ }
     requires { ⌜ object < setup .objects ⌝ }
     ensures { λ _. ⌜ tablesOf (now (words .exit)) (now (values .exit)) ≡ granted setup (tablesOf (now (words .entry)) (now (values .entry))) client object number held ⌝ }
     ensures { λ _. ⌜ recordsOf (now (words .exit)) (now (values .exit)) ≡ recordsOf (now (words .entry)) (now (values .entry)) ⌝ }

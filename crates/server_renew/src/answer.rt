@@ -7,21 +7,22 @@ ghost use Rattle.protocol.specs.SoundLaws.{Growing};
 ghost use Rattle.protocol.specs.Server.{mustDrop, renewedBy};
 ghost use Rattle.protocol.specs.Sound.{clockLimit};
 ghost use Rattle.state_words.specs.View.{tablesOf, numbersOf, recordsOf};
+ghost use Rattle.setup.specs.Limits.{CLIENTS, VOLUMES};
 use lease_tests::place;
 use network_send::push;
 use protocol::setup::Setup;
 use server_grants::grant;
 use server_grants::offer;
 use server_replies::lowest;
-use state_words::VOLUMES;
+use setup::limits::VOLUMES;
 use state_words::Values;
 use state_words::Words;
 use state_words::server;
 
 // Returns whether the client has to drop its leases first: "Epoch differs or dash unreachable".
 fn must_drop(words: &Words, client: usize, volume: usize, epoch: u32) -> bool
-    requires { ⌜ client < 16 ⌝ }
-    requires { ⌜ volume < 8 ⌝ }
+    requires { ⌜ client < CLIENTS ⌝ }
+    requires { ⌜ volume < VOLUMES ⌝ }
     ensures { λ r. ⌜ r ≡ mustDrop (numbersOf (now (words .entry))) client volume epoch ⌝ }
 {
     (epoch != words[server::VOLUME_EPOCH + volume])

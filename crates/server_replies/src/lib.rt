@@ -9,7 +9,7 @@ ghost use Rattle.protocol.specs.Tables.{versionAt};
 ghost use Rattle.protocol.specs.Writes.{invalidation};
 ghost use Rattle.protocol.specs.Server.{offering, payloadFor, granting};
 ghost use Rattle.protocol.specs.Sound.{clockLimit};
-ghost use Rattle.setup.specs.Limits.{largest};
+ghost use Rattle.setup.specs.Limits.{largest, CLIENTS, OBJECTS, VOLUMES};
 ghost use Rattle.state_words.specs.View.{tablesOf, numbersOf};
 use lease_tests::place;
 use protocol::message::Kind;
@@ -23,8 +23,8 @@ use state_words::server;
 
 // Returns the OFFER, with the volume's epoch: "send OFFER". Like the GRANT it repeats the RENEW's number: "replies repeat a request number".
 pub fn offering(words: &Words, client: usize, volume: usize, number: u32) -> Message
-    requires { ⌜ client < 16 ⌝ }
-    requires { ⌜ volume < 8 ⌝ }
+    requires { ⌜ client < CLIENTS ⌝ }
+    requires { ⌜ volume < VOLUMES ⌝ }
     ensures { λ r. ⌜ r ≡ offering (numbersOf (now (words .entry))) client volume number ⌝ }
 {
     Message {
@@ -40,7 +40,7 @@ pub fn offering(words: &Words, client: usize, volume: usize, number: u32) -> Mes
 // Returns the INVALIDATE for the standing write of an object, with its epoch and new version: "resend INVALIDATE".
 pub fn resending(setup: Setup, words: &Words, client: usize, object: usize) -> Message
     requires { ⌜ inRange setup ≡ true ⌝ }
-    requires { ⌜ client < 16 ⌝ }
+    requires { ⌜ client < CLIENTS ⌝ }
     requires { ⌜ object < setup .objects ⌝ }
     requires { ⌜ versionAt (numbersOf (now words)) object < largest ⌝ }
     ensures { λ r. ⌜ r ≡ invalidation setup (numbersOf (now (words .entry))) object client ⌝ }
@@ -58,7 +58,7 @@ pub fn resending(setup: Setup, words: &Words, client: usize, object: usize) -> M
 
 // Returns the object's value, or `Same` if the client holds this version already: "with value unless versions are equal".
 fn payload<'a>(words: &'a Words, values: &'a Values, object: usize, held: u32) -> Payload
-    requires { ⌜ object < 32 ⌝ }
+    requires { ⌜ object < OBJECTS ⌝ }
     ensures { λ r. ⌜ r ≡ payloadFor (tablesOf (now (words .entry)) (now (values .entry))) object held ⌝ }
 {
     if words[server::VERSION + object] == held {
@@ -79,7 +79,7 @@ pub fn granting<'a>(
 ) -> Message
     requires { ⌜ inRange setup ≡ true ⌝ }
     requires { ⌜ tablesOf (now words) (now values) .clock ≤ clockLimit ⌝ }
-    requires { ⌜ client < 16 ⌝ }
+    requires { ⌜ client < CLIENTS ⌝ }
     requires { ⌜ object < setup .objects ⌝ }
     ensures { λ r. ⌜ r ≡ granting setup (tablesOf (now (words .entry)) (now (values .entry))) client object number held ⌝ }
 {

@@ -10,7 +10,13 @@ ghost use Rattle.protocol.specs.Server.{serverRestarted};
 ghost use Rattle.state_words.specs.Fields.{wordLengths, at, VOLUME-EPOCH, VOLUME-EXPIRY, GUARD};
 ghost use Rattle.state_words.specs.View.{tablesOf, numbersOf, recordsOf};
 ghost use Rattle.server_restart.specs.Restart.{EpochsGrow, sessionsCleared, objectsCleared, holdersCleared};
+ghost use Rattle.setup.specs.Limits.{VOLUMES};
 use protocol::setup::Setup;
+use setup::limits::CLIENTS;
+use setup::limits::OBJECTS;
+use setup::limits::VOLUMES;
+use state_words::CLIENT_OBJECTS;
+use state_words::CLIENT_VOLUMES;
 use state_words::Values;
 use state_words::Words;
 use state_words::pass;
@@ -18,7 +24,7 @@ use state_words::server;
 
 // Adds 1 to the epochs of the first n volumes: "every epoch grows by 1".
 fn grow_epochs(words: &mut Words, n: usize)
-    requires { ⌜ n ≤ 8 ⌝ }
+    requires { ⌜ n ≤ VOLUMES ⌝ }
     requires { ⌜ EpochsGrow n (numbersOf (now words)) ⌝ }
     ensures { λ _. ⌜ now (words .exit) ≡ storeEach always (λ (v : ℕ). at VOLUME-EPOCH + v) (λ (v : ℕ). getD (parts wordLengths (now (words .entry)) VOLUME-EPOCH) v 0 + 1) (now (words .entry)) n ⌝ }
 {
@@ -31,10 +37,10 @@ fn grow_epochs(words: &mut Words, n: usize)
 
 // Sets every guard: "guard becomes VE". So no write completes while a volume lease from before the restart may be alive.
 fn guard_expiries(words: &mut Words)
-    ensures { λ _. ⌜ now (words .exit) ≡ storeEach always (λ (v : ℕ). at GUARD + v) (λ (v : ℕ). getD (parts wordLengths (now (words .entry)) VOLUME-EXPIRY) v 0) (now (words .entry)) 8 ⌝ }
+    ensures { λ _. ⌜ now (words .exit) ≡ storeEach always (λ (v : ℕ). at GUARD + v) (λ (v : ℕ). getD (parts wordLengths (now (words .entry)) VOLUME-EXPIRY) v 0) (now (words .entry)) VOLUMES ⌝ }
 {
     let mut volume = 0;
-    while volume < 8 {
+    while volume < VOLUMES {
         words[server::GUARD + volume] = words[server::VOLUME_EXPIRY + volume];
         volume += 1;
     }
@@ -44,27 +50,27 @@ fn guard_expiries(words: &mut Words)
 fn clear_sessions(words: &mut Words)
     ensures { λ _. ⌜ now (words .exit) ≡ sessionsCleared (now (words .entry)) ⌝ }
 {
-    pass::fill(&mut *words, server::SEEN, 16, 0);
-    pass::fill(&mut *words, server::SESSION_EXPIRY, 128, 0);
-    pass::fill(&mut *words, server::UNREACHABLE, 128, 0);
-    pass::fill(&mut *words, server::OFFER, 128, 0);
+    pass::fill(&mut *words, server::SEEN, CLIENTS, 0);
+    pass::fill(&mut *words, server::SESSION_EXPIRY, CLIENT_VOLUMES, 0);
+    pass::fill(&mut *words, server::UNREACHABLE, CLIENT_VOLUMES, 0);
+    pass::fill(&mut *words, server::OFFER, CLIENT_VOLUMES, 0);
 }
 
 // Zeroes each object's OE and ends its standing write: "values, versions .. remain; .. other fields become fresh".
 fn clear_objects(words: &mut Words)
     ensures { λ _. ⌜ now (words .exit) ≡ objectsCleared (now (words .entry)) ⌝ }
 {
-    pass::fill(&mut *words, server::OBJECT_EXPIRY, 32, 0);
-    pass::fill(&mut *words, server::STANDING, 32, 0);
-    pass::fill(&mut *words, server::END, 32, 0);
+    pass::fill(&mut *words, server::OBJECT_EXPIRY, OBJECTS, 0);
+    pass::fill(&mut *words, server::STANDING, OBJECTS, 0);
+    pass::fill(&mut *words, server::END, OBJECTS, 0);
 }
 
 // Zeroes all object leases and whom the writes wait for ("its other fields become fresh").
 fn clear_holders(words: &mut Words)
     ensures { λ _. ⌜ now (words .exit) ≡ holdersCleared (now (words .entry)) ⌝ }
 {
-    pass::fill(&mut *words, server::LEASE, 512, 0);
-    pass::fill(&mut *words, server::WAITING, 32, 0);
+    pass::fill(&mut *words, server::LEASE, CLIENT_OBJECTS, 0);
+    pass::fill(&mut *words, server::WAITING, OBJECTS, 0);
 }
 
 // Restarts the server, step 8: "values, versions, VE remain; every epoch grows by 1; guard becomes VE; its other fields become fresh. Messages remain."
@@ -81,5 +87,5 @@ pub fn restart(setup: Setup, words: &mut Words, values: &mut Values)
     clear_sessions(&mut *words);
     clear_objects(&mut *words);
     clear_holders(&mut *words);
-    pass::fill_values(&mut *values, server::PENDING, 32, 0);
+    pass::fill_values(&mut *values, server::PENDING, OBJECTS, 0);
 }

@@ -7,9 +7,10 @@ ghost use Rattle.laws.specs.Store.{storeEach, always};
 ghost use Rattle.protocol.specs.Tables.{byVolume, byObject};
 ghost use Rattle.state_words.specs.Fields.{at, UNREACHABLE, LEASE};
 ghost use Rattle.server_waiting.specs.Waiting.{awaitedIn, waitsIn};
+ghost use Rattle.setup.specs.Limits.{CLIENTS, OBJECTS, VOLUMES};
 use lease_tests::time;
-use state_words::OBJECTS;
-use state_words::VOLUMES;
+use setup::limits::OBJECTS;
+use setup::limits::VOLUMES;
 use state_words::Words;
 use state_words::network;
 use state_words::pass;
@@ -17,8 +18,8 @@ use state_words::server;
 
 // Zeroes each client's lease on the object, as completing "clears every dash's server lease on that object".
 pub fn clear_leases(words: &mut Words, object: usize, n: usize)
-    requires { ⌜ object < 32 ⌝ }
-    requires { ⌜ n ≤ 16 ⌝ }
+    requires { ⌜ object < OBJECTS ⌝ }
+    requires { ⌜ n ≤ CLIENTS ⌝ }
     ensures { λ _. ⌜ now (words .exit) ≡ storeEach always (λ (d : ℕ). at LEASE + byObject d object) (λ (d : ℕ). 0) (now (words .entry)) n ⌝ }
 {
     let mut client = 0;
@@ -30,8 +31,8 @@ pub fn clear_leases(words: &mut Words, object: usize, n: usize)
 
 // Marks the clients that a write still waits for as unreachable in the volume: "marks still waiting dashes unreachable".
 pub fn mark_waiting(words: &mut Words, waiting: u32, volume: usize, n: usize)
-    requires { ⌜ volume < 8 ⌝ }
-    requires { ⌜ n ≤ 16 ⌝ }
+    requires { ⌜ volume < VOLUMES ⌝ }
+    requires { ⌜ n ≤ CLIENTS ⌝ }
     ensures { λ _. ⌜ now (words .exit) ≡ storeEach (bitAt waiting) (λ (d : ℕ). at UNREACHABLE + byVolume d volume) (λ (d : ℕ). 1) (now (words .entry)) n ⌝ }
 {
     let mut client = 0;
@@ -45,8 +46,8 @@ pub fn mark_waiting(words: &mut Words, waiting: u32, volume: usize, n: usize)
 
 // Returns whether the object's write waits for any client.
 pub fn waited(words: &Words, object: usize, n: usize) -> bool
-    requires { ⌜ object < 32 ⌝ }
-    requires { ⌜ n ≤ 16 ⌝ }
+    requires { ⌜ object < OBJECTS ⌝ }
+    requires { ⌜ n ≤ CLIENTS ⌝ }
     ensures { λ r. ⌜ r ≡ anyFrom (bitAt (awaitedIn (now (words .entry)) object)) 0 n ⌝ }
 {
     sets::next(words[server::WAITING + object], 0, n) < n
@@ -55,9 +56,9 @@ pub fn waited(words: &Words, object: usize, n: usize) -> bool
 // Returns the clients that a new write of the object waits for (step 4): "Waiting are the dashes whose object lease is alive and ..". `volume` is the object's
 // volume.
 pub fn awaited(words: &Words, volume: usize, object: usize, n: usize) -> u32
-    requires { ⌜ volume < 8 ⌝ }
-    requires { ⌜ object < 32 ⌝ }
-    requires { ⌜ n ≤ 16 ⌝ }
+    requires { ⌜ volume < VOLUMES ⌝ }
+    requires { ⌜ object < OBJECTS ⌝ }
+    requires { ⌜ n ≤ CLIENTS ⌝ }
     ensures { λ r. ⌜ r ≡ setOf (waitsIn (now (words .entry)) volume object) n ⌝ }
 {
     let mut waiting = 0;

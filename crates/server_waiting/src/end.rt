@@ -4,9 +4,10 @@ ghost use Prim.Native.Nat.{_≤_, _<_};
 ghost use Rattle.laws.specs.Greatest.{greatest};
 ghost use Rattle.laws.specs.Sets.{bitAt};
 ghost use Rattle.server_waiting.specs.Waiting.{leasedIn};
+ghost use Rattle.setup.specs.Limits.{CLIENTS, OBJECTS, VOLUMES};
 use lease_tests::time;
-use state_words::OBJECTS;
-use state_words::VOLUMES;
+use setup::limits::OBJECTS;
+use setup::limits::VOLUMES;
 use state_words::Words;
 use state_words::server;
 
@@ -19,9 +20,9 @@ pub fn latest_end(
     least: u32,
     n: usize,
 ) -> u32
-    requires { ⌜ volume < 8 ⌝ }
-    requires { ⌜ object < 32 ⌝ }
-    requires { ⌜ n ≤ 16 ⌝ }
+    requires { ⌜ volume < VOLUMES ⌝ }
+    requires { ⌜ object < OBJECTS ⌝ }
+    requires { ⌜ n ≤ CLIENTS ⌝ }
     ensures { λ r. ⌜ r ≡ greatest (bitAt waiting) (leasedIn (now (words .entry)) volume object) least n ⌝ }
 {
     let mut end = least;

@@ -8,6 +8,7 @@ ghost use mathlib.Core.Bool.{cond};
 ghost use mathlib.Core.Path.{_≡_};
 ghost use Rattle.laws.specs.Loop.{allFrom};
 ghost use Rattle.protocol.specs.Setup.{between, volumeFits, inRange};
+ghost use Rattle.setup.specs.Limits.{OBJECTS};
 use protocol::setup::Setup;
 
 fn between(low: u32, high: u32, n: u32) -> bool
@@ -26,13 +27,13 @@ fn volume_fits(o: usize, v: u8, objects: u32, volumes: u32) -> bool
     v == 0
 }
 
-// Returns whether all 32 slots fit: "each object's volume (0 past the count)".
+// Returns whether all slots fit: "each object's volume (0 past the count)".
 fn volumes_fit(setup: Setup) -> bool
-    ensures { λ r. ⌜ r ≡ allFrom (volumeFits setup) 0 32 ⌝ }
+    ensures { λ r. ⌜ r ≡ allFrom (volumeFits setup) 0 OBJECTS ⌝ }
 {
     let mut ok = true;
     let mut o = 0;
-    while o < 32 {
+    while o < limits::OBJECTS {
         ok = ok & volume_fits(o, setup.volume[o], setup.objects, setup.volumes);
         o += 1;
     }
@@ -44,9 +45,9 @@ fn volumes_fit(setup: Setup) -> bool
 pub fn in_range(setup: Setup) -> bool
     ensures { λ r. ⌜ r ≡ inRange setup ⌝ }
 {
-    let counts = between(1, 16, setup.clients)
-        & between(1, 8, setup.volumes)
-        & between(1, 32, setup.objects);
+    let counts = between(1, limits::CLIENTS as u32, setup.clients)
+        & between(1, limits::VOLUMES as u32, setup.volumes)
+        & between(1, limits::OBJECTS as u32, setup.objects);
     let ticks = counts
         & between(1, 3600, setup.tv)
         & between(1, 1000000, setup.t)

@@ -1,4 +1,14 @@
-// The limits of 32-bit numbers that 01 names ("Questions at the gate").
+// The limits that 01 names ("Tables", "Questions at the gate").
+
+// the most clients, volumes and objects that a setup has
+pub const CLIENTS: usize = 16;
+
+pub const VOLUMES: usize = 8;
+
+pub const OBJECTS: usize = 32;
+
+// the places of the message list: "at most 64"
+pub const PLACES: usize = 64;
 
 // an epoch, a version or a request number that is below this can still grow
 pub const LARGEST: u32 = 4294967295;

@@ -108,6 +108,17 @@ WORDS = 3018
 abbrev pub VALUES : ℕ
 VALUES = 640
 
+-- the lengths of a field with one word for each client and volume, and for each client and object
+abbrev pub CLIENT-VOLUMES : ℕ
+CLIENT-VOLUMES = 128
+
+abbrev pub CLIENT-OBJECTS : ℕ
+CLIENT-OBJECTS = 512
+
+-- the words of a row of the message list
+abbrev pub ROW : ℕ
+ROW = 9
+
 -- the offset of a field
 abbrev pub at : ℕ → ℕ
 at k = start wordLengths k

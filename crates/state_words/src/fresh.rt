@@ -12,6 +12,7 @@ use crate::client;
 use crate::pass;
 use crate::server;
 use protocol::setup::Setup;
+use setup::limits;
 
 // Writes the fresh state: the server's epochs and versions and the clients' next request numbers are 1. "All else is fresh 0, none or no; clock 0."
 pub fn fresh(words: &mut Words, values: &mut Values)
@@ -20,9 +21,9 @@ pub fn fresh(words: &mut Words, values: &mut Values)
 {
     *words = [0; WORDS];
     *values = [0; VALUES];
-    pass::fill(&mut *words, server::VOLUME_EPOCH, 8, 1);
-    pass::fill(&mut *words, server::VERSION, 32, 1);
-    pass::fill(&mut *words, client::REQUEST_NEXT, 16, 1);
+    pass::fill(&mut *words, server::VOLUME_EPOCH, limits::VOLUMES, 1);
+    pass::fill(&mut *words, server::VERSION, limits::OBJECTS, 1);
+    pass::fill(&mut *words, client::REQUEST_NEXT, limits::CLIENTS, 1);
 }
 
 // Writes the fresh state and returns 0 if the setup is in range; otherwise changes nothing and returns 7: "Elsewhere: setup in range? 7."

@@ -5,11 +5,15 @@ pub mod network;
 pub mod pass;
 pub mod server;
 
-// the stride of a field with one word for each client and volume
-pub const VOLUMES: usize = 8;
+use setup::limits::CLIENTS;
+use setup::limits::OBJECTS;
+use setup::limits::VOLUMES;
 
-// the stride of a field with one word for each client and object
-pub const OBJECTS: usize = 32;
+// the length of a field with one word for each client and volume
+pub const CLIENT_VOLUMES: usize = CLIENTS * VOLUMES;
+
+// the length of a field with one word for each client and object
+pub const CLIENT_OBJECTS: usize = CLIENTS * OBJECTS;
 
 // the words hold all 32-bit numbers, flags and sets
 pub const WORDS: usize = 3018;

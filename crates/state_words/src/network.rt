@@ -6,7 +6,7 @@ pub const CLOCK: usize = 0;
 // "Message list: at most 64": the number of messages
 pub const LENGTH: usize = 1;
 
-// "in sending order": 64 rows of nine words
+// "in sending order": a row for each place
 pub const MESSAGES: usize = 2;
 
 // in the values: one per message

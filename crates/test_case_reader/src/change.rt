@@ -3,7 +3,8 @@ use crate::Case;
 use crate::text::byte;
 use crate::text::word;
 use protocol::setup::Setup;
-use state_words::OBJECTS;
+use setup::limits;
+use state_words::CLIENT_OBJECTS;
 use state_words::VALUES;
 use state_words::Values;
 use state_words::WORDS;
@@ -14,7 +15,7 @@ use state_words::server;
 
 // Returns the case that changes start from: a setup of zeros, and no records lent.
 pub fn none() -> Case {
-    let volume = [0u8; 32];
+    let volume = [0u8; limits::OBJECTS];
     let setup = Setup {
         clients: 0,
         volumes: 0,
@@ -41,7 +42,7 @@ fn with(setup: Setup, field: u64, place: usize, number: u64) -> Setup {
         4 => setup.tv = word(number),
         5 => setup.t = word(number),
         6 => setup.m = word(number),
-        _ => setup.volume[place % 32] = byte(number),
+        _ => setup.volume[place % limits::OBJECTS] = byte(number),
     }
     setup
 }
@@ -108,9 +109,9 @@ fn put(words: &mut Words, from: usize, place: usize, number: u64) {
 
 // Stores whether the write of an object waits for a client, unless there is no such place.
 fn put_waiting(words: &mut Words, place: usize, number: u64) {
-    if place < 512 {
-        let i = server::WAITING + place % OBJECTS;
-        let client = place / OBJECTS;
+    if place < CLIENT_OBJECTS {
+        let i = server::WAITING + place % limits::OBJECTS;
+        let client = place / limits::OBJECTS;
         let others = sets::without(words[i], client);
         words[i] = sets::with_if(others, client, number != 0);
     }
@@ -127,10 +128,10 @@ fn put_value(values: &mut Values, from: usize, place: usize, number: u64) {
 
 // Stores a word of a message; fields 41 to 49 are its words in the frame's order.
 fn put_message(words: &mut Words, field: u64, place: usize, number: u64) {
-    if place < 64 {
+    if place < limits::PLACES {
         if 41 <= field {
             let offset = (field - 41) as usize;
-            if offset < 9 {
+            if offset < network::ROW {
                 put(
                     words,
                     network::MESSAGES,

@@ -1,6 +1,8 @@
 // Performs steps on tables that no run reaches: unsound ones, and ones at or past a limit. The cases are in the file `stdin`, as numbers among words.
 // The model reads the same file; the file `stdout` is what it prints of its answers and tables.
+use state_words::VALUES;
 use state_words::Values;
+use state_words::WORDS;
 use state_words::Words;
 use test_case_reader::Case;
 use test_case_reader::text::Found;
@@ -116,8 +118,8 @@ fn cases(bytes: &[u8], from: usize, base: Case, words: &Words, values: &Values) 
 // Performs all cases. The text begins with the changes that make the base, which every case starts from.
 fn run(bytes: &[u8]) {
     let changes = test_case_reader::text::number(bytes, 0);
-    let mut words = [0u32; 3018];
-    let mut values = [0u64; 640];
+    let mut words = [0u32; WORDS];
+    let mut values = [0u64; VALUES];
     state_words::fresh::fresh(&mut words, &mut values);
     let base = changed(
         bytes,

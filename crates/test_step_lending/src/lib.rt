@@ -1,19 +1,23 @@
 // Performs a step on the client records in the words: lends the first of them to the public step, and stores them back afterwards.
 ghost use Prim.Native.Nat.{_≤_};
+ghost use Rattle.setup.specs.Limits.{CLIENTS};
+ghost use Rattle.state_words.specs.Fields.{CLIENT-OBJECTS};
 use protocol::records::Copy;
 use protocol::records::Request;
 use protocol::setup::Setup;
 use protocol::step::Answer;
 use protocol::step::Step;
+use setup::limits::CLIENTS;
+use state_words::CLIENT_OBJECTS;
 use state_words::Values;
 use state_words::Words;
 use test_case_reader::Case;
 
 // Returns all copies in the tables.
-fn copies_in<'a>(words: &'a Words, values: &'a Values) -> [Copy; 512] {
-    let mut copies = [setup::fresh::fresh_copy(); 512];
+fn copies_in<'a>(words: &'a Words, values: &'a Values) -> [Copy; CLIENT_OBJECTS] {
+    let mut copies = [setup::fresh::fresh_copy(); CLIENT_OBJECTS];
     let mut i = 0;
-    while i < 512 {
+    while i < CLIENT_OBJECTS {
         copies[i] = client_records::copies::copy_at(words, values, i);
         i += 1;
     }
@@ -21,34 +25,39 @@ fn copies_in<'a>(words: &'a Words, values: &'a Values) -> [Copy; 512] {
 }
 
 // Returns all requests in the words.
-fn requests_in(words: &Words) -> [Request; 16] {
-    let mut requests = [setup::fresh::fresh_request(); 16];
+fn requests_in(words: &Words) -> [Request; CLIENTS] {
+    let mut requests = [setup::fresh::fresh_request(); CLIENTS];
     let mut i = 0;
-    while i < 16 {
+    while i < CLIENTS {
         requests[i] = client_records::requests::request_at(words, i);
         i += 1;
     }
     requests
 }
 
-fn keep_copies(words: &mut Words, values: &mut Values, copies: [Copy; 512]) {
+fn keep_copies(words: &mut Words, values: &mut Values, copies: [Copy; CLIENT_OBJECTS]) {
     let mut i = 0;
-    while i < 512 {
+    while i < CLIENT_OBJECTS {
         client_records::copies::put_copy(&mut *words, &mut *values, i, copies[i]);
         i += 1;
     }
 }
 
-fn keep_requests(words: &mut Words, requests: [Request; 16]) {
+fn keep_requests(words: &mut Words, requests: [Request; CLIENTS]) {
     let mut i = 0;
-    while i < 16 {
+    while i < CLIENTS {
         client_records::requests::put_request(&mut *words, i, requests[i]);
         i += 1;
     }
 }
 
 // Stores all records back in the tables.
-fn keep(words: &mut Words, values: &mut Values, copies: [Copy; 512], requests: [Request; 16]) {
+fn keep(
+    words: &mut Words,
+    values: &mut Values,
+    copies: [Copy; CLIENT_OBJECTS],
+    requests: [Request; CLIENTS],
+) {
     keep_copies(&mut *words, &mut *values, copies);
     keep_requests(&mut *words, requests);
 }
@@ -59,13 +68,13 @@ fn step_on(
     setup: Setup,
     words: &mut Words,
     values: &mut Values,
-    mut copies: [Copy; 512],
-    mut requests: [Request; 16],
+    mut copies: [Copy; CLIENT_OBJECTS],
+    mut requests: [Request; CLIENTS],
     lent_copies: usize,
     lent_requests: usize,
     step: Step,
 ) -> Answer
-    requires { ⌜ («lent_copies» ≤ 512) × («lent_requests» ≤ 16) ⌝ }
+    requires { ⌜ («lent_copies» ≤ CLIENT-OBJECTS) × («lent_requests» ≤ CLIENTS) ⌝ }
 {
     let answer = step::step(
         setup,

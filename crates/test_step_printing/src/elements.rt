@@ -1,11 +1,14 @@
 // Prints a line `name place: number` for each element of a field that a step changed. A place per client and volume, or per client and object, is two
 // numbers.
 ghost use Prim.Native.Nat.{_+_, _≤_, _<_};
+ghost use Rattle.setup.specs.Limits.{OBJECTS};
 ghost use Rattle.state_words.specs.Fields.{WORDS, VALUES};
 use crate::lines::end;
 use crate::lines::number;
 use crate::lines::spaced;
 use crate::lines::text;
+use setup::limits;
+use state_words::CLIENT_OBJECTS;
 use state_words::Values;
 use state_words::Words;
 use state_words::pass;
@@ -21,12 +24,12 @@ fn place(row: Row, i: usize) {
     match row {
         Row::One => spaced(i as u64),
         Row::Volumes => {
-            spaced((i / 8) as u64);
-            spaced((i % 8) as u64);
+            spaced((i / limits::VOLUMES) as u64);
+            spaced((i % limits::VOLUMES) as u64);
         }
         Row::Objects => {
-            spaced((i / 32) as u64);
-            spaced((i % 32) as u64);
+            spaced((i / limits::OBJECTS) as u64);
+            spaced((i % limits::OBJECTS) as u64);
         }
     }
 }
@@ -62,14 +65,14 @@ fn member(set: u32, client: usize) -> u32
     pass::word(sets::has(set, client))
 }
 
-// Prints the changes among the clients in the 32 sets from `from` on, one per object.
+// Prints the changes among the clients in the sets from `from` on, one per object.
 pub fn members(name: &[u8], from: usize, before: &Words, after: &Words)
-    requires { ⌜ from + 32 ≤ WORDS ⌝ }
+    requires { ⌜ from + OBJECTS ≤ WORDS ⌝ }
 {
     let mut i = 0;
-    while i < 512 {
-        let object = from + i % 32;
-        let client = i / 32;
+    while i < CLIENT_OBJECTS {
+        let object = from + i % limits::OBJECTS;
+        let client = i / limits::OBJECTS;
         word(
             name,
             Row::Objects,
@@ -81,12 +84,12 @@ pub fn members(name: &[u8], from: usize, before: &Words, after: &Words)
     }
 }
 
-// Prints the changes among the 32 values from `from` on, one per object.
+// Prints the changes among the values from `from` on, one per object.
 pub fn values(name: &[u8], from: usize, before: &Values, after: &Values)
-    requires { ⌜ from + 32 ≤ VALUES ⌝ }
+    requires { ⌜ from + OBJECTS ≤ VALUES ⌝ }
 {
     let mut i = 0;
-    while i < 32 {
+    while i < limits::OBJECTS {
         element(name, Row::One, i, before[from + i], after[from + i]);
         i += 1;
     }

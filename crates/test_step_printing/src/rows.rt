@@ -7,6 +7,9 @@ use message_fields::Fields;
 use protocol::message::Message;
 use protocol::records::Copy;
 use protocol::records::Request;
+use setup::limits::CLIENTS;
+use setup::limits::PLACES;
+use state_words::CLIENT_OBJECTS;
 use state_words::Values;
 use state_words::Words;
 
@@ -38,7 +41,7 @@ fn message(i: usize, before: Message, after: Message) {
 
 pub fn messages(before: &Words, values_before: &Values, after: &Words, values_after: &Values) {
     let mut i = 0;
-    while i < 64 {
+    while i < PLACES {
         let message_before = network_queue::list::message_at(before, values_before, i);
         let message_after = network_queue::list::message_at(after, values_after, i);
         message(i, message_before, message_after);
@@ -70,7 +73,7 @@ pub fn copies<'a, 'b>(
     values_after: &'b Values,
 ) {
     let mut i = 0;
-    while i < 512 {
+    while i < CLIENT_OBJECTS {
         let copy_before = client_records::copies::copy_at(before, values_before, i);
         let copy_after = client_records::copies::copy_at(after, values_after, i);
         copy(i, copy_before, copy_after);
@@ -108,7 +111,7 @@ fn request(i: usize, before: Request, after: Request) {
 
 pub fn requests(before: &Words, after: &Words) {
     let mut i = 0;
-    while i < 16 {
+    while i < CLIENTS {
         let request_before = client_records::requests::request_at(before, i);
         let request_after = client_records::requests::request_at(after, i);
         request(i, request_before, request_after);

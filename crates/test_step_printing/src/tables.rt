@@ -6,6 +6,11 @@ use crate::elements::values;
 use crate::elements::words;
 use crate::lines::end;
 use crate::lines::number;
+use setup::limits::CLIENTS;
+use setup::limits::OBJECTS;
+use setup::limits::VOLUMES;
+use state_words::CLIENT_OBJECTS;
+use state_words::CLIENT_VOLUMES;
 use state_words::Values;
 use state_words::Words;
 use state_words::client;
@@ -20,15 +25,29 @@ pub fn one(name: &[u8], before: u32, after: u32) {
 }
 
 pub fn volumes(before: &Words, after: &Words) {
-    words(b"epoch", Row::One, server::VOLUME_EPOCH, 8, before, after);
-    words(b"VE", Row::One, server::VOLUME_EXPIRY, 8, before, after);
-    words(b"guard", Row::One, server::GUARD, 8, before, after);
-    words(b"seen", Row::One, server::SEEN, 16, before, after);
+    words(
+        b"epoch",
+        Row::One,
+        server::VOLUME_EPOCH,
+        VOLUMES,
+        before,
+        after,
+    );
+    words(
+        b"VE",
+        Row::One,
+        server::VOLUME_EXPIRY,
+        VOLUMES,
+        before,
+        after,
+    );
+    words(b"guard", Row::One, server::GUARD, VOLUMES, before, after);
+    words(b"seen", Row::One, server::SEEN, CLIENTS, before, after);
     words(
         b"volume lease",
         Row::Volumes,
         server::SESSION_EXPIRY,
-        128,
+        CLIENT_VOLUMES,
         before,
         after,
     );
@@ -36,25 +55,53 @@ pub fn volumes(before: &Words, after: &Words) {
         b"unreachable",
         Row::Volumes,
         server::UNREACHABLE,
-        128,
+        CLIENT_VOLUMES,
         before,
         after,
     );
-    words(b"offer", Row::Volumes, server::OFFER, 128, before, after);
+    words(
+        b"offer",
+        Row::Volumes,
+        server::OFFER,
+        CLIENT_VOLUMES,
+        before,
+        after,
+    );
 }
 
 pub fn objects(before: &Words, values_before: &Values, after: &Words, values_after: &Values) {
     values(b"value", server::VALUE, values_before, values_after);
-    words(b"version", Row::One, server::VERSION, 32, before, after);
-    words(b"OE", Row::One, server::OBJECT_EXPIRY, 32, before, after);
-    words(b"standing", Row::One, server::STANDING, 32, before, after);
+    words(
+        b"version",
+        Row::One,
+        server::VERSION,
+        OBJECTS,
+        before,
+        after,
+    );
+    words(
+        b"OE",
+        Row::One,
+        server::OBJECT_EXPIRY,
+        OBJECTS,
+        before,
+        after,
+    );
+    words(
+        b"standing",
+        Row::One,
+        server::STANDING,
+        OBJECTS,
+        before,
+        after,
+    );
     values(b"pending", server::PENDING, values_before, values_after);
-    words(b"end", Row::One, server::END, 32, before, after);
+    words(b"end", Row::One, server::END, OBJECTS, before, after);
     words(
         b"object lease",
         Row::Objects,
         server::LEASE,
-        512,
+        CLIENT_OBJECTS,
         before,
         after,
     );
@@ -66,7 +113,7 @@ pub fn views(before: &Words, after: &Words) {
         b"known epoch",
         Row::Volumes,
         client::VIEW_EPOCH,
-        128,
+        CLIENT_VOLUMES,
         before,
         after,
     );
@@ -74,7 +121,7 @@ pub fn views(before: &Words, after: &Words) {
         b"known expiry",
         Row::Volumes,
         client::VIEW_EXPIRY,
-        128,
+        CLIENT_VOLUMES,
         before,
         after,
     );

@@ -4,8 +4,10 @@ ghost use mathlib.Core.Bool.{true, cond};
 ghost use mathlib.Core.Path.{_≡_};
 ghost use Rattle.protocol.specs.Setup.{inRange};
 ghost use Rattle.workload.specs.Draws.{next, onlyUsed, totalAfter, drawnAfter};
+ghost use Rattle.setup.specs.Limits.{PLACES};
 use protocol::setup::Setup;
 use protocol::step::Step;
+use setup::limits::PLACES;
 
 // Returns the product "1,664,525 × s", "kept modulo 2 to the 32nd".
 fn product(seed: u32) -> u32
@@ -76,7 +78,7 @@ fn total_after(step: Step, total: u32) -> u32
 // Returns the "remainder of draw by their counts", of clients, objects or places.
 fn remainder(draw: u32, count: u32) -> u8
     requires { ⌜ 1 ≤ count ⌝ }
-    requires { ⌜ count ≤ 64 ⌝ }
+    requires { ⌜ count ≤ PLACES ⌝ }
     ensures { λ r. ⌜ r ≡ draw % count ⌝ }
 {
     (draw % count) as u8
@@ -108,7 +110,7 @@ pub fn draw_step(seed: u32, setup: Setup, total: u32) -> Drawn
         kind: (1 + first % 9) as u8,
         client: remainder(second, setup.clients),
         object: remainder(third, setup.objects),
-        place: remainder(fourth, 64),
+        place: remainder(fourth, PLACES as u32),
         clock: sum,
         value: amount as u64,
     });

@@ -12,6 +12,9 @@ sized-values-requires c κs = search needs
 element-copy-out-n : tie.Need-element-copy-out-n
 element-copy-out-n c = search needs
 
+cast-if1 : tie.Need-cast-if1
+cast-if1 c = search needs
+
 returns : tie.Need-returns
 returns c = lost _ _ _ (c .if1 .taken)
 
@@ -58,6 +61,7 @@ push-spec =
     sized-requires
     sized-values-requires
     element-copy-out-n
+    cast-if1
     returns
     cast-place
     fields-of-requires

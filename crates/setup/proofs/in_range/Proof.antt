@@ -3,11 +3,20 @@ use Rattle.protocol.specs.Setup.{inRange}
 use Rattle.setup.proofs.in_range.Statement.{statement}
 use Rattle.setup.proofs.in_range.Tie as tie
 
+cast-between : tie.Need-cast-between
+cast-between c = search needs
+
 between-requires : tie.Need-between-requires
 between-requires c κs = search needs
 
+cast-between-2 : tie.Need-cast-between-2
+cast-between-2 c = search needs
+
 between-requires-2 : tie.Need-between-requires-2
 between-requires-2 c κs = search needs
+
+cast-between-3 : tie.Need-cast-between-3
+cast-between-3 c = search needs
 
 between-requires-3 : tie.Need-between-requires-3
 between-requires-3 c κs = search needs
@@ -42,8 +51,11 @@ pub in-range-spec : {M : Type 1} → statement M
 in-range-spec =
     tie.close
     (tie.spec
+    cast-between
     between-requires
+    cast-between-2
     between-requires-2
+    cast-between-3
     between-requires-3
     between-requires-4
     between-requires-5

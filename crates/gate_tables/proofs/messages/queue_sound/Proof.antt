@@ -19,6 +19,9 @@ abbrev μ-loop : tie.MeasureT-loop
 element-copy-out-length : tie.Need-element-copy-out-length Inv-loop μ-loop
 element-copy-out-length c = search needs
 
+cast-if1 : tie.Need-cast-if1 Inv-loop μ-loop
+cast-if1 c = search needs
+
 returns : tie.Need-returns Inv-loop μ-loop
 returns c = search queue-long
 
@@ -58,6 +61,7 @@ queue-sound-spec =
     Inv-loop
     μ-loop
     element-copy-out-length
+    cast-if1
     returns
     cast-n
     loop-holds

@@ -33,11 +33,14 @@ remainder-requires c κs = clients-counted _ (c .before .before .before .before 
 remainder-requires-2 : tie.Need-remainder-requires-2
 remainder-requires-2 c κs = objects-counted _ (c .before .before .before .before .before .before .pre .0)
 
+cast-remainder : tie.Need-cast-remainder
+cast-remainder c = search needs
+
 remainder-requires-3 : tie.Need-remainder-requires-3
 remainder-requires-3 c κs = search needs
 
-cast-t18 : tie.Need-cast-t18
-cast-t18 c = search needs
+cast-t19 : tie.Need-cast-t19
+cast-t19 c = search needs
 
 only-used-requires : tie.Need-only-used-requires
 only-used-requires c κs = search needs
@@ -73,8 +76,9 @@ draw-step-spec =
     cast-t14
     remainder-requires
     remainder-requires-2
+    cast-remainder
     remainder-requires-3
-    cast-t18
+    cast-t19
     only-used-requires
     total-after-requires
     returns)
