@@ -5,14 +5,16 @@ ghost use mathlib.Core.Path.{_≡_};
 ghost use lib.ListN.{length};
 ghost use Rattle.file_records.specs.Held.{stepsBy};
 ghost use Rattle.export_parts.specs.Lent.{setupLent, stepLent, stepsLent};
+ghost use Rattle.file_records.specs.Sizes.{STEP, STEPS};
 use file_records::list::Steps;
+use file_records::sizes;
 use protocol::setup::Setup;
 
 // Returns the setup in these bytes, or one out of range if there are not 48 bytes or the byte after the counts is not 0.
 pub fn setup_lent(bytes: &[u8]) -> Setup
     ensures { λ r. ⌜ r ≡ setupLent (now (bytes .entry)) ⌝ }
 {
-    if bytes.len() != 48 {
+    if bytes.len() != sizes::SETUP {
         return file_records::no_setup();
     }
     if bytes[3] != 0 {
@@ -23,8 +25,8 @@ pub fn setup_lent(bytes: &[u8]) -> Setup
 
 // Returns the steps in the first `count` records.
 fn steps_in(records: &[u8], count: usize) -> Steps
-    requires { ⌜ 16 * count ≤ length (now records) ⌝ }
-    requires { ⌜ count ≤ 4000 ⌝ }
+    requires { ⌜ STEP * count ≤ length (now records) ⌝ }
+    requires { ⌜ count ≤ STEPS ⌝ }
     ensures { λ r. ⌜ r ≡ stepsBy (stepLent (now (records .entry))) count ⌝ }
 {
     let mut steps = file_records::list::blank(count as u32);
@@ -33,7 +35,7 @@ fn steps_in(records: &[u8], count: usize) -> Steps
     while k < count {
         let step = file_records::step_in(records, place);
         steps.items[k] = step;
-        place += 16;
+        place += sizes::STEP;
         k += 1;
     }
     steps
@@ -44,11 +46,11 @@ pub fn steps_lent(records: &[u8]) -> Steps
     ensures { λ r. ⌜ r ≡ stepsLent (now (records .entry)) ⌝ }
 {
     let n = records.len();
-    if n % 16 != 0 {
+    if n % sizes::STEP != 0 {
         return file_records::list::blank(4001);
     }
-    if 64000 < n {
+    if sizes::STEP * sizes::STEPS < n {
         return file_records::list::blank(4001);
     }
-    steps_in(records, n / 16)
+    steps_in(records, n / sizes::STEP)
 }

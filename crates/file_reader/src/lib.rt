@@ -1,6 +1,7 @@
 // Reads run files: a note, the setup, the steps and a trailer (01, "Frame, run file and listing").
 ghost use mathlib.Core.Path.{_≡_};
 ghost use Rattle.file_reader.specs.File.{noContents, contentsOf, noteOf, stepAt};
+use file_records::sizes;
 use protocol::setup::Setup;
 use protocol::step::Step;
 
@@ -35,7 +36,7 @@ pub fn read(file: &[u8]) -> Contents
             refusal: 0,
             setup: file_records::setup_in(file, at),
             count: file_shape::count_of(file),
-            first: at + 48,
+            first: at + sizes::SETUP,
         };
     }
     refused()
@@ -58,10 +59,10 @@ pub fn step_at(file: &[u8], place: usize) -> Step
     ensures { λ r. ⌜ r ≡ stepAt (now (file .entry)) place ⌝ }
 {
     let n = file.len();
-    if n < 16 {
+    if n < sizes::STEP {
         return file_records::no_step();
     }
-    if n - 16 < place {
+    if n - sizes::STEP < place {
         return file_records::no_step();
     }
     file_records::step_in(file, place)

@@ -9,6 +9,9 @@ ghost use Rattle.bytes_layout.specs.Number.{Stored};
 ghost use Rattle.bytes_layout.specs.Written.{Written};
 ghost use Rattle.file_records.specs.Bytes.{setupFront, setupBytes, stepBytes, trailerBytes};
 ghost use Rattle.file_records.specs.Round.{Widths};
+ghost use Rattle.file_records.specs.Sizes.{SETUP, STEP, TRAILER, STEPS};
+ghost use Rattle.setup.specs.Limits.{OBJECTS};
+use crate::sizes;
 use protocol::setup::Setup;
 use protocol::step::Step;
 
@@ -31,38 +34,39 @@ fn write_front(out: &mut [u8], at: usize, setup: Setup)
     bytes_layout::write_u32(out, at + 12, setup.m);
 }
 
-// Writes a setup's 48 bytes. The last two clauses are for callers, which cannot see that a setup has 32 volume bytes.
+// Writes a setup. The last two clauses are for callers, which cannot see that a setup has a volume byte for each object that there can be.
 pub fn write_setup(out: &mut [u8], at: usize, setup: Setup) -> usize
-    requires { ⌜ at + 48 ≤ length (now out) ⌝ }
+    requires { ⌜ at + SETUP ≤ length (now out) ⌝ }
     requires { ⌜ inRange setup ≡ true ⌝ }
     ensures written { λ r. ⌜ Written (now (out .entry)) (now (out .exit)) at (setupBytes setup) r ⌝ }
-    ensures place { λ r. ⌜ r ≡ at + 48 ⌝ }
-    ensures volumes { λ _. ⌜ length (setup .volume) ≡ 32 ⌝ }
+    ensures place { λ r. ⌜ r ≡ at + SETUP ⌝ }
+    ensures volumes { λ _. ⌜ length (setup .volume) ≡ OBJECTS ⌝ }
 {
     write_front(out, at, setup);
     let volume = setup.volume;
     bytes_layout::output::write_bytes(out, at + 16, &volume)
 }
 
-// Writes a step's 16 bytes. The second clause tells callers that the numbers of a step fit their widths.
+// Writes a step. The second clause tells callers that the numbers of a step fit their widths.
 pub fn write_step(out: &mut [u8], at: usize, step: Step) -> usize
-    requires { ⌜ at + 16 ≤ length (now out) ⌝ }
+    requires { ⌜ at + STEP ≤ length (now out) ⌝ }
     ensures written { λ r. ⌜ Written (now (out .entry)) (now (out .exit)) at (stepBytes step) r ⌝ }
     ensures widths { λ _. ⌜ Widths step ⌝ }
 {
     bytes_layout::write_four(out, at, step.kind, step.client, step.object, step.place);
     bytes_layout::write_u32(out, at + 4, step.clock);
     bytes_layout::write_u64(out, at + 8, step.value);
-    at + 16
+    at + sizes::STEP
 }
 
 // Writes the step count and the distance from the file's end back to the setup.
 pub fn write_trailer(out: &mut [u8], at: usize, count: u32) -> usize
-    requires { ⌜ at + 8 ≤ length (now out) ⌝ }
-    requires { ⌜ count ≤ 4000 ⌝ }
+    requires { ⌜ at + TRAILER ≤ length (now out) ⌝ }
+    requires { ⌜ count ≤ STEPS ⌝ }
     ensures { λ r. ⌜ Written (now (out .entry)) (now (out .exit)) at (trailerBytes count) r ⌝ }
 {
     bytes_layout::write_u32(out, at, count);
-    bytes_layout::write_u32(out, at + 4, 56 + 16 * count);
-    at + 8
+    let distance = sizes::EMPTY + sizes::STEP * (count as usize);
+    bytes_layout::write_u32(out, at + 4, distance as u32);
+    at + sizes::TRAILER
 }

@@ -1,14 +1,18 @@
 // Reads the setup and the steps of a run file from their bytes, writes them (`bytes`), and holds steps by value (`list`).
 pub mod bytes;
 pub mod list;
+pub mod sizes;
 
 ghost use Prim.Native.Nat.{_+_, _≤_};
 ghost use mathlib.Core.Path.{_≡_};
 ghost use lib.ListN.{length};
 ghost use Rattle.bytes_layout.specs.Number.{bytesAt};
+ghost use Rattle.setup.specs.Limits.{OBJECTS};
 ghost use Rattle.file_records.specs.Records.{setupIn, stepIn, noSetup, noStep};
+ghost use Rattle.file_records.specs.Sizes.{SETUP, STEP};
 use protocol::setup::Setup;
 use protocol::step::Step;
+use setup::limits;
 
 fn wide(byte: u8) -> u32
     ensures { λ r. ⌜ r ≡ byte ⌝ }
@@ -16,14 +20,14 @@ fn wide(byte: u8) -> u32
     byte as u32
 }
 
-// Returns the 32 volume bytes that begin at `at`.
-fn volumes_in(file: &[u8], at: usize) -> [u8; 32]
-    requires { ⌜ at + 32 ≤ length (now file) ⌝ }
-    ensures { λ r. ⌜ r ≡ bytesAt (now (file .entry)) at 32 ⌝ }
+// Returns the volume bytes that begin at `at`.
+fn volumes_in(file: &[u8], at: usize) -> [u8; limits::OBJECTS]
+    requires { ⌜ at + OBJECTS ≤ length (now file) ⌝ }
+    ensures { λ r. ⌜ r ≡ bytesAt (now (file .entry)) at OBJECTS ⌝ }
 {
-    let mut volumes = [0u8; 32];
+    let mut volumes = [0u8; limits::OBJECTS];
     let mut object = 0;
-    while object < 32 {
+    while object < limits::OBJECTS {
         volumes[object] = file[at + object];
         object += 1;
     }
@@ -33,7 +37,7 @@ fn volumes_in(file: &[u8], at: usize) -> [u8; 32]
 // Returns the "setup (48 bytes: dash, volume and object counts, a 0, tv, t, m, 32 volume bytes ..)" that begins at `at`. Callers check the byte after the
 // counts, which must be 0.
 pub fn setup_in(file: &[u8], at: usize) -> Setup
-    requires { ⌜ at + 48 ≤ length (now file) ⌝ }
+    requires { ⌜ at + SETUP ≤ length (now file) ⌝ }
     ensures { λ r. ⌜ r ≡ setupIn (now (file .entry)) at ⌝ }
 {
     Setup {
@@ -49,7 +53,7 @@ pub fn setup_in(file: &[u8], at: usize) -> Setup
 
 // Returns the step whose "16 bytes (kind, dash, object, place; clock in 4; value in 8 ..)" begin at `at`.
 pub fn step_in(file: &[u8], at: usize) -> Step
-    requires { ⌜ at + 16 ≤ length (now file) ⌝ }
+    requires { ⌜ at + STEP ≤ length (now file) ⌝ }
     ensures { λ r. ⌜ r ≡ stepIn (now (file .entry)) at ⌝ }
 {
     Step {
@@ -66,7 +70,7 @@ pub fn step_in(file: &[u8], at: usize) -> Step
 pub fn no_setup() -> Setup
     ensures { λ r. ⌜ r ≡ noSetup ⌝ }
 {
-    let volume = [0u8; 32];
+    let volume = [0u8; limits::OBJECTS];
     Setup {
         clients: 0,
         volumes: 0,

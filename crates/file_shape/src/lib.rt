@@ -3,6 +3,7 @@
 ghost use mathlib.Core.Path.{_≡_};
 ghost use Rattle.file_shape.specs.Shape.{countOf, setupPlace, firstPlace, stepFits, stepsFit, trailerFits, measured, contentsFit, wellFormed};
 ghost use Rattle.file_shape.specs.Parts.{Parts};
+use file_records::sizes;
 use protocol::step::Step;
 
 // Returns whether the step fits: "unused fields 0". "Its shape asks nothing of an unknown kind or of that step's fields."
@@ -22,7 +23,9 @@ pub fn step_fits(step: Step) -> bool
 fn trailer_fits(n: usize, count: u32, distance: u32) -> bool
     ensures { λ r. ⌜ r ≡ trailerFits n count distance ⌝ }
 {
-    (count <= 4000) & (distance as u64 == 56 + 16 * (count as u64)) & (distance as usize <= n)
+    (count as usize <= sizes::STEPS)
+        & (distance as usize == sizes::EMPTY + sizes::STEP * (count as usize))
+        & (distance as usize <= n)
 }
 
 // Returns whether the file's length is allowed ("A run file, at most 65,536 bytes") and agrees with its trailer.
@@ -30,15 +33,15 @@ fn measured(file: &[u8]) -> bool
     ensures { λ r. ⌜ r ≡ measured (now (file .entry)) ⌝ }
 {
     let n = file.len();
-    if n < 56 {
+    if n < sizes::EMPTY {
         return false;
     }
-    if 65536 < n {
+    if sizes::FILE < n {
         return false;
     }
     trailer_fits(
         n,
-        bytes_layout::read_u32(file, n - 8),
+        bytes_layout::read_u32(file, n - sizes::TRAILER),
         bytes_layout::read_u32(file, n - 4),
     )
 }
@@ -48,7 +51,7 @@ pub fn count_of(file: &[u8]) -> u32
     requires { ⌜ Parts (now file) ⌝ }
     ensures { λ r. ⌜ r ≡ countOf (now (file .entry)) ⌝ }
 {
-    bytes_layout::read_u32(file, file.len() - 8)
+    bytes_layout::read_u32(file, file.len() - sizes::TRAILER)
 }
 
 // Returns where the setup begins, after "a rider's note of any length": the trailer's "distance from the file's end back to the setup".
@@ -66,12 +69,12 @@ fn steps_fit(file: &[u8]) -> bool
     ensures { λ r. ⌜ r ≡ stepsFit (now (file .entry)) (firstPlace (now (file .entry))) (countOf (now (file .entry))) ⌝ }
 {
     let count = count_of(file);
-    let mut place = setup_place(file) + 48;
+    let mut place = setup_place(file) + sizes::SETUP;
     let mut ok = true;
     let mut k = 0;
     while k < count {
         ok = ok & step_fits(file_records::step_in(file, place));
-        place += 16;
+        place += sizes::STEP;
         k += 1;
     }
     ok

@@ -10,15 +10,18 @@ ghost use Rattle.protocol.specs.Setup.{inRange};
 ghost use Rattle.file_records.specs.Bytes.{stepsBytes, fileBytes};
 ghost use Rattle.file_records.specs.Round.{Widths};
 ghost use Rattle.file_records.specs.Held.{held};
+ghost use Rattle.file_records.specs.Sizes.{STEP, STEPS};
+ghost use Rattle.setup.specs.Limits.{OBJECTS};
 ghost use Rattle.file_writer.specs.File.{allFit, fileFits, writeRefusal};
 ghost use Rattle.file_writer.specs.ReadBack.{ReadAs};
 use bytes_layout::output::Report;
 use file_records::list::Steps;
+use file_records::sizes;
 use protocol::setup::Setup;
 
 // Returns whether no "step of a known kind has an unused field not 0".
 fn all_fit(steps: Steps) -> bool
-    requires { ⌜ steps .len ≤ 4000 ⌝ }
+    requires { ⌜ steps .len ≤ STEPS ⌝ }
     ensures { λ r. ⌜ r ≡ allFit (held steps) ⌝ }
 {
     let n = steps.len as usize;
@@ -36,14 +39,14 @@ fn all_fit(steps: Steps) -> bool
 fn file_fits(note_len: usize, steps: Steps, room: usize) -> bool
     ensures { λ r. ⌜ r ≡ fileFits «note_len» steps room ⌝ }
 {
-    if 4000 < steps.len {
+    if (sizes::STEPS as u32) < steps.len {
         return false;
     }
-    if 65536 < note_len {
+    if sizes::FILE < note_len {
         return false;
     }
-    let length = note_len + (56 + 16 * (steps.len as usize));
-    if 65536 < length {
+    let length = note_len + (sizes::EMPTY + sizes::STEP * (steps.len as usize));
+    if sizes::FILE < length {
         return false;
     }
     if room < length {
@@ -54,8 +57,8 @@ fn file_fits(note_len: usize, steps: Steps, room: usize) -> bool
 
 // Writes the step records from `at` on, and returns the offset after them.
 fn write_steps(out: &mut [u8], at: usize, steps: Steps) -> usize
-    requires { ⌜ steps .len ≤ 4000 ⌝ }
-    requires { ⌜ at + 16 * steps .len ≤ length (now out) ⌝ }
+    requires { ⌜ steps .len ≤ STEPS ⌝ }
+    requires { ⌜ at + STEP * steps .len ≤ length (now out) ⌝ }
     ensures written { λ r. ⌜ Written (now (out .entry)) (now (out .exit)) at (stepsBytes (held steps)) r ⌝ }
     ensures widths { λ _. ⌜ All Widths (held steps) ⌝ }
 {
@@ -74,7 +77,7 @@ fn write_file(note: &[u8], setup: Setup, steps: Steps, out: &mut [u8]) -> usize
     requires { ⌜ inRange setup ≡ true ⌝ }
     requires { ⌜ fileFits (length (now note)) steps (length (now out)) ≡ true ⌝ }
     ensures written { λ r. ⌜ Written (now (out .entry)) (now (out .exit)) 0 (fileBytes (now (note .entry)) setup (held steps)) r ⌝ }
-    ensures widths { λ _. ⌜ (length (setup .volume) ≡ 32) × All Widths (held steps) ⌝ }
+    ensures widths { λ _. ⌜ (length (setup .volume) ≡ OBJECTS) × All Widths (held steps) ⌝ }
 {
     let at = bytes_layout::output::write_bytes(out, 0, note);
     let first = file_records::bytes::write_setup(out, at, setup);

@@ -32,7 +32,7 @@ fn accept(f: Fields) -> Decoded
 pub fn decode(bytes: &[u8]) -> Decoded
     ensures { λ r. ⌜ Decodes (now (bytes .entry)) r ⌝ }
 {
-    if bytes.len() == 32 {
+    if bytes.len() == frame_places::FRAME {
         return accept(frame_places::read(bytes));
     }
     Decoded::Refused
@@ -43,7 +43,7 @@ pub fn decode(bytes: &[u8]) -> Decoded
 pub fn encode(message: Message, out: &mut [u8]) -> Encoded
     ensures { λ r. ⌜ Encodes message (now (out .entry)) (now (out .exit)) r ⌝ }
 {
-    if 32 <= out.len() {
+    if frame_places::FRAME <= out.len() {
         frame_places::write(out, message_fields::fields_of(message));
         return Encoded::Written;
     }

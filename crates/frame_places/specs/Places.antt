@@ -6,6 +6,10 @@ use Rattle.bytes_layout.specs.Number.{bytesOf, numberAt, fourBytes}
 use Rattle.message_fields.specs.declared.Fields.{Fields}
 use Rattle.message_fields.specs.Fields.{row}
 
+-- "A frame is 32 bytes"
+abbrev pub FRAME : ℕ
+FRAME = 32
+
 -- "A frame is 32 bytes, little endian: kind .., dash, object .., value present .., one byte each"
 abbrev pub head : Fields → List ℕ
 head f = fourBytes (f .kind) (f .client) (f .object) (f .present)

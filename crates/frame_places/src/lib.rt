@@ -3,13 +3,16 @@ ghost use Prim.Native.Nat.{_≤_};
 ghost use mathlib.Core.Path.{_≡_};
 ghost use lib.ListN.{length};
 ghost use Rattle.bytes_layout.specs.Number.{Stored};
-ghost use Rattle.frame_places.specs.Places.{head, numbers, laid, fieldsIn};
+ghost use Rattle.frame_places.specs.Places.{FRAME, head, numbers, laid, fieldsIn};
 use message_fields::Fields;
+
+// the bytes of a frame
+pub const FRAME: usize = 32;
 
 // Returns the fields as they are, without checking that they make a message: "kind .., dash, object .., value present .., number, volume expiry, epoch,
 // version, object expiry; value in 8 bytes".
 pub fn read(bytes: &[u8]) -> Fields
-    requires { ⌜ 32 ≤ length (now bytes) ⌝ }
+    requires { ⌜ FRAME ≤ length (now bytes) ⌝ }
     ensures { λ r. ⌜ r ≡ fieldsIn (now (bytes .entry)) ⌝ }
 {
     Fields {
@@ -48,7 +51,7 @@ fn write_numbers(out: &mut [u8], f: Fields)
 
 // Writes all ten fields to the first 32 bytes of the output, the last a "value in 8 bytes".
 pub fn write(out: &mut [u8], f: Fields)
-    requires { ⌜ 32 ≤ length (now out) ⌝ }
+    requires { ⌜ FRAME ≤ length (now out) ⌝ }
     ensures { λ _. ⌜ Stored (now (out .entry)) (now (out .exit)) 0 (laid f) ⌝ }
 {
     write_head(out, f);

@@ -11,6 +11,10 @@ use Rattle.protocol.specs.declared.step.Answer.the-variants.{Done, Shown, AskFi
 use Rattle.protocol.specs.Answers.{doneOrCompleted, answerNumber, answerValue}
 use Rattle.listing_decimal.specs.Decimal.{width, tens, field, length-field, further-most, further-below}
 
+-- room for the longest listing: a header, and 4,000 lines of at most 28 bytes
+abbrev pub LONGEST : ℕ
+LONGEST = 112640
+
 abbrev pub space : ℕ
 space = 32
 

@@ -5,6 +5,9 @@ ghost use Rattle.bytes_layout.specs.Written.{Written};
 ghost use Rattle.listing.specs.Listing.{header, line, lineOf, refusedListing};
 use protocol::step::Answer;
 
+// room for the longest listing
+pub const LONGEST: usize = 112640;
+
 // Writes the header line: "prints a header".
 pub fn write_header(out: &mut [u8], at: usize) -> usize
     requires { ⌜ at + 18 ≤ length (now out) ⌝ }

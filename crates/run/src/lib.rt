@@ -7,6 +7,7 @@ ghost use lib.ListN.{length};
 ghost use Rattle.file_reader.specs.File.{contentsOf};
 ghost use Rattle.bytes_layout.specs.Written.{Written};
 ghost use Rattle.bytes_layout.specs.Report.{Reports};
+ghost use Rattle.listing.specs.Listing.{LONGEST};
 ghost use Rattle.run.specs.Listed.{fileListing, listRefusal};
 use bytes_layout::output::Report;
 use file_reader::Contents;
@@ -15,7 +16,7 @@ use file_reader::Contents;
 fn print(file: &[u8], c: Contents, out: &mut [u8]) -> usize
     requires { ⌜ c ≡ contentsOf (now file) ⌝ }
     requires { ⌜ c .refusal ≡ 0 ⌝ }
-    requires { ⌜ 112640 ≤ length (now out) ⌝ }
+    requires { ⌜ LONGEST ≤ length (now out) ⌝ }
     ensures { λ r. ⌜ Written (now (out .entry)) (now (out .exit)) 0 (fileListing (now (file .entry))) r ⌝ }
 {
     let at = listing::write_header(out, 0);
@@ -30,7 +31,7 @@ pub fn list(file: &[u8], out: &mut [u8]) -> Report
 {
     let c = file_reader::read(file);
     if c.refusal == 0 {
-        let mut buffer = [0u8; 112640];
+        let mut buffer = [0u8; listing::LONGEST];
         let n = print(file, c, &mut buffer);
         if n <= out.len() {
             bytes_layout::output::write_bytes(out, 0, &buffer[..n]);

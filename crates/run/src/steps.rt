@@ -6,6 +6,7 @@ ghost use Rattle.bytes_layout.specs.Written.{Written};
 ghost use Rattle.file_reader.specs.File.{contentsOf};
 ghost use Rattle.run.specs.Ran.{linesOf};
 use file_reader::Contents;
+use file_records::sizes;
 use state_words::VALUES;
 use state_words::WORDS;
 
@@ -30,7 +31,7 @@ pub fn run_steps(file: &[u8], c: Contents, out: &mut [u8], at: usize) -> usize
         let step = file_reader::step_at(file, place);
         let answer = run_step::advance(s, &mut words, &mut values, step);
         next = listing::write_line(out, next, (k + 1) as u64, answer);
-        place += 16;
+        place += sizes::STEP;
         k += 1;
     }
     next

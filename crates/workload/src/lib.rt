@@ -9,9 +9,11 @@ ghost use Rattle.protocol.specs.Setup.{inRange};
 ghost use Rattle.bytes_layout.specs.Report.{Reports};
 ghost use Rattle.file_records.specs.Bytes.{fileBytes};
 ghost use Rattle.file_records.specs.Held.{stepsBy};
+ghost use Rattle.file_records.specs.Sizes.{STEPS};
 ghost use Rattle.workload.specs.Workload.{stepOf, workload, stepsRefusal, workloadOf, fileRefusal};
 use bytes_layout::output::Report;
 use file_records::list::Steps;
+use file_records::sizes::STEPS;
 use protocol::setup::Setup;
 
 // The steps of a workload. `refusal` is 7 for a setup out of range, 10 for more than 4,000 steps, else 0; a refused workload has no steps.
@@ -25,7 +27,7 @@ fn refusal(setup: Setup, count: u32) -> u8
     ensures { λ r. ⌜ r ≡ stepsRefusal setup count ⌝ }
 {
     if setup::in_range(setup) {
-        if count <= 4000 {
+        if count as usize <= STEPS {
             return 0;
         }
         return 10;
@@ -36,7 +38,7 @@ fn refusal(setup: Setup, count: u32) -> u8
 // Returns the first `count` steps of a seed, for a setup in range: "Each step draws five times".
 fn drawn_steps(seed: u32, setup: Setup, count: u32) -> Steps
     requires { ⌜ inRange setup ≡ true ⌝ }
-    requires { ⌜ count ≤ 4000 ⌝ }
+    requires { ⌜ count ≤ STEPS ⌝ }
     ensures { λ r. ⌜ r ≡ stepsBy (stepOf setup seed) count ⌝ }
 {
     let mut steps = file_records::list::blank(count);

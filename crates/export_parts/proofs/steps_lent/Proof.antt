@@ -9,6 +9,9 @@ blank-requires c κs = search needs
 returns : tie.Need-returns
 returns c = search not-whole
 
+mul-if2 : tie.Need-mul-if2
+mul-if2 c = search needs
+
 blank-requires-2 : tie.Need-blank-requires-2
 blank-requires-2 c κs = search needs
 
@@ -24,4 +27,4 @@ returns-3 c = search whole
 pub steps-lent-spec : {M : Type 1} → statement M
 steps-lent-spec =
     tie.close
-    (tie.spec blank-requires returns blank-requires-2 returns-2 steps-in-requires returns-3)
+    (tie.spec blank-requires returns mul-if2 blank-requires-2 returns-2 steps-in-requires returns-3)

@@ -4,6 +4,9 @@ use Rattle.file_writer.proofs.Laws.{too-many, too-long, no-room, by-ste
 use Rattle.file_writer.proofs.file_fits.Statement.{statement}
 use Rattle.file_writer.proofs.file_fits.Tie as tie
 
+cast-if1 : tie.Need-cast-if1
+cast-if1 c = search needs
+
 returns : tie.Need-returns
 returns c = too-many _ _ _ (omega (arith, c .if1 .taken))
 
@@ -38,6 +41,7 @@ pub file-fits-spec : {M : Type 1} → statement M
 file-fits-spec =
     tie.close
     (tie.spec
+    cast-if1
     returns
     returns-2
     cast-length

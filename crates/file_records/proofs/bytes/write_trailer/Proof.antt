@@ -6,14 +6,17 @@ use Rattle.file_records.proofs.bytes.write_trailer.Tie as tie
 write-u32-requires : tie.Need-write-u32-requires
 write-u32-requires c κs = search needs
 
+mul-distance : tie.Need-mul-distance
+mul-distance c = search needs
+
+add-distance : tie.Need-add-distance
+add-distance c = search needs
+
 add-write-u32 : tie.Need-add-write-u32
 add-write-u32 c = search needs
 
-mul-write-u32 : tie.Need-mul-write-u32
-mul-write-u32 c = search needs
-
-add-write-u32-2 : tie.Need-add-write-u32-2
-add-write-u32-2 c = search needs
+cast-write-u32 : tie.Need-cast-write-u32
+cast-write-u32 c = search needs
 
 write-u32-requires-2 : tie.Need-write-u32-requires-2
 write-u32-requires-2 c κs = search needs
@@ -32,9 +35,10 @@ write-trailer-spec =
     tie.close
     (tie.spec
     write-u32-requires
+    mul-distance
+    add-distance
     add-write-u32
-    mul-write-u32
-    add-write-u32-2
+    cast-write-u32
     write-u32-requires-2
     add-result
     same-length
