@@ -18,7 +18,7 @@ use Rattle.protocol.specs.declared.tables.Tables.{Tables}
 use Rattle.protocol.specs.Setup.{volumeOf}
 use Rattle.protocol.specs.Messages.{message, pushed}
 use Rattle.protocol.specs.Tables.{byObject, epochAt, seenAt, unreachableAt, offerAt, valueAt, versionAt, standingAt, awaitedAt, waitingAt, withVolumes, withSessions, withObjects, withHolders, withQueue, freshSessions, freshObjects, freshHolders}
-use Rattle.protocol.specs.Updates.{withEpoch, withGuard, setVolumeExpiry, setSeen, setSessionExpiry, withUnreachable, setUnreachable, setOffer, withValue, withVersion, setObjectExpiry, withLease, withWaiting, setLease, setWaiting}
+use Rattle.protocol.specs.Updates.{withEpoch, withGuard, setVolumeExpiry, setSeen, setSessionExpiry, setUnreachable, setOffer, withValue, withVersion, setObjectExpiry, withLease, withWaiting, setLease, setWaiting}
 use Rattle.protocol.specs.Writes.{Staged, unstaged, invalidation, ready, marked}
 
 -- one message sent
@@ -33,7 +33,7 @@ noted t d n = withSessions t (setSeen (t .sessions) d n)
 
 -- "mark unreachable, offer number := number"
 unfoldable pub offered : Tables → ℕ → ℕ → ℕ → Tables
-offered t d v n = withSessions t (setOffer (withUnreachable (t .sessions) (marked (t .sessions .unreachable) d v)) d v n)
+offered t d v n = withSessions t (setOffer (marked (t .sessions) d v) d v n)
 
 -- ".. send OFFER"
 abbrev pub offering : Tables → ℕ → ℕ → ℕ → Message

@@ -1,10 +1,9 @@
 -- 01, "Steps": accepting a write, completing it, and which writes a step completes.
--- Letters: s setup, t and u tables, o and j objects, d client, v volume, x a value, q the message list, l a list of marks, g what is staged, c tables with a
+-- Letters: s setup, t and u tables, o and j objects, d client, v volume, x a value or the sessions, q the message list, g what is staged, c tables with a
 -- count, n how many.
 use Prim.Native.Nat.{ℕ, zero, suc, _+_, min, max}
 use mathlib.Core.Bool.{Bool, true, false, cond, not, _&&_, _||_}
 use mathlib.Core.List.{List, [], _∷_}
-use lib.ListN.{set}
 use Rattle.laws.specs.Loop.{foldFrom, anyFrom}
 use Rattle.laws.specs.Sets.{setOf}
 use Rattle.laws.specs.Store.{storeEach, always}
@@ -19,8 +18,8 @@ use Rattle.protocol.specs.declared.tables.Holders.{Holders}
 use Rattle.protocol.specs.declared.tables.Tables.{Tables}
 use Rattle.protocol.specs.Setup.{volumeOf}
 use Rattle.protocol.specs.Messages.{message, pushed}
-use Rattle.protocol.specs.Tables.{byVolume, byObject, epochAt, guardAt, sessionExpiryAt, unreachableAt, versionAt, standingAt, pendingAt, endAt, leaseAt, waitingAt, withClock, withSessions, withObjects, withHolders, withQueue}
-use Rattle.protocol.specs.Updates.{withUnreachable, setValue, setVersion, setWrite, withLease, setWaiting}
+use Rattle.protocol.specs.Tables.{byObject, epochAt, guardAt, sessionExpiryAt, unreachableAt, versionAt, standingAt, pendingAt, endAt, leaseAt, waitingAt, withClock, withSessions, withObjects, withHolders, withQueue}
+use Rattle.protocol.specs.Updates.{setUnreachable, setValue, setVersion, setWrite, withLease, setWaiting}
 use Rattle.protocol.specs.Leases.{serverAlive, guardPassed, endOver}
 
 -- Step 4: "Waiting are the dashes whose object lease is alive and which either are not marked unreachable or have a live volume lease."
@@ -71,15 +70,15 @@ unfoldable pub due : Setup → Tables → ℕ → Bool
 due s t o = standingAt t o && (not (waited s t o) && guardPassed t (volumeOf s o) || endOver (t .clock) (endAt t o))
 
 -- a client marked unreachable in a volume
-abbrev pub marked : List Bool → ℕ → ℕ → List Bool
-marked l d v = set l (byVolume d v) true
+abbrev pub marked : Sessions → ℕ → ℕ → Sessions
+marked x d v = setUnreachable x d v true
 
 -- "marks still waiting dashes unreachable"
-abbrev pub markIfWaiting : Setup → Tables → ℕ → List Bool → ℕ → List Bool
-markIfWaiting s t o l d = cond (waitingAt t d o) (marked l d (volumeOf s o)) l
+abbrev pub markIfWaiting : Setup → Tables → ℕ → Sessions → ℕ → Sessions
+markIfWaiting s t o x d = cond (waitingAt t d o) (marked x d (volumeOf s o)) x
 
 unfoldable pub deserted : Setup → Tables → ℕ → Sessions
-deserted s t o = withUnreachable (t .sessions) (foldFrom (markIfWaiting s t o) (t .sessions .unreachable) 0 (s .clients))
+deserted s t o = foldFrom (markIfWaiting s t o) (t .sessions) 0 (s .clients)
 
 -- "stores the value, adds 1 to the version, .. and ends the standing write"; OE stays
 unfoldable pub posted : Tables → ℕ → Objects

@@ -247,7 +247,7 @@ module _ (s : Setup) (w : World) (o : ℕ) (range : Ranges s) (objects : Objects
 -- completing marks, then posts and releases
 pub completed-keeps : (s : Setup) (w : World) (o : ℕ) → Ranges s → Shape (w .tables) → o < s .objects → standingAt (w .tables) o ≡ true → Completes s (w .tables) o → Inv s w
     → Inv s (withTables w (completed s (w .tables) o))
-unfolding completed posted released deserted
+unfolding completed posted released
 completed-keeps s w o range shape ho stands may inv =
     posted-keeps s (withTables w (withSessions (w .tables) (deserted s (w .tables) o))) o range (shape .objects) (shape .holders)
-    (deserted-keeps s w o range ho (shape .sessions .unreachable) inv) ho stands may (deserted-marks s (w .tables) o range ho (shape .sessions .unreachable))
+    (deserted-keeps s w o range ho (shape .sessions) inv) ho stands may (deserted-marks s (w .tables) o range ho (shape .sessions))

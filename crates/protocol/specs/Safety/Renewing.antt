@@ -1,12 +1,10 @@
 -- The server receives a RENEW, by whichever rule.
 use Prim.Native.Nat.{ℕ, _<_, _≤_}
 use native.Mathlib.Omega.{arith}
-use mathlib.Core.Bool.{Bool, true, false, not, _&&_}
-use mathlib.Core.List.{List}
+use mathlib.Core.Bool.{true, false, not, _&&_}
 use mathlib.Core.Logic.{inr, ⊎-elim}
-use mathlib.Core.Path.{_≡_, refl, _∙_}
+use mathlib.Core.Path.{_≡_}
 use lib.Dec.{ltb, eqb}
-use lib.ListN.{getD}
 use lib.Seq.{getD-set-same}
 use borrow.Author.Tests.{ltb-true, ltb-false, leb-false, eqb-true, not-false, eq-eqb}
 use Rattle.laws.specs.Choice.{not-both, cond-keeps, and-true, and-false, or-false}
@@ -15,7 +13,7 @@ use Rattle.protocol.specs.declared.message.Kind.the-variants.{Renew}
 use Rattle.protocol.specs.declared.setup.Setup.{Setup}
 use Rattle.protocol.specs.declared.tables.Tables.{Tables}
 use Rattle.protocol.specs.Setup.{volumeOf}
-use Rattle.protocol.specs.Tables.{byVolume, epochAt, seenAt, unreachableAt, standingAt, waitingAt}
+use Rattle.protocol.specs.Tables.{epochAt, seenAt, unreachableAt, standingAt, waitingAt, withSessions}
 use Rattle.protocol.specs.Writes.{marked, invalidation}
 use Rattle.protocol.specs.Server.{sent, noted, offered, offering, waitedIn, lowestWaited, mustDrop, granted, renewedBy, renewed, stale, beingWritten}
 use Rattle.protocol.specs.World.{World}
@@ -23,10 +21,10 @@ use Rattle.protocol.specs.Ranges.{Ranges}
 use Rattle.protocol.specs.Soundness.ShapeKept.{noted-shape}
 use Rattle.protocol.specs.Soundness.Shape.{Shape}
 use Rattle.protocol.specs.Safety.Invariant.{Inv, KindOk}
-use Rattle.protocol.specs.Safety.Stores.{After, at-place, volume-set, client-fits}
+use Rattle.protocol.specs.Safety.Stores.{client-fits}
 use Rattle.protocol.specs.Safety.Tools.{unmarked-trusted}
 use Rattle.protocol.specs.Safety.Replaced.{withTables}
-use Rattle.protocol.specs.Safety.Marks.{marking, marks-keep}
+use Rattle.protocol.specs.Safety.Marks.{doubts-keep, marked-there, marked-doubts}
 use Rattle.protocol.specs.Safety.Sending.{send-single}
 use Rattle.protocol.specs.Safety.Noting.{noted-keeps, offer-keeps}
 use Rattle.protocol.specs.Safety.Leasing.{granted-keeps}
@@ -53,21 +51,14 @@ module _ (s : Setup) (range : Ranges s) (w : World) (inv : Inv s w) (shape : Sha
   seen-now = let q = getD-set-same (w .tables .sessions .seen) d n 0 (let l = shape .sessions .seen in let b = range .clients .1 in omega arith) in omega arith
 
   -- "mark unreachable, offer number := number, send OFFER"
-  abbrev un : List Bool
-  un = marked (w .tables .sessions .unreachable) d v
-
-  at-un : (k u : ℕ) → u < s .volumes → After d v k u (getD un (byVolume k u) false) true (unreachableAt (w .tables) k u)
-  at-un k u h = volume-set range hd hv (w .tables .sessions .unreachable) true false (shape .sessions .unreachable) k u h
-
-  marks : Inv s (marking w un)
-  marks =
-      marks-keep s w un range (λ k u hk hu a. ⊎-elim (λ q. q .2) (λ q. q .1 ∙ a) (at-un k u hu)) inv
+  marks : Inv s (withTables w (withSessions (w .tables) (marked (w .tables .sessions) d v)))
+  marks = doubts-keep s range w _ (marked-doubts s range (w .tables .sessions) (shape .sessions) d v hd hv) inv
 
   offers : Inv s (withTables w (offered t d v n))
   unfolding offered noted
   offers =
       noted-keeps s _
-      (offer-keeps s range _ marks d v n (shape .sessions .offer) hd hv (at-place (at-un d v hv) refl refl) new (renew .taken))
+      (offer-keeps s range _ marks d v n (shape .sessions .offer) hd hv (marked-there s range (w .tables .sessions) (shape .sessions) d v hd hv) new (renew .taken))
       d n (shape .sessions .seen) (client-fits range hd) new (renew .taken)
 
   by-offer : Inv s (withTables w (sent (offered t d v n) (offering t d v n)))

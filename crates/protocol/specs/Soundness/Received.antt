@@ -28,7 +28,7 @@ use Rattle.protocol.specs.Client.{viewed, ended, turned, changed, stands
 use Rattle.protocol.specs.Sound.{timeFits, kindSound}
 use Rattle.protocol.specs.Decide.{Received, kept, grantReceived, invalidateReceived, offerReceived, received}
 use Rattle.protocol.specs.Soundness.Bounds.{Timed, Started, Named, ViewsBounded, Bounded, CopyBounded, RequestBounded, epoch-bounded, volume-expiry-bounded, guard-bounded, seen-bounded, session-expiry-bounded, unreachable-bounded, offer-bounded, value-bounded, version-bounded, object-expiry-bounded, lease-bounded, waiting-bounded, view-epoch-bounded, view-expiry-bounded, volumes-bounded, sessions-bounded, objects-bounded, holders-bounded, views-bounded, sent-bounded, fresh-sessions, fresh-objects, fresh-holders}
-use Rattle.protocol.specs.Soundness.Written.{invalidation-named, settled-bounded}
+use Rattle.protocol.specs.Soundness.Written.{invalidation-named, marked-bounded, settled-bounded}
 
 module _ (s : Setup) (rs : Ranges s) where
   -- ---- RENEW
@@ -38,7 +38,7 @@ module _ (s : Setup) (rs : Ranges s) where
 
   offered-bounded : (t : Tables) (d v n : ℕ) → Bounded s t → Bounded s (offered t d v n)
   unfolding offered
-  offered-bounded t d v n h = sessions-bounded (offer-bounded _ (unreachable-bounded _ (h .sessions))) h
+  offered-bounded t d v n h = sessions-bounded (offer-bounded _ (marked-bounded s _ d v (h .sessions))) h
 
   volume-renewed-bounded : (t : Tables) (d v : ℕ) → Bounded s t → Bounded s (volumeRenewed s t d v)
   unfolding volumeRenewed

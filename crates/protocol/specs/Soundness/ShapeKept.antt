@@ -10,7 +10,7 @@ use mathlib.Core.Path.{_≡_, refl, _∙_}
 use lib.Dec.{ltb}
 use lib.ListN.{length, length-set}
 use Rattle.laws.specs.Choice.{cond-keeps, true-or-false}
-use Rattle.laws.specs.Loop.{foldFrom, fold-keeps}
+use Rattle.laws.specs.Loop.{fold-keeps}
 use Rattle.laws.specs.Store.{length-store}
 use Rattle.protocol.specs.declared.message.Kind.{Kind}
 use Rattle.protocol.specs.declared.message.Kind.the-variants.{Renew, Grant, Invalidate, Ack, Offer, Dropped}
@@ -20,6 +20,7 @@ use Rattle.protocol.specs.declared.setup.Setup.{Setup}
 use Rattle.protocol.specs.declared.step.Decision.{Decision}
 use Rattle.protocol.specs.declared.step.Step.{Step}
 use Rattle.protocol.specs.declared.step.Sweep.{Sweep}
+use Rattle.protocol.specs.declared.tables.Sessions.{Sessions}
 use Rattle.protocol.specs.declared.tables.Views.{Views}
 use Rattle.protocol.specs.declared.tables.Tables.{Tables}
 use Rattle.protocol.specs.Setup.{volumeOf}
@@ -32,7 +33,7 @@ use Rattle.protocol.specs.Decide.{Received, performed, readDecided, askD
 use Rattle.protocol.specs.World.{World, stepped}
 use Rattle.protocol.specs.Ledger.{accepts}
 use Rattle.protocol.specs.Soundness.StepCases.{Accepted, accepted, copyOf, requestOf, tables-after, refused-keeps, by-kind, place-exists, queue-fits, clock-performed, read-performed, ask-performed, write-performed, deliver-performed, lose-performed, double-performed, server-performed, client-performed}
-use Rattle.protocol.specs.Soundness.Shape.{ViewsShape, QueueShape, Shape, WorldShape, epoch-shape, volume-expiry-shape, guard-shape, seen-shape, session-expiry-shape, unreachable-shape, offer-shape, value-shape, version-shape, object-expiry-shape, write-shape, lease-shape, waiting-shape, view-epoch-shape, view-expiry-shape, clock-shape, volumes-shape, sessions-shape, objects-shape, holders-shape, views-shape, queue-shape, pushed-shape, sent-shape, taken-shape, fresh-sessions, fresh-objects, fresh-holders}
+use Rattle.protocol.specs.Soundness.Shape.{SessionsShape, ViewsShape, QueueShape, Shape, WorldShape, epoch-shape, volume-expiry-shape, guard-shape, seen-shape, session-expiry-shape, unreachable-shape, offer-shape, value-shape, version-shape, object-expiry-shape, write-shape, lease-shape, waiting-shape, view-epoch-shape, view-expiry-shape, clock-shape, volumes-shape, sessions-shape, objects-shape, holders-shape, views-shape, queue-shape, pushed-shape, sent-shape, taken-shape, fresh-sessions, fresh-objects, fresh-holders}
 
 -- ---- writes
 pub begun-shape : (s : Setup) (t : Tables) (o x : ℕ) → Shape t → Shape (begun s t o x)
@@ -51,15 +52,18 @@ written-shape s t o x h =
     let b = begun-shape s t o x h in
     queue-shape (notified-shape s (begun s t o x) o (b .queue)) b
 
-marked-length : (s : Setup) (t : Tables) (o : ℕ) (l : List Bool) → length (foldFrom (markIfWaiting s t o) l 0 (s .clients)) ≡ length l
-marked-length s t o l =
-    fold-keeps (λ (m : List Bool). length m ≡ length l) (markIfWaiting s t o)
-    (λ m d k. cond-keeps (λ (m : List Bool). length m ≡ length l) (waitingAt t d o) {x = marked m d (volumeOf s o)} (λ e. simp length-set k) (λ e. k)) l 0 (s .clients) refl
+pub marked-shape : (x : Sessions) (d v : ℕ) → SessionsShape x → SessionsShape (marked x d v)
+marked-shape x d v h = unreachable-shape _ (simp length-set) h
+
+deserted-shape : (s : Setup) (t : Tables) (o : ℕ) → SessionsShape (t .sessions) → SessionsShape (deserted s t o)
+unfolding deserted
+deserted-shape s t o h =
+    fold-keeps SessionsShape (markIfWaiting s t o) (λ x d k. cond-keeps SessionsShape (waitingAt t d o) (λ e. marked-shape x d (volumeOf s o) k) (λ e. k)) (t .sessions) 0 (s .clients) h
 
 pub completed-shape : (s : Setup) (t : Tables) (o : ℕ) → Shape t → Shape (completed s t o)
-unfolding completed posted released deserted
+unfolding completed posted released
 completed-shape s t o h =
-    sessions-shape (unreachable-shape _ (marked-length s t o _) (h .sessions))
+    sessions-shape (deserted-shape s t o (h .sessions))
     (holders-shape (waiting-shape _ (simp length-set) (lease-shape _ (simp length-store) (h .holders)))
     (objects-shape (version-shape _ (simp length-set) (value-shape _ (simp length-set) (write-shape o false 0 0 (h .objects)))) h))
 
@@ -77,7 +81,7 @@ noted-shape t d n h = sessions-shape (seen-shape _ (simp length-set) (h .session
 
 offered-shape : (t : Tables) (d v n : ℕ) → Shape t → Shape (offered t d v n)
 unfolding offered
-offered-shape t d v n h = sessions-shape (offer-shape _ (simp length-set) (unreachable-shape _ (simp length-set) (h .sessions))) h
+offered-shape t d v n h = sessions-shape (offer-shape _ (simp length-set) (marked-shape _ d v (h .sessions))) h
 
 volume-renewed-shape : (s : Setup) (t : Tables) (d v : ℕ) → Shape t → Shape (volumeRenewed s t d v)
 unfolding volumeRenewed
