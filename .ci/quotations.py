@@ -9,11 +9,8 @@ import glob
 import re
 from collections import defaultdict
 
-# what quotes neither 01 nor 02: the customer's demand 3; and the start of a run, whose words in 01 are "The tables start fresh"
-ELSEWHERE = {
-    "every copy shown is the value of the last write to that notice completed before it, or zero",
-    "from fresh tables, with no message and no copy",
-}
+# what quotes neither 01 nor 02: the customer's demand 3
+ELSEWHERE = {"every copy shown is the value of the last write to that notice completed before it, or zero"}
 DEFINITION = re.compile(r"(?:(?:abbrev|unfoldable) (?:pub )?|(?:pub )?(?:record|data) )([^\s:({]+)")
 FIELD = re.compile(r"  (?:pub )?([^\s:({]+) :")
 CODE = re.compile(r'(?:pub )?(?:extern "C" )?(?:fn|struct|enum|const|type) (\w+)')

@@ -38,6 +38,6 @@ AgreesFrom s w n b [] = Unit {0}
 AgreesFrom s w n b (x ∷ xs) =
     Agrees s w n x (booksAfter s b x .ledger) × AgreesFrom s (stepped s w x) (n + reported (answerOf s w x)) (booksAfter s b x) xs
 
--- "from fresh tables, with no message and no copy"
+-- "The tables start fresh, with no message and no copy."
 abbrev pub AgreesThroughout : Setup → List Step → Type 0
 AgreesThroughout s xs = AgreesFrom s (freshWorld s) 0 (freshBooks s) xs
