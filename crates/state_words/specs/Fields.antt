@@ -108,10 +108,7 @@ WORDS = 3018
 abbrev pub VALUES : ℕ
 VALUES = 640
 
--- the lengths of a field with one word for each client and volume, and for each client and object
-abbrev pub CLIENT-VOLUMES : ℕ
-CLIENT-VOLUMES = 128
-
+-- the length of a field with one word for each client and object
 abbrev pub CLIENT-OBJECTS : ℕ
 CLIENT-OBJECTS = 512
 
