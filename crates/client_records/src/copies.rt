@@ -30,8 +30,8 @@ pub fn put_copy(words: &mut Words, values: &mut Values, place: usize, c: Copy)
     ensures { λ _. ⌜ tablesOf (now (words .exit)) (now (values .exit)) ≡ tablesOf (now (words .entry)) (now (values .entry)) ⌝ }
     ensures { λ _. ⌜ recordsOf (now (words .exit)) (now (values .exit)) ≡ withCopy (recordsOf (now (words .entry)) (now (values .entry))) place c ⌝ }
 {
-    pass::sized(&*words);
-    pass::sized_values(&*values);
+    pass::length_known(&*words);
+    pass::values_length_known(&*values);
     words[fields::COPY_VERSION + place] = c.version;
     values[fields::COPY_VALUE + place] = c.value;
     words[fields::COPY_EXPIRY + place] = c.expiry;

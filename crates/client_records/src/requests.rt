@@ -27,7 +27,7 @@ pub fn put_request(words: &mut Words, client: usize, r: Request)
     requires { ⌜ client < CLIENTS ⌝ }
     ensures { λ _. ⌜ RequestPut (now (words .entry)) (now (words .exit)) client r ⌝ }
 {
-    pass::sized(&*words);
+    pass::length_known(&*words);
     words[fields::REQUEST_NEXT + client] = r.next;
     words[fields::REQUEST_STANDING + client] = pass::word(r.standing);
     words[fields::REQUEST_NUMBER + client] = r.number;

@@ -9,7 +9,7 @@ ghost use Rattle.export_frames.specs.Numbers.{fieldsFrom};
 use bytes_layout::output::Report;
 
 // Returns 0 or the refusal's number; if bytes were written, stores how many.
-fn told(report: Report, written: &mut usize) -> u8
+fn status_of(report: Report, written: &mut usize) -> u8
     ensures number { λ r. ⌜ r ≡ reportNumber report ⌝ }
     ensures length { λ _. ⌜ now (written .exit) ≡ lengthAfter report (now (written .entry)) ⌝ }
 {
@@ -28,7 +28,7 @@ fn told(report: Report, written: &mut usize) -> u8
 pub extern "C" fn gevtsomi_list(file: &[u8], out: &mut [u8], written: &mut usize) -> u8
     ensures { λ r. ⌜ Lists (now (file .entry)) (now (out .entry)) (now (out .exit)) (now (written .entry)) (now (written .exit)) r ⌝ }
 {
-    told(run::list(file, out), written)
+    status_of(run::list(file, out), written)
 }
 
 // Writes the run file of a note, a setup (48 bytes) and steps (records of 16 bytes) at the start of the output, and stores its length. Returns 7 for
@@ -45,7 +45,7 @@ pub extern "C" fn gevtsomi_write(
     ensures { λ r. ⌜ WritesFile (now (note .entry)) (setupLent (now (setup .entry))) (stepsLent (now (records .entry))) (now (out .entry)) (now (out .exit)) (now (written .entry)) (now (written .exit)) r ⌝ }
 {
     let steps = export_parts::steps_lent(records);
-    told(
+    status_of(
         file_writer::write(note, export_parts::setup_lent(setup), steps, out),
         written,
     )
@@ -64,7 +64,7 @@ pub extern "C" fn gevtsomi_workload(
 ) -> u8
     ensures { λ r. ⌜ WritesWorkload seed (now (note .entry)) (setupLent (now (setup .entry))) count (now (out .entry)) (now (out .exit)) (now (written .entry)) (now (written .exit)) r ⌝ }
 {
-    told(
+    status_of(
         workload::write(seed, note, export_parts::setup_lent(setup), count, out),
         written,
     )

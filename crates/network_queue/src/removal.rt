@@ -16,8 +16,8 @@ pub fn remove(words: &mut Words, values: &mut Values, place: usize)
     ensures { λ _. ⌜ tablesOf (now (words .exit)) (now (values .exit)) ≡ taken (tablesOf (now (words .entry)) (now (values .entry))) place ⌝ }
     ensures { λ _. ⌜ recordsOf (now (words .exit)) (now (values .exit)) ≡ recordsOf (now (words .entry)) (now (values .entry)) ⌝ }
 {
-    pass::sized(&*words);
-    pass::sized_values(&*values);
+    pass::length_known(&*words);
+    pass::values_length_known(&*values);
     let n = words[network::LENGTH];
     let rows = n as usize - (place + 1);
     network_rows::shift::shift(

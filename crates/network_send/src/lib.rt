@@ -14,8 +14,8 @@ pub fn push(words: &mut Words, values: &mut Values, message: Message)
     ensures { λ _. ⌜ tablesOf (now (words .exit)) (now (values .exit)) ≡ sent (tablesOf (now (words .entry)) (now (values .entry))) message ⌝ }
     ensures { λ _. ⌜ recordsOf (now (words .exit)) (now (values .exit)) ≡ recordsOf (now (words .entry)) (now (values .entry)) ⌝ }
 {
-    pass::sized(&*words);
-    pass::sized_values(&*values);
+    pass::length_known(&*words);
+    pass::values_length_known(&*values);
     let n = words[network::LENGTH];
     if PLACES as u32 <= n {
         return;

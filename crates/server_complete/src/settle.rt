@@ -44,7 +44,7 @@ pub fn pass_time(setup: Setup, words: &mut Words, values: &mut Values, clock: u3
     ensures { λ r. ⌜ record { count = r; tables = tablesOf (now (words .exit)) (now (values .exit)) } ≡ settled setup (clockStaged setup (tablesOf (now (words .entry)) (now (values .entry))) clock) ⌝ }
     ensures { λ _. ⌜ recordsOf (now (words .exit)) (now (values .exit)) ≡ recordsOf (now (words .entry)) (now (values .entry)) ⌝ }
 {
-    pass::sized(&*words);
+    pass::length_known(&*words);
     words[network::CLOCK] = clock;
     settle(setup, Trigger::Clock, &mut *words, &mut *values)
 }

@@ -80,8 +80,8 @@ pub fn restart(setup: Setup, words: &mut Words, values: &mut Values)
     ensures { λ _. ⌜ tablesOf (now (words .exit)) (now (values .exit)) ≡ serverRestarted setup (tablesOf (now (words .entry)) (now (values .entry))) ⌝ }
     ensures { λ _. ⌜ recordsOf (now (words .exit)) (now (values .exit)) ≡ recordsOf (now (words .entry)) (now (values .entry)) ⌝ }
 {
-    pass::sized(&*words);
-    pass::sized_values(&*values);
+    pass::length_known(&*words);
+    pass::values_length_known(&*values);
     grow_epochs(&mut *words, setup.volumes as usize);
     guard_expiries(&mut *words);
     clear_sessions(&mut *words);

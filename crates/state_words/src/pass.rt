@@ -55,6 +55,6 @@ pub fn fill_values(values: &mut Values, field: usize, n: usize, number: u64)
 }
 
 // No-op; lending the array as a slice gives the proof its length.
-pub fn sized(_words: &[u32]) {}
+pub fn length_known(_words: &[u32]) {}
 
-pub fn sized_values(_values: &[u64]) {}
+pub fn values_length_known(_values: &[u64]) {}

@@ -6,8 +6,8 @@ use Rattle.gevtsomi.proofs.gevtsomi_list.Tie as tie
 list-requires : tie.Need-list-requires
 list-requires c κs = search needs
 
-told-requires : tie.Need-told-requires
-told-requires c κs = search needs
+status-of-requires : tie.Need-status-of-requires
+status-of-requires c κs = search needs
 
 same-length : tie.Need-same-length
 same-length c = search needs
@@ -16,4 +16,4 @@ returns : tie.Need-returns
 returns c = search told-all
 
 pub gevtsomi-list-spec : {M : Type 1} → statement M
-gevtsomi-list-spec = tie.close (tie.spec list-requires told-requires same-length returns)
+gevtsomi-list-spec = tie.close (tie.spec list-requires status-of-requires same-length returns)

@@ -9,8 +9,8 @@ setup-lent-requires c κs = search needs
 write-requires : tie.Need-write-requires
 write-requires c κs = search needs
 
-told-requires : tie.Need-told-requires
-told-requires c κs = search needs
+status-of-requires : tie.Need-status-of-requires
+status-of-requires c κs = search needs
 
 same-length : tie.Need-same-length
 same-length c = search needs
@@ -20,4 +20,4 @@ returns c = search workload-told
 
 pub gevtsomi-workload-spec : {M : Type 1} → statement M
 gevtsomi-workload-spec =
-    tie.close (tie.spec setup-lent-requires write-requires told-requires same-length returns)
+    tie.close (tie.spec setup-lent-requires write-requires status-of-requires same-length returns)

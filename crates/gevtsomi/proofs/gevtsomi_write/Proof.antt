@@ -12,8 +12,8 @@ setup-lent-requires c κs = search needs
 write-requires : tie.Need-write-requires
 write-requires c κs = search needs
 
-told-requires : tie.Need-told-requires
-told-requires c κs = search needs
+status-of-requires : tie.Need-status-of-requires
+status-of-requires c κs = search needs
 
 same-length : tie.Need-same-length
 same-length c = search needs
@@ -28,6 +28,6 @@ gevtsomi-write-spec =
     steps-lent-requires
     setup-lent-requires
     write-requires
-    told-requires
+    status-of-requires
     same-length
     returns)

@@ -3,11 +3,11 @@ use borrow.Author.Needs.{needs}
 use Rattle.network_send.proofs.push.Statement.{statement}
 use Rattle.network_send.proofs.push.Tie as tie
 
-sized-requires : tie.Need-sized-requires
-sized-requires c κs = search needs
+length-known-requires : tie.Need-length-known-requires
+length-known-requires c κs = search needs
 
-sized-values-requires : tie.Need-sized-values-requires
-sized-values-requires c κs = search needs
+values-length-known-requires : tie.Need-values-length-known-requires
+values-length-known-requires c κs = search needs
 
 element-copy-out-n : tie.Need-element-copy-out-n
 element-copy-out-n c = search needs
@@ -49,17 +49,17 @@ returns-2 : tie.Need-returns-2
 returns-2 c =
     let at-fields-of = c .before .before .before in
     let at-if1 = at-fields-of .before in
-    let at-sized-values-arg2 = at-if1 .before .before .before in
-    let at-sized-arg2 = at-sized-values-arg2 .before .before .before in
-    pushes _ _ _ (at-sized-arg2 .sized-arg2 .given .0) (at-sized-values-arg2 .sized-values-arg2 .given .0)
+    let at-values-length-known-arg2 = at-if1 .before .before .before in
+    let at-length-known-arg2 = at-values-length-known-arg2 .before .before .before in
+    pushes _ _ _ (at-length-known-arg2 .length-known-arg2 .given .0) (at-values-length-known-arg2 .values-length-known-arg2 .given .0)
     _ _ _ (at-if1 .if1 .left) (at-fields-of .fields-of .ensures) (c .before .words-of .ensures) (c .store .ensures)
 
 pub push-spec : {M : Type 1} → statement M
 push-spec =
     tie.close
     (tie.spec
-    sized-requires
-    sized-values-requires
+    length-known-requires
+    values-length-known-requires
     element-copy-out-n
     cast-if1
     returns

@@ -5,11 +5,11 @@ use borrow.Author.Needs.{needs}
 use Rattle.server_restart.proofs.restart.Statement.{statement}
 use Rattle.server_restart.proofs.restart.Tie as tie
 
-sized-requires : tie.Need-sized-requires
-sized-requires c κs = search needs
+length-known-requires : tie.Need-length-known-requires
+length-known-requires c κs = search needs
 
-sized-values-requires : tie.Need-sized-values-requires
-sized-values-requires c κs = search needs
+values-length-known-requires : tie.Need-values-length-known-requires
+values-length-known-requires c κs = search needs
 
 cast-grow-epochs : tie.Need-cast-grow-epochs
 cast-grow-epochs c = search needs
@@ -38,11 +38,11 @@ returns c =
     let at-clear-sessions = at-clear-objects .before .before in
     let at-guard-expiries = at-clear-sessions .before .before in
     let at-grow-epochs = at-guard-expiries .before .before in
-    let at-sized-values-arg2 = at-grow-epochs .before .before .before .before in
-    let at-sized-arg2 = at-sized-values-arg2 .before .before .before in
-    let a = at-sized-arg2 .before .before in
+    let at-values-length-known-arg2 = at-grow-epochs .before .before .before .before in
+    let at-length-known-arg2 = at-values-length-known-arg2 .before .before .before in
+    let a = at-length-known-arg2 .before .before in
     restarts (a .args .setup)
-    _ _ _ _ _ _ _ _ _ (at-sized-arg2 .sized-arg2 .given .0) (at-sized-values-arg2 .sized-values-arg2 .given .0)
+    _ _ _ _ _ _ _ _ _ (at-length-known-arg2 .length-known-arg2 .given .0) (at-values-length-known-arg2 .values-length-known-arg2 .given .0)
     refl (ranges _ (a .pre .0) .volumes .1) (at-grow-epochs .grow-epochs .ensures)
     (at-guard-expiries .guard-expiries .ensures) (at-clear-sessions .clear-sessions .ensures)
     (at-clear-objects .clear-objects .ensures) (c .before .before .clear-holders .ensures) (c .fill-values .ensures)
@@ -51,8 +51,8 @@ pub restart-spec : {M : Type 1} → statement M
 restart-spec =
     tie.close
     (tie.spec
-    sized-requires
-    sized-values-requires
+    length-known-requires
+    values-length-known-requires
     cast-grow-epochs
     grow-epochs-requires
     guard-expiries-requires

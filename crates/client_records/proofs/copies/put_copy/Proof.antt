@@ -3,11 +3,11 @@ use borrow.Author.Needs.{needs}
 use Rattle.client_records.proofs.copies.put_copy.Statement.{statement}
 use Rattle.client_records.proofs.copies.put_copy.Tie as tie
 
-sized-requires : tie.Need-sized-requires
-sized-requires c κs = search needs
+length-known-requires : tie.Need-length-known-requires
+length-known-requires c κs = search needs
 
-sized-values-requires : tie.Need-sized-values-requires
-sized-values-requires c κs = search needs
+values-length-known-requires : tie.Need-values-length-known-requires
+values-length-known-requires c κs = search needs
 
 add-words : tie.Need-add-words
 add-words c = search needs
@@ -37,14 +37,17 @@ element-write-words-2 : tie.Need-element-write-words-2
 element-write-words-2 c = search needs
 
 returns : tie.Need-returns
-returns c = copy-stored _ _ _ _ (c .before .before .before .before .before .before .pre) (c .before .before .before .before .sized-arg2 .given .0) (c .before .sized-values-arg2 .given .0)
+returns c =
+    let at-length-known-arg2 = c .before .before .before .before in
+    let a = at-length-known-arg2 .before .before in
+    copy-stored _ _ _ _ (a .pre) (at-length-known-arg2 .length-known-arg2 .given .0) (c .before .values-length-known-arg2 .given .0)
 
 pub put-copy-spec : {M : Type 1} → statement M
 put-copy-spec =
     tie.close
     (tie.spec
-    sized-requires
-    sized-values-requires
+    length-known-requires
+    values-length-known-requires
     add-words
     mul-words
     element-write-words

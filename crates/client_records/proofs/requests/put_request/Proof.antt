@@ -2,8 +2,8 @@ use borrow.Author.Needs.{needs}
 use Rattle.client_records.proofs.requests.put_request.Statement.{statement}
 use Rattle.client_records.proofs.requests.put_request.Tie as tie
 
-sized-requires : tie.Need-sized-requires
-sized-requires c κs = search needs
+length-known-requires : tie.Need-length-known-requires
+length-known-requires c κs = search needs
 
 add-words : tie.Need-add-words
 add-words c = search needs
@@ -48,13 +48,13 @@ element-write-words-4 : tie.Need-element-write-words-4
 element-write-words-4 c = search needs
 
 returns : tie.Need-returns
-returns c = record { is = rw (c .before .word .ensures); byte = search needs; long = c .before .before .before .sized-arg2 .given .0 }
+returns c = record { is = rw (c .before .word .ensures); byte = search needs; long = c .before .before .before .length-known-arg2 .given .0 }
 
 pub put-request-spec : {M : Type 1} → statement M
 put-request-spec =
     tie.close
     (tie.spec
-    sized-requires
+    length-known-requires
     add-words
     mul-words
     element-write-words

@@ -5,11 +5,11 @@ use borrow.Author.Needs.{needs}
 use Rattle.network_queue.proofs.removal.remove.Statement.{statement}
 use Rattle.network_queue.proofs.removal.remove.Tie as tie
 
-sized-requires : tie.Need-sized-requires
-sized-requires c κs = search needs
+length-known-requires : tie.Need-length-known-requires
+length-known-requires c κs = search needs
 
-sized-values-requires : tie.Need-sized-values-requires
-sized-values-requires c κs = search needs
+values-length-known-requires : tie.Need-values-length-known-requires
+values-length-known-requires c κs = search needs
 
 element-copy-out-n : tie.Need-element-copy-out-n
 element-copy-out-n c = search needs
@@ -47,20 +47,20 @@ element-write-words c = search needs
 
 returns : tie.Need-returns
 returns c =
-    let at-sized-values-arg2 = c .before .before .before .before .before .before in
-    let at-sized-arg2 = at-sized-values-arg2 .before .before .before in
-    let s = at-sized-arg2 .before .before in
+    let at-values-length-known-arg2 = c .before .before .before .before .before .before in
+    let at-length-known-arg2 = at-values-length-known-arg2 .before .before .before in
+    let s = at-length-known-arg2 .before .before in
     let n = length-word (s .args .words .now) (s .args .values .now) in
-    removes _ _ _ (at-sized-arg2 .sized-arg2 .given .0)
-    (at-sized-values-arg2 .sized-values-arg2 .given .0) _ _ (omega (arith, n, s .pre .0))
+    removes _ _ _ (at-length-known-arg2 .length-known-arg2 .given .0)
+    (at-values-length-known-arg2 .values-length-known-arg2 .given .0) _ _ (omega (arith, n, s .pre .0))
     (omega (arith, n, s .pre .1)) (c .before .before .shift .ensures) (c .shift-values .ensures)
 
 pub remove-spec : {M : Type 1} → statement M
 remove-spec =
     tie.close
     (tie.spec
-    sized-requires
-    sized-values-requires
+    length-known-requires
+    values-length-known-requires
     element-copy-out-n
     cast-rows
     add-rows
