@@ -9,7 +9,7 @@ use protocol::step::CopyChange;
 use protocol::step::Sweep;
 use protocol::step::Turn;
 
-// 02, A4: "A GRANT without a value .. keeps the value held."
+// Returns the value that a GRANT stores. 02, A4: "A GRANT without a value .. keeps the value held."
 fn payload_or(held: u64, payload: Payload) -> u64
     ensures { λ r. ⌜ r ≡ payloadOr held payload ⌝ }
 {

@@ -73,7 +73,7 @@ module _ (s : Setup) (range : Ranges s) (w : World) (inv : Inv s w) (shape : Sha
   unfolding dropped disowned left
   at-lease k i h = at-object (w .tables .holders .lease) 0 0 (shape .holders .lease) k i h
 
-  -- it is waited for in the volume no more
+  -- no write of the volume waits for it any more
   awaited-here : (i : ℕ) → i < s .objects → volumeOf s i ≡ v → awaitedAt t i ≡ removed (awaitedAt (w .tables) i) d
   unfolding dropped disowned
   awaited-here i h q =
