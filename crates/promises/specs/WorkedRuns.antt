@@ -99,9 +99,9 @@ tallied = (refl, refl, refl, refl)
 
 -- ---- 02, A3: "a write wait on the lease of a dash that never held the notice"
 
--- two clients, one volume with two objects; tv 10, t 100, m 3
+-- two clients, one volume with two objects; tv 10, t 100, m 3, d 1
 unfoldable pub twoClients : Setup
-twoClients = record { clients = 2; volumes = 1; objects = 2; tv = 10; t = 100; m = 3; volume = replicate 32 0 }
+twoClients = record { clients = 2; volumes = 1; objects = 2; tv = 10; t = 100; m = 3; volume = replicate 28 0; delay = 1 }
 
 -- each client takes one object: client 0 has a volume lease to 10 and client 1, which never held object 0, to 19
 pub takenApart : List Step

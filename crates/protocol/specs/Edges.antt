@@ -27,9 +27,9 @@ use Rattle.protocol.specs.Gate.{known, exists, timely, vacant, growable,
 use Rattle.protocol.specs.Decide.{performed, decided}
 use Rattle.protocol.specs.World.{World, freshWorld, target, decision, stepped, answerOf}
 
--- one client, volume and object; tv 10, t 100, m 3
+-- one client, volume and object; tv 10, t 100, m 3, d 1
 unfoldable pub tiny : Setup
-tiny = record { clients = 1; volumes = 1; objects = 1; tv = 10; t = 100; m = 3; volume = replicate 32 0 }
+tiny = record { clients = 1; volumes = 1; objects = 1; tv = 10; t = 100; m = 3; volume = replicate 28 0; delay = 1 }
 
 unfoldable pub step : ℕ → ℕ → ℕ → ℕ → Step
 step k i c y = record { kind = k; client = 0; object = 0; place = i; clock = c; value = y }

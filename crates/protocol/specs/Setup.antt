@@ -18,13 +18,15 @@ volumeOf s o = getD (s .volume) o 0
 abbrev pub volumeFits : Setup → ℕ → Bool
 volumeFits s o = cond (ltb o (s .objects)) (ltb (volumeOf s o) (s .volumes)) (eqb (volumeOf s o) 0)
 
--- "1 to 16 dashes, 1 to 8 volumes, 1 to 32 objects; each object's volume (0 past the count); tv 1 to 3,600; t 1 to 1,000,000; m 1 to 60"
+-- "1 to 16 dashes, 1 to 8 volumes; each object's volume (0 past the count); tv 1 to 3,600; t 1 to 1,000,000; m 1 to 60". 02, A6: "d in setup, 1 to 65,535, in
+-- the last four volume bytes, so objects now end at 28"
 unfoldable pub inRange : Setup → Bool
 inRange s =
     between 1 16 (s .clients)
     && between 1 8 (s .volumes)
-    && between 1 32 (s .objects)
+    && between 1 28 (s .objects)
     && between 1 3600 (s .tv)
     && between 1 1000000 (s .t)
     && between 1 60 (s .m)
-    && allFrom (volumeFits s) 0 32
+    && allFrom (volumeFits s) 0 28
+    && between 1 65535 (s .delay)

@@ -5,7 +5,7 @@ pub struct Setup {
     pub clients: u32,
     // 1 to 8
     pub volumes: u32,
-    // 1 to 32
+    // 1 to 28
     pub objects: u32,
     // how long a volume lease lasts, 1 to 3,600
     pub tv: u32,
@@ -14,5 +14,7 @@ pub struct Setup {
     // how long the server waits for an acknowledgement at the least, 1 to 60
     pub m: u32,
     // each object's volume; 0 past the count of objects
-    pub volume: [u8; 32],
+    pub volume: [u8; 28],
+    // how long past its volume lease a client keeps its notes, before it is marked unreachable, 1 to 65,535
+    pub delay: u32,
 }

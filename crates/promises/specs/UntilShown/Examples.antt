@@ -32,9 +32,9 @@ use Rattle.protocol.specs.Safety.View.{requestAt}
 use Rattle.promises.specs.UntilShown.Policy.{read, ask, deliver, policy}
 use Rattle.promises.specs.UntilShown.Phases.{standing}
 
--- one client and one volume with two objects; tv 10, t 100, m 3. The client waits for object 0
+-- one client and one volume with two objects; tv 10, t 100, m 3, d 1. The client waits for object 0
 unfoldable pub two : Setup
-two = record { clients = 1; volumes = 1; objects = 2; tv = 10; t = 100; m = 3; volume = replicate 32 0 }
+two = record { clients = 1; volumes = 1; objects = 2; tv = 10; t = 100; m = 3; volume = replicate 28 0; delay = 1 }
 
 abbrev pub after : List Step → World
 after ys = ran two (freshWorld two) ys

@@ -174,7 +174,7 @@ module _ (s : Setup) (w : World) (o : ℕ) (range : Ranges s) (objects : Objects
 
   lease : ReplacedFor s o (λ _. 0) 0 (w .tables .holders .lease) (after .tables .holders .lease)
   unfolding posted released
-  lease = store-replaced s (w .tables .holders .lease) o (λ (d : ℕ). 0) 0 (range .clients .1) (range .objects .1) (holders .lease) ho
+  lease = store-replaced s (w .tables .holders .lease) o (λ (d : ℕ). 0) 0 range (holders .lease) ho
 
   waiting : Replaced o 0 0 (w .tables .holders .waiting) (after .tables .holders .waiting)
   unfolding posted released

@@ -1,5 +1,5 @@
 -- One object's fields replaced in a list: what stands there afterwards, and that all else stays.
-use Prim.Native.Nat.{ℕ, _<_, _≤_}
+use Prim.Native.Nat.{ℕ, _<_}
 use native.Mathlib.Omega.{arith}
 use mathlib.Core.List.{List}
 use mathlib.Core.Path.{_≡_, refl}
@@ -10,6 +10,7 @@ use Rattle.protocol.specs.declared.setup.Setup.{Setup}
 use Rattle.protocol.specs.declared.tables.Tables.{Tables}
 use Rattle.protocol.specs.Tables.{byObject}
 use Rattle.protocol.specs.World.{World}
+use Rattle.protocol.specs.Ranges.{Ranges}
 
 -- the tables replaced, the clients' records as they are
 abbrev pub withTables : World → Tables → World
@@ -36,9 +37,9 @@ here-for r d k h q = rw q (r .here d h)
 pub set-replaced : {A : Type 0} (l : List A) (o : ℕ) (x y : A) → o < length l → Replaced o x y l (set l o x)
 set-replaced l o x y h = record { here = getD-set-same l o x y h; other = λ k n. getD-set-other l o k x y n }
 
-pub store-replaced : {A : Type 0} (s : Setup) (l : List A) (o : ℕ) (x : ℕ → A) (y : A) → s .clients ≤ 16 → s .objects ≤ 32 → length l ≡ 512 → o < s .objects
+pub store-replaced : {A : Type 0} (s : Setup) (l : List A) (o : ℕ) (x : ℕ → A) (y : A) → Ranges s → length l ≡ 512 → o < s .objects
     → ReplacedFor s o x y l (storeEach always (λ (d : ℕ). byObject d o) x l (s .clients))
-store-replaced s l o x y hc hb n h = record {
+store-replaced s l o x y range n h = record {
   here = λ d hd. store-hit always (λ (d : ℕ). byObject d o) x (λ a b e. omega arith) l (s .clients) d y hd refl (omega arith);
   other = λ d k hk ne. store-other always (λ (d : ℕ). byObject d o) x l (s .clients) (byObject d k) y (λ c hc _ e. ne (omega arith));
 }
