@@ -9,7 +9,8 @@ use lib.Dec.{eqb, ltb, lit<}
 use lib.Arith.{digits-div, digits-mod, lt-one}
 use lib.Pow.{pow-mono}
 use borrow.Author.Tests.{eq-eqb, ne-eqb, eqb-true, eqb-false, ltb-true, ltb-false}
-use Rattle.laws.specs.Choice.{cond-keeps, true-or-false, same?, and-yes, and-no}
+use Rattle.laws.specs.Choice.{cond-keeps, true-or-false, not-both, same?, and-yes, and-no}
+use Rattle.laws.specs.Loop.{allFrom, all-each, all-of}
 
 -- whether k is a member of m
 unfoldable pub bitAt : ℕ → ℕ → Bool
@@ -29,6 +30,14 @@ added m k = setOf (λ j. bitAt m j || eqb j k) 32
 
 unfoldable pub removed : ℕ → ℕ → ℕ
 removed m k = setOf (λ j. bitAt m j && not (eqb j k)) 32
+
+-- whether each member of m passes p
+unfoldable pub allIn : (ℕ → Bool) → ℕ → Bool
+allIn p m = allFrom (λ k. not (bitAt m k) || p k) 0 32
+
+-- whether each member of a is one of b
+abbrev pub within : ℕ → ℕ → Bool
+within a b = allIn (bitAt b) a
 
 -- ---- a word is twice the rest and its lowest bit
 
@@ -100,6 +109,24 @@ set-back m n h = sym (set-is (bitAt m) n m h (λ k i. refl))
 pub bit-removed : (m k j : ℕ) → j < 32 → bitAt (removed m k) j ≡ bitAt m j && not (eqb j k)
 unfolding removed
 bit-removed m k j h = set-in _ 32 j h
+
+-- ---- each member passes
+
+pub all-in : (p : ℕ → Bool) (m : ℕ) → allIn p m ≡ true → (k : ℕ) → k < 32 → bitAt m k ≡ true → p k ≡ true
+unfolding allIn
+all-in p m e k h b = rw b at (all-each (λ k. not (bitAt m k) || p k) 32 e k h)
+
+in-all : (p : ℕ → Bool) (m : ℕ) → ((k : ℕ) → k < 32 → bitAt m k ≡ true → p k ≡ true) → allIn p m ≡ true
+unfolding allIn
+in-all p m f = all-of (λ k. not (bitAt m k) || p k) 32 (λ k h. pick k (f k h) (true-or-false (bitAt m k)))
+  where
+    pick : (k : ℕ) → (bitAt m k ≡ true → p k ≡ true) → (bitAt m k ≡ true) ⊎ (bitAt m k ≡ false) → not (bitAt m k) || p k ≡ true
+    pick k g (inl e) = rw e (g e)
+    pick k g (inr e) = rw e
+
+-- the empty set is within every set
+pub within-none : (b : ℕ) → within 0 b ≡ true
+within-none b = in-all (bitAt b) 0 (λ k h e. not-both e (bit-none k))
 
 -- ---- a set that is made member by member
 

@@ -3,9 +3,9 @@ use Prim.Native.Nat.{ℕ, zero, suc, _+_, _<_, _≤_}
 use native.Mathlib.Decide.{ℕ-discrete}
 use native.Mathlib.Omega.{arith}
 use mathlib.Core.Bool.{Bool, true, cond}
-use mathlib.Core.List.{List}
-use mathlib.Core.Logic.{_⊎_, inl, inr}
-use mathlib.Core.Path.{_≡_, refl, sym, _∙_}
+use mathlib.Core.List.{List, [], _∷_}
+use mathlib.Core.Logic.{_⊎_, inl, inr, ⊎-elim}
+use mathlib.Core.Path.{_≡_, refl, sym, ap, _∙_}
 use lib.ListN.{length, getD, set, length-set}
 use lib.Seq.{getD-set-same, getD-set-other, set-out}
 use Rattle.laws.specs.Choice.{cond-keeps}
@@ -19,6 +19,14 @@ set-at l i a j d h = go (ℕ-discrete j i)
     go : Dec (j ≡ i) → ((j ≡ i) × (getD (set l i a) j d ≡ a)) ⊎ ((j ≡ i → ⊥) × (getD (set l i a) j d ≡ getD l j d))
     go (yes e) = inl (e, rw e (getD-set-same l i a d h))
     go (no n) = inr (n, getD-set-other l i j a d n)
+
+-- the same of any place, where a store outside the list stores nothing
+pub set-or {ℓ} : {A : Type ℓ} (l : List A) (i : ℕ) (a : A) (j : ℕ) (d : A) → ((j ≡ i) × (getD (set l i a) j d ≡ a)) ⊎ (getD (set l i a) j d ≡ getD l j d)
+set-or [] i a j d = inr refl
+set-or (x ∷ l) zero a zero d = inl (refl, refl)
+set-or (x ∷ l) zero a (suc j) d = inr refl
+set-or (x ∷ l) (suc i) a zero d = inr refl
+set-or (x ∷ l) (suc i) a (suc j) d = ⊎-elim (λ p. inl (ap suc (p .0), p .1)) inr (set-or l i a j d)
 
 module _ {ℓ} {A : Type ℓ} (p : ℕ → Bool) (f : ℕ → ℕ) (g : ℕ → A) where
   -- one turn: at place f k stands g k, where p lets k through

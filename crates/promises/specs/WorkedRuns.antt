@@ -8,14 +8,14 @@ use Rattle.laws.specs.Loop.{foldFrom, anyFrom, allFrom, firstFrom, countFrom}
 use Rattle.laws.specs.Lists.{removeAt}
 use Rattle.laws.specs.Store.{storeEach}
 use Rattle.laws.specs.Greatest.{greatest}
-use Rattle.laws.specs.Sets.{bitAt, setOf}
+use Rattle.laws.specs.Sets.{bitAt, setOf, allIn}
 use Rattle.laws.specs.Sets as sets
 use Rattle.protocol.specs.declared.message.Message.{Message}
 use Rattle.protocol.specs.declared.message.Kind.the-variants.{Grant}
 use Rattle.protocol.specs.declared.message.Payload.the-variants.{Same}
 use Rattle.protocol.specs.declared.setup.Setup.{Setup}
 use Rattle.protocol.specs.declared.step.Step.{Step}
-use Rattle.protocol.specs.Setup.{inRange}
+use Rattle.protocol.specs.Setup.{inRange, objectsIn}
 use Rattle.protocol.specs.Messages.{message, messageAt, pushed, removed}
 use Rattle.protocol.specs.Tables.{freshTables}
 use Rattle.protocol.specs.Leases.{serverAlive, clientAlive, clientClock, guardPassed, endOver}
@@ -86,7 +86,7 @@ answerValues =
 pub worked-through : (history tiny steps ≡ eventsTold)
     × (map answerNumber (answers tiny (freshWorld tiny) steps) ≡ answerNumbers)
     × (map answerValue (answers tiny (freshWorld tiny) steps) ≡ answerValues)
-unfolding eventsTold answerNumbers answerValues answers tiny step clock lose restart write steps told historyFrom events happening foldFrom anyFrom allFrom firstFrom removeAt storeEach greatest bitAt setOf sets.removed inRange pushed removed freshTables serverAlive clientAlive clientClock guardPassed endOver waits latestEnd opened awaited notified waited ready due deserted posted released completed settled settling written noted offered lowestWaited volumeRenewed objectRenewed granted mustDrop renewedBy renewed ackTaken acked ackStaged dropTaken disowned dropped dropStaged serverRestarted showable stands forgotten swept sweptAll queueSound tablesSound copiesSound requestsSound sound known exists timely vacant growable refusalOfStep refusal grantReceived invalidateReceived offerReceived received readDecided askDecided deliverDecided performed decided target decision stepped
+unfolding eventsTold answerNumbers answerValues answers tiny step clock lose restart write steps told historyFrom events happening foldFrom anyFrom allFrom firstFrom removeAt storeEach greatest inRange objectsIn bitAt setOf sets.removed allIn pushed removed freshTables serverAlive clientAlive clientClock guardPassed endOver waits latestEnd opened awaited notified waited ready due deserted posted released completed settled settling written noted offered lowestWaited volumeRenewed objectRenewed granted mustDrop renewedBy renewed ackTaken acked ackStaged dropTaken disowned dropped dropStaged serverRestarted showable stands forgotten swept sweptAll queueSound tablesSound copiesSound requestsSound sound known exists timely vacant growable refusalOfStep refusal grantReceived invalidateReceived offerReceived received readDecided askDecided deliverDecided performed decided target decision stepped
 worked-through = (refl, refl, refl)
 
 -- accepted = completed + cut off + open
@@ -117,7 +117,7 @@ writeUnheard = write 7 ∷ lose 0 ∷ clock 12 ∷ clock 13 ∷ []
 pub never-held : (history twoClients (takenApart ++ writeUnheard) ≡ clockStep 13 ∷ completion 0 ∷ clockStep 12 ∷ acceptance 0 7 12 ∷ clockStep 9 ∷ [])
     × (latestEnd twoClients (ran twoClients (freshWorld twoClients) takenApart .tables) 0 ≡ 12)
     × (formerEnd twoClients (ran twoClients (freshWorld twoClients) takenApart .tables) 0 ≡ 19)
-unfolding twoClients takenApart writeUnheard formerEnd ran step clock lose write told historyFrom events happening foldFrom anyFrom allFrom firstFrom removeAt storeEach greatest bitAt setOf sets.removed inRange pushed removed freshTables serverAlive clientAlive clientClock guardPassed endOver waits latestEnd opened awaited notified waited ready due deserted posted released completed settled settling written noted offered lowestWaited volumeRenewed objectRenewed granted mustDrop renewedBy renewed ackTaken acked ackStaged dropTaken disowned dropped dropStaged serverRestarted showable stands forgotten swept sweptAll queueSound tablesSound copiesSound requestsSound sound known exists timely vacant growable refusalOfStep refusal grantReceived invalidateReceived offerReceived received readDecided askDecided deliverDecided performed decided target decision stepped
+unfolding twoClients takenApart writeUnheard formerEnd ran step clock lose write told historyFrom events happening foldFrom anyFrom allFrom firstFrom removeAt storeEach greatest inRange objectsIn bitAt setOf sets.removed allIn pushed removed freshTables serverAlive clientAlive clientClock guardPassed endOver waits latestEnd opened awaited notified waited ready due deserted posted released completed settled settling written noted offered lowestWaited volumeRenewed objectRenewed granted mustDrop renewedBy renewed ackTaken acked ackStaged dropTaken disowned dropped dropStaged serverRestarted showable stands forgotten swept sweptAll queueSound tablesSound copiesSound requestsSound sound known exists timely vacant growable refusalOfStep refusal grantReceived invalidateReceived offerReceived received readDecided askDecided deliverDecided performed decided target decision stepped
 never-held = (refl, refl, refl)
 
 -- ---- 02, A4: "a matching GRANT without a value"
@@ -133,5 +133,5 @@ met w = (w .tables .queue .len, messageAt (w .tables .queue) 0, copyAt tiny (w .
 -- the GRANT meets the version that it names; once the client has restarted, its number stands no more and no copy is there
 pub asked-again : (met (ran tiny (freshWorld tiny) askedAgain) ≡ (1, message 0 (Grant 0 3 10 1 1 100 Same), 1, true))
     × (met (ran tiny (freshWorld tiny) (askedAgain ++ (step 9 0 0 0 ∷ []))) ≡ (1, message 0 (Grant 0 3 10 1 1 100 Same), 0, false))
-unfolding askedAgain tiny ran step foldFrom allFrom firstFrom removeAt storeEach bitAt setOf sets.removed inRange pushed removed freshTables ready settled noted offered lowestWaited volumeRenewed objectRenewed granted mustDrop renewedBy renewed dropTaken disowned dropped dropStaged stands swept sweptAll queueSound tablesSound copiesSound requestsSound sound known exists timely vacant growable refusalOfStep refusal grantReceived offerReceived received askDecided deliverDecided restartDecided performed decided target decision stepped
+unfolding askedAgain tiny ran step foldFrom allFrom firstFrom removeAt storeEach inRange objectsIn bitAt setOf sets.removed allIn pushed removed freshTables ready settled noted offered lowestWaited volumeRenewed objectRenewed granted mustDrop renewedBy renewed dropTaken disowned dropped dropStaged stands swept sweptAll queueSound tablesSound copiesSound requestsSound sound known exists timely vacant growable refusalOfStep refusal grantReceived offerReceived received askDecided deliverDecided restartDecided performed decided target decision stepped
 asked-again = (refl, refl)

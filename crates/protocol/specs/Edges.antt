@@ -8,13 +8,13 @@ use Rattle.laws.specs.Loop.{foldFrom, anyFrom, allFrom, firstFrom}
 use Rattle.laws.specs.Lists.{removeAt}
 use Rattle.laws.specs.Store.{storeEach}
 use Rattle.laws.specs.Greatest.{greatest}
-use Rattle.laws.specs.Sets.{bitAt, setOf}
+use Rattle.laws.specs.Sets.{setOf, bitAt, allIn}
 use Rattle.protocol.specs.declared.message.Kind.the-variants.{Offer}
 use Rattle.protocol.specs.declared.message.Queue.{Queue}
 use Rattle.protocol.specs.declared.setup.Setup.{Setup}
 use Rattle.protocol.specs.declared.step.Step.{Step}
 use Rattle.protocol.specs.declared.tables.Tables.{Tables}
-use Rattle.protocol.specs.Setup.{inRange}
+use Rattle.protocol.specs.Setup.{inRange, objectsIn}
 use Rattle.protocol.specs.Messages.{message, pushed, removed}
 use Rattle.protocol.specs.Tables.{valueAt, standingAt, withClock, withVolumes, withObjects, withHolders, withQueue, freshVolumes, freshObjects, freshHolders, freshTables}
 use Rattle.protocol.specs.Updates.{withVolumeExpiry, withGuard, setWrite, setWaiting}
@@ -104,5 +104,5 @@ Table =
     × (answer (standing-until 20 20 false) (clock 20) ≡ (3, 1)) × (stands-after (standing-until 20 20 false) (clock 20) ≡ false)
 
 pub edges : Table
-unfolding Table tiny step clock write lose double with-tables standing-until full-list full at-clock-5 answer after stands-after value-after foldFrom anyFrom allFrom firstFrom removeAt storeEach greatest bitAt setOf inRange pushed removed freshTables serverAlive clientAlive clientClock guardPassed endOver waits latestEnd opened awaited notified waited ready due deserted posted released completed settled written swept sweptAll queueSound tablesSound copiesSound requestsSound sound known exists timely vacant growable refusalOfStep refusal performed decided target decision stepped
+unfolding Table tiny step clock write lose double with-tables standing-until full-list full at-clock-5 answer after stands-after value-after foldFrom anyFrom allFrom firstFrom removeAt storeEach greatest inRange pushed removed freshTables serverAlive clientAlive clientClock guardPassed endOver waits latestEnd opened awaited notified waited ready due deserted posted released completed settled written swept sweptAll queueSound tablesSound copiesSound requestsSound sound objectsIn setOf bitAt allIn known exists timely vacant growable refusalOfStep refusal performed decided target decision stepped
 edges = (refl, refl, refl, refl, refl, refl, refl, refl, refl, refl, refl, refl, refl, refl, refl, refl, refl, refl, refl, refl, refl, refl, refl)

@@ -17,7 +17,7 @@ use Rattle.protocol.specs.declared.tables.Holders.{Holders}
 use Rattle.protocol.specs.declared.tables.Tables.{Tables}
 use Rattle.protocol.specs.Setup.{volumeOf}
 use Rattle.protocol.specs.Messages.{message, pushed}
-use Rattle.protocol.specs.Tables.{byObject, epochAt, seenAt, unreachableAt, offerAt, valueAt, versionAt, standingAt, awaitedAt, waitingAt, withVolumes, withSessions, withObjects, withHolders, withQueue, freshSessions, freshObjects, freshHolders}
+use Rattle.protocol.specs.Tables.{byObject, epochAt, seenAt, unreachableAt, offerAt, notesAt, valueAt, versionAt, standingAt, awaitedAt, waitingAt, withVolumes, withSessions, withObjects, withHolders, withQueue, freshSessions, freshObjects, freshHolders}
 use Rattle.protocol.specs.Updates.{withEpoch, withGuard, setVolumeExpiry, setSeen, setSessionExpiry, setUnreachable, setOffer, withValue, withVersion, setObjectExpiry, withLease, withWaiting, setLease, setWaiting}
 use Rattle.protocol.specs.Writes.{Staged, unstaged, invalidation, ready, marked}
 
@@ -76,6 +76,10 @@ granted s t d o n w = sent (objectRenewed s (volumeRenewed s t d (volumeOf s o))
 unfoldable pub mustDrop : Tables → ℕ → ℕ → ℕ → Bool
 mustDrop t d v e = not (eqb e (epochAt t v)) || unreachableAt t d v
 
+-- 02, A6: "No volume lease is given while notes remain."
+abbrev pub hasNotes : Tables → ℕ → ℕ → Bool
+hasNotes t d v = not (eqb (notesAt t d v) 0)
+
 -- "This object has a standing write"
 abbrev pub beingWritten : Tables → ℕ → Bool
 beingWritten t o = standingAt t o
@@ -84,8 +88,9 @@ beingWritten t o = standingAt t o
 unfoldable pub renewedBy : Setup → Tables → ℕ → ℕ → ℕ → ℕ → ℕ → Tables
 renewedBy s t d o n e w =
     cond (mustDrop t d (volumeOf s o) e) (sent (offered t d (volumeOf s o) n) (offering t d (volumeOf s o) n))
+    (cond (hasNotes t d (volumeOf s o)) t
     (cond (ltb (lowestWaited s t d (volumeOf s o)) (s .objects)) (sent t (invalidation s t (lowestWaited s t d (volumeOf s o)) d))
-    (cond (beingWritten t o) t (granted s t d o n w)))
+    (cond (beingWritten t o) t (granted s t d o n w))))
 
 -- "number not above the highest seen": an old RENEW, or a double of one
 abbrev pub stale : Tables → ℕ → ℕ → Bool

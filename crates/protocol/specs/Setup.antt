@@ -4,6 +4,7 @@ use mathlib.Core.Bool.{Bool, cond, _&&_}
 use lib.Dec.{ltb, leb, eqb}
 use lib.ListN.{getD}
 use Rattle.laws.specs.Loop.{allFrom}
+use Rattle.laws.specs.Sets.{setOf}
 use Rattle.protocol.specs.declared.setup.Setup.{Setup}
 
 -- low ≤ n ≤ high
@@ -13,6 +14,13 @@ between low high n = leb low n && leb n high
 -- "each object's volume"
 abbrev pub volumeOf : Setup → ℕ → ℕ
 volumeOf s o = getD (s .volume) o 0
+
+-- whether o is an object of volume v, and the set of those
+abbrev pub inVolume : Setup → ℕ → ℕ → Bool
+inVolume s v o = ltb o (s .objects) && eqb (volumeOf s o) v
+
+unfoldable pub objectsIn : Setup → ℕ → ℕ
+objectsIn s v = setOf (inVolume s v) 32
 
 -- an object's volume exists, and a slot past the objects holds 0
 abbrev pub volumeFits : Setup → ℕ → Bool

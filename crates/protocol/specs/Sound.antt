@@ -6,6 +6,7 @@ use mathlib.Core.List.{List}
 use lib.Dec.{ltb, leb, eqb}
 use lib.ListN.{length, getD}
 use Rattle.laws.specs.Loop.{allFrom}
+use Rattle.laws.specs.Sets.{within}
 use Rattle.protocol.specs.declared.message.Message.{Message}
 use Rattle.protocol.specs.declared.message.Queue.{Queue}
 use Rattle.protocol.specs.declared.message.Kind.{Kind}
@@ -14,9 +15,9 @@ use Rattle.protocol.specs.declared.records.Copy.{Copy}
 use Rattle.protocol.specs.declared.records.Request.{Request}
 use Rattle.protocol.specs.declared.setup.Setup.{Setup}
 use Rattle.protocol.specs.declared.tables.Tables.{Tables}
-use Rattle.protocol.specs.Setup.{inRange}
+use Rattle.protocol.specs.Setup.{inRange, objectsIn}
 use Rattle.protocol.specs.Messages.{messageAt}
-use Rattle.protocol.specs.Tables.{epochAt, volumeExpiryAt, guardAt, sessionExpiryAt, versionAt, objectExpiryAt, standingAt, endAt, leaseAt, viewExpiryAt, noCopy, noRequest}
+use Rattle.protocol.specs.Tables.{epochAt, volumeExpiryAt, guardAt, sessionExpiryAt, notesAt, versionAt, objectExpiryAt, standingAt, endAt, leaseAt, viewExpiryAt, noCopy, noRequest}
 
 -- "clock at most 2,147,483,647"
 abbrev pub clockLimit : ℕ
@@ -39,12 +40,16 @@ abbrev pub objectSound : Tables → ℕ → Bool
 objectSound t o =
     leb 1 (versionAt t o) && timeFits (objectExpiryAt t o) && (not (standingAt t o) || (timeFits (endAt t o) && canGrow (versionAt t o)))
 
--- the volume lease of a client, at the server and at the client
-abbrev pub sessionSound : Tables → ℕ → ℕ → Bool
-sessionSound t d v = timeFits (sessionExpiryAt t d v) && timeFits (viewExpiryAt t d v)
+-- 02, A6: "A set bit that is no object of its volume makes tables unsound"
+abbrev pub setSound : Setup → ℕ → ℕ → Bool
+setSound s v m = within m (objectsIn s v)
+
+-- the volume lease of a client, at the server and at the client, and its notes
+abbrev pub sessionSound : Setup → Tables → ℕ → ℕ → Bool
+sessionSound s t d v = timeFits (sessionExpiryAt t d v) && timeFits (viewExpiryAt t d v) && setSound s v (notesAt t d v)
 
 abbrev pub sessionsSound : Setup → Tables → ℕ → Bool
-sessionsSound s t d = allFrom (sessionSound t d) 0 (s .volumes)
+sessionsSound s t d = allFrom (sessionSound s t d) 0 (s .volumes)
 
 abbrev pub holderSound : Tables → ℕ → ℕ → Bool
 holderSound t d o = timeFits (leaseAt t d o)

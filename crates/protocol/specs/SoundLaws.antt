@@ -3,25 +3,38 @@ use Prim.Native.Nat.{ℕ, _+_, _≤_, _<_}
 use mathlib.Core.Bool.{Bool, true, false, not, _&&_, _||_}
 use mathlib.Core.List.{List}
 use mathlib.Core.Path.{_≡_, sym, _∙_}
-use borrow.Author.Tests.{ltb-true, leb-true}
+use borrow.Author.Tests.{ltb-true, leb-true, eqb-true, lt-ltb, eq-eqb}
 use lib.Dec.{ltb, leb}
 use lib.ListN.{getD, set}
 use lib.Seq.{getD-set-other}
-use Rattle.laws.specs.Choice.{and-true, not-both}
+use Rattle.laws.specs.Choice.{and-true, both-true, not-both}
 use Rattle.laws.specs.Each.{cleared}
 use Rattle.laws.specs.Loop.{allFrom, all-each}
+use Rattle.laws.specs.Sets.{bitAt, set-in, all-in}
 use Rattle.protocol.specs.declared.message.Message.{Message}
 use Rattle.protocol.specs.declared.setup.Setup.{Setup}
 use Rattle.protocol.specs.declared.tables.Objects.{Objects}
 use Rattle.protocol.specs.declared.tables.Tables.{Tables}
+use Rattle.protocol.specs.Setup.{volumeOf, inVolume, objectsIn}
 use Rattle.protocol.specs.Tables.{standingAt, versionAt, endAt, objectExpiryAt}
 use Rattle.protocol.specs.Writes.{completed, posted}
 use Rattle.protocol.specs.Messages.{messageAt}
-use Rattle.protocol.specs.Sound.{clockLimit, timeFits, canGrow, kindSound, messageSound, objectSound, volumeSound, sessionsSound, holdersSound, queueSound, tablesSound}
+use Rattle.protocol.specs.Sound.{clockLimit, timeFits, canGrow, kindSound, messageSound, objectSound, volumeSound, setSound, sessionsSound, holdersSound, queueSound, tablesSound}
 
 -- every standing write can still be completed: its version can grow
 pub record Growing (s : Setup) (b : Objects) : Type 0 where
   pub below : (o : ℕ) → o < s .objects → getD (b .standing) o false ≡ true → getD (b .version) o 0 < 4294967295
+
+-- the members of a sound set are objects of the volume, and each of these may be a member
+pub set-member : (s : Setup) (v m o : ℕ) → setSound s v m ≡ true → o < 32 → bitAt m o ≡ true → (o < s .objects) × (volumeOf s o ≡ v)
+unfolding objectsIn
+set-member s v m o e h b =
+    let a = and-true _ _ (sym (set-in (inVolume s v) 32 o h) ∙ all-in _ m e o h b) in
+    (ltb-true _ _ (a .0), eqb-true _ _ (a .1))
+
+pub member-fits : (s : Setup) (v o : ℕ) → o < 32 → o < s .objects → volumeOf s o ≡ v → bitAt (objectsIn s v) o ≡ true
+unfolding objectsIn
+member-fits s v o h p q = set-in (inVolume s v) 32 o h ∙ both-true (lt-ltb _ _ p) (eq-eqb _ _ q)
 
 -- what question 1 says of a message: its client exists, and what its kind names
 pub named : (s : Setup) (m : Message) → messageSound s m ≡ true → (m .client < s .clients) × (kindSound s (m .kind) ≡ true)

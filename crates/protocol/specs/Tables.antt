@@ -44,6 +44,13 @@ unreachableAt t d v = getD (t .sessions .unreachable) (byVolume d v) false
 abbrev pub offerAt : Tables → ℕ → ℕ → ℕ
 offerAt t d v = getD (t .sessions .offer) (byVolume d v) 0
 
+-- 02, A6: "its list of notes for that volume", and "the batch last sent"
+abbrev pub notesAt : Tables → ℕ → ℕ → ℕ
+notesAt t d v = getD (t .sessions .notes) (byVolume d v) 0
+
+abbrev pub batchAt : Tables → ℕ → ℕ → ℕ
+batchAt t d v = getD (t .sessions .batch) (byVolume d v) 0
+
 -- Server, per object
 abbrev pub valueAt : Tables → ℕ → ℕ
 valueAt t o = getD (t .objects .value) o 0
@@ -118,7 +125,14 @@ abbrev pub freshVolumes : Volumes
 freshVolumes = record { epoch = replicate 8 1; expiry = replicate 8 0; guard = replicate 8 0 }
 
 abbrev pub freshSessions : Sessions
-freshSessions = record { seen = replicate 16 0; expiry = replicate 128 0; unreachable = replicate 128 false; offer = replicate 128 0 }
+freshSessions = record {
+  seen = replicate 16 0;
+  expiry = replicate 128 0;
+  unreachable = replicate 128 false;
+  offer = replicate 128 0;
+  notes = replicate 128 0;
+  batch = replicate 128 0;
+}
 
 abbrev pub freshObjects : Objects
 freshObjects = record {

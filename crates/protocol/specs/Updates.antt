@@ -27,16 +27,22 @@ setVolumeExpiry x v a = withVolumeExpiry x (set (x .expiry) v a)
 
 -- ---- Server, per client, and per client and volume
 abbrev pub withSeen : Sessions → List ℕ → Sessions
-withSeen x l = record { seen = l; expiry = x .expiry; unreachable = x .unreachable; offer = x .offer }
+withSeen x l = record { seen = l; expiry = x .expiry; unreachable = x .unreachable; offer = x .offer; notes = x .notes; batch = x .batch }
 
 abbrev pub withSessionExpiry : Sessions → List ℕ → Sessions
-withSessionExpiry x l = record { seen = x .seen; expiry = l; unreachable = x .unreachable; offer = x .offer }
+withSessionExpiry x l = record { seen = x .seen; expiry = l; unreachable = x .unreachable; offer = x .offer; notes = x .notes; batch = x .batch }
 
 abbrev pub withUnreachable : Sessions → List Bool → Sessions
-withUnreachable x l = record { seen = x .seen; expiry = x .expiry; unreachable = l; offer = x .offer }
+withUnreachable x l = record { seen = x .seen; expiry = x .expiry; unreachable = l; offer = x .offer; notes = x .notes; batch = x .batch }
 
 abbrev pub withOffer : Sessions → List ℕ → Sessions
-withOffer x l = record { seen = x .seen; expiry = x .expiry; unreachable = x .unreachable; offer = l }
+withOffer x l = record { seen = x .seen; expiry = x .expiry; unreachable = x .unreachable; offer = l; notes = x .notes; batch = x .batch }
+
+abbrev pub withNotes : Sessions → List ℕ → Sessions
+withNotes x l = record { seen = x .seen; expiry = x .expiry; unreachable = x .unreachable; offer = x .offer; notes = l; batch = x .batch }
+
+abbrev pub withBatch : Sessions → List ℕ → Sessions
+withBatch x l = record { seen = x .seen; expiry = x .expiry; unreachable = x .unreachable; offer = x .offer; notes = x .notes; batch = l }
 
 abbrev pub setSeen : Sessions → ℕ → ℕ → Sessions
 setSeen x d a = withSeen x (set (x .seen) d a)
@@ -49,6 +55,12 @@ setUnreachable x d v a = withUnreachable x (set (x .unreachable) (byVolume d v) 
 
 abbrev pub setOffer : Sessions → ℕ → ℕ → ℕ → Sessions
 setOffer x d v a = withOffer x (set (x .offer) (byVolume d v) a)
+
+abbrev pub setNotes : Sessions → ℕ → ℕ → ℕ → Sessions
+setNotes x d v a = withNotes x (set (x .notes) (byVolume d v) a)
+
+abbrev pub setBatch : Sessions → ℕ → ℕ → ℕ → Sessions
+setBatch x d v a = withBatch x (set (x .batch) (byVolume d v) a)
 
 -- ---- Server, per object
 abbrev pub withValue : Objects → List ℕ → Objects

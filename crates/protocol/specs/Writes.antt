@@ -19,7 +19,7 @@ use Rattle.protocol.specs.declared.tables.Tables.{Tables}
 use Rattle.protocol.specs.Setup.{volumeOf}
 use Rattle.protocol.specs.Messages.{message, pushed}
 use Rattle.protocol.specs.Tables.{byObject, epochAt, guardAt, sessionExpiryAt, unreachableAt, versionAt, standingAt, pendingAt, endAt, leaseAt, waitingAt, withClock, withSessions, withObjects, withHolders, withQueue}
-use Rattle.protocol.specs.Updates.{setUnreachable, setValue, setVersion, setWrite, withLease, setWaiting}
+use Rattle.protocol.specs.Updates.{setUnreachable, setNotes, setBatch, setValue, setVersion, setWrite, withLease, setWaiting}
 use Rattle.protocol.specs.Leases.{serverAlive, guardPassed, endOver}
 
 -- Step 4: "Waiting are the dashes whose object lease is alive and which either are not marked unreachable or have a live volume lease."
@@ -69,9 +69,9 @@ ready s t o = standingAt t o && (not (waited s t o) && guardPassed t (volumeOf s
 unfoldable pub due : Setup → Tables → ℕ → Bool
 due s t o = standingAt t o && (not (waited s t o) && guardPassed t (volumeOf s o) || endOver (t .clock) (endAt t o))
 
--- a client marked unreachable in a volume
+-- a client marked unreachable in a volume. 02, A6: "Any mark drops its notes there and voids the batch."
 abbrev pub marked : Sessions → ℕ → ℕ → Sessions
-marked x d v = setUnreachable x d v true
+marked x d v = setBatch (setNotes (setUnreachable x d v true) d v 0) d v 0
 
 -- "marks still waiting dashes unreachable"
 abbrev pub markIfWaiting : Setup → Tables → ℕ → Sessions → ℕ → Sessions

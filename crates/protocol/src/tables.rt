@@ -17,6 +17,10 @@ pub struct Sessions {
     pub unreachable: [bool; 128],
     // the number of the OFFER that a DROPPED has to answer; 0 is none
     pub offer: [u32; 128],
+    // the objects whose writes the client has not been told of, bit k for object k
+    pub notes: [u32; 128],
+    // the number of the BATCH that a CLEARED has to answer; 0 is none
+    pub batch: [u32; 128],
 }
 
 // The server's tables, per object. Where no write stands, `pending` and `end` are free; in a run from fresh tables they are 0.

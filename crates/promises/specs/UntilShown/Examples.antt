@@ -9,16 +9,16 @@ use Rattle.laws.specs.Loop.{foldFrom, anyFrom, allFrom, firstFrom}
 use Rattle.laws.specs.Lists.{removeAt}
 use Rattle.laws.specs.Store.{storeEach}
 use Rattle.laws.specs.Greatest.{greatest}
-use Rattle.laws.specs.Sets.{bitAt, setOf}
+use Rattle.laws.specs.Sets.{bitAt, setOf, allIn}
 use Rattle.laws.specs.Sets as sets
 use Rattle.protocol.specs.declared.records.Request.{Request}
 use Rattle.protocol.specs.declared.setup.Setup.{Setup}
 use Rattle.protocol.specs.declared.step.Answer.{Answer}
 use Rattle.protocol.specs.declared.step.Answer.the-variants.{Shown, AskFirst}
 use Rattle.protocol.specs.declared.step.Step.{Step}
-use Rattle.protocol.specs.Setup.{inRange}
+use Rattle.protocol.specs.Setup.{inRange, objectsIn}
 use Rattle.protocol.specs.Messages.{pushed, removed}
-use Rattle.protocol.specs.Tables.{standingAt, freshTables}
+use Rattle.protocol.specs.Tables.{notesAt, standingAt, freshTables}
 use Rattle.protocol.specs.Leases.{serverAlive, clientAlive, clientClock, guardPassed, endOver}
 use Rattle.protocol.specs.Writes.{waits, latestEnd, opened, awaited, notified, waited, ready, due, deserted, posted, released, completed, settled, written}
 use Rattle.protocol.specs.Server.{noted, offered, lowestWaited, volumeRenewed, objectRenewed, granted, mustDrop, renewedBy, renewed, ackTaken, acked, ackStaged, dropTaken, disowned, dropped, dropStaged, serverRestarted}
@@ -59,12 +59,13 @@ short o = ask 0 o ∷ deliver ∷ deliver ∷ []
 abbrev pub long : ℕ → List Step
 long o = ask 0 o ∷ deliver ∷ deliver ∷ deliver ∷ short o
 
--- what is seen of a state: how many messages are under way, whether a write stands on either object, the client's next number; the steps of
+-- what is seen of a state: how many messages are under way, whether a write stands on either object, the client's notes and its next number; the steps of
 -- the policy, which may take two more than seven; and what the read is answered before and after them
 pub record Observed : Type 0 where
   pub underWay : ℕ
   pub standing : Bool
   pub standingBeside : Bool
+  pub notes : ℕ
   pub next : ℕ
   pub before : Answer
   pub steps : List Step
@@ -75,6 +76,7 @@ observed w = record {
   underWay = w .tables .queue .len;
   standing = standingAt (w .tables) 0;
   standingBeside = standingAt (w .tables) 1;
+  notes = notesAt (w .tables) 0 0;
   next = requestAt (w .requests) 0 .next;
   before = answerOf two w (read 0 0);
   steps = policy two 0 0 9 true w;
@@ -84,12 +86,13 @@ observed w = record {
 -- the premises hold, and the read is shown
 abbrev pub Works : List Step → ℕ → List Step → ℕ → Type 0
 Works ys n xs y =
-    observed (after ys) ≡ record { underWay = 0; standing = false; standingBeside = false; next = n; before = AskFirst; steps = xs; afterwards = Shown y }
+    observed (after ys) ≡ record { underWay = 0; standing = false; standingBeside = false; notes = 0; next = n; before = AskFirst; steps = xs; afterwards = Shown y }
 
--- they hold but for messages under way, a write on the volume's other object, or the numbers left; the policy takes other steps, and the read is not shown
-abbrev pub Fails : World → ℕ → Bool → ℕ → List Step → Type 0
-Fails w messages beside n xs =
-    observed w ≡ record { underWay = messages; standing = false; standingBeside = beside; next = n; before = AskFirst; steps = xs; afterwards = AskFirst }
+-- they hold but for messages under way, a write on the volume's other object, notes, or the numbers left; the policy takes other steps, and the read is not
+-- shown
+abbrev pub Fails : World → ℕ → Bool → ℕ → ℕ → List Step → Type 0
+Fails w messages beside notes n xs =
+    observed w ≡ record { underWay = messages; standing = false; standingBeside = beside; notes = notes; next = n; before = AskFirst; steps = xs; afterwards = AskFirst }
 
 -- the server restarted, and the lease from before has run out
 abbrev pub restarted : List Step
@@ -123,12 +126,12 @@ Table =
     × Works marked 3 (long 0) 7
     × Works expired 3 (short 0) 0
     -- the RENEW is answered by the other object's INVALIDATE
-    × Fails (after writtenBeside) 0 true 3 (ask 0 0 ∷ deliver ∷ deliver ∷ deliver ∷ [])
+    × Fails (after writtenBeside) 0 true 0 3 (ask 0 0 ∷ deliver ∷ deliver ∷ deliver ∷ [])
     -- the INVALIDATE makes the client forget its request, so that the GRANT is not taken
-    × Fails (after invalidatedTwice) 1 false 3 (ask 0 0 ∷ deliver ∷ deliver ∷ deliver ∷ deliver ∷ [])
+    × Fails (after invalidatedTwice) 1 false 0 3 (ask 0 0 ∷ deliver ∷ deliver ∷ deliver ∷ deliver ∷ [])
     -- one number is left: the second ask is refused
-    × Fails (resting (standing 4294967293 0)) 0 false 4294967294 (ask 0 0 ∷ deliver ∷ deliver ∷ deliver ∷ ask 0 0 ∷ [])
+    × Fails (resting (standing 4294967293 0)) 0 false 0 4294967294 (ask 0 0 ∷ deliver ∷ deliver ∷ deliver ∷ ask 0 0 ∷ [])
 
 pub table : Table
-unfolding Table two observed ran policy step clock foldFrom anyFrom allFrom firstFrom removeAt storeEach greatest bitAt setOf sets.removed inRange pushed removed freshTables serverAlive clientAlive clientClock guardPassed endOver waits latestEnd opened awaited notified waited ready due deserted posted released completed settled written noted offered lowestWaited volumeRenewed objectRenewed granted mustDrop renewedBy renewed ackTaken acked ackStaged dropTaken disowned dropped dropStaged serverRestarted showable stands forgotten swept sweptAll queueSound tablesSound copiesSound requestsSound sound known exists timely vacant growable refusalOfStep refusal grantReceived invalidateReceived offerReceived received readDecided askDecided deliverDecided performed decided target decision stepped
+unfolding Table two observed ran policy step clock foldFrom anyFrom allFrom firstFrom removeAt storeEach greatest inRange objectsIn bitAt setOf sets.removed allIn pushed removed freshTables serverAlive clientAlive clientClock guardPassed endOver waits latestEnd opened awaited notified waited ready due deserted posted released completed settled written noted offered lowestWaited volumeRenewed objectRenewed granted mustDrop renewedBy renewed ackTaken acked ackStaged dropTaken disowned dropped dropStaged serverRestarted showable stands forgotten swept sweptAll queueSound tablesSound copiesSound requestsSound sound known exists timely vacant growable refusalOfStep refusal grantReceived invalidateReceived offerReceived received readDecided askDecided deliverDecided performed decided target decision stepped
 table = (refl, refl, refl, refl, refl, refl, refl)

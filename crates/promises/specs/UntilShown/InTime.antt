@@ -137,4 +137,4 @@ module _ (s : Setup) (i : inRange s ≡ true) (ys : List Step) (d o : ℕ) where
     where
       -- here the invariant's fact is used that every number seen is below the next one
       idle : (known : Bool) → connected (reached .tables) d (volumeOf s o) ≡ known → Idle s reached d o known
-      idle known e = record { empty = h .empty; vacant = h .vacant; unseen = run-safe s i ys .numbers .past d (h .client); connects = e }
+      idle known e = record { empty = h .empty; vacant = h .vacant; unnoted = h .unnoted; unseen = run-safe s i ys .numbers .past d (h .client); connects = e }

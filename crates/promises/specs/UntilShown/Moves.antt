@@ -15,9 +15,9 @@ use Rattle.protocol.specs.declared.records.Request.{Request}
 use Rattle.protocol.specs.declared.setup.Setup.{Setup}
 use Rattle.protocol.specs.declared.tables.Tables.{Tables}
 use Rattle.protocol.specs.Setup.{volumeOf}
-use Rattle.protocol.specs.Tables.{byVolume, epochAt, seenAt, unreachableAt, versionAt, standingAt, viewEpochAt, noCopy, noRequest}
+use Rattle.protocol.specs.Tables.{byVolume, epochAt, seenAt, unreachableAt, notesAt, versionAt, standingAt, viewEpochAt, noCopy, noRequest}
 use Rattle.protocol.specs.Writes.{Counted, ready, completeIf, settled}
-use Rattle.protocol.specs.Server.{noted, offered, waitedIn, lowestWaited, volumeRenewed, objectRenewed, payloadFor, granted, mustDrop, renewedBy, renewed, dropTaken, dropped, readyIn, dropStaged}
+use Rattle.protocol.specs.Server.{noted, offered, waitedIn, lowestWaited, volumeRenewed, objectRenewed, payloadFor, granted, mustDrop, hasNotes, renewedBy, renewed, dropTaken, dropped, readyIn, dropStaged}
 use Rattle.protocol.specs.Client.{showable, stands}
 use Rattle.protocol.specs.Decide.{taken, uncounted, grantReceived, offerReceived, received}
 use Rattle.protocol.specs.World.{World}
@@ -90,6 +90,7 @@ module _ (s : Setup) (range : Ranges s) (w : World) (k : SoundWorld s w) (d o : 
   asks known a = record {
     renew = only-sent (w .tables .queue) _ (a .empty) (k .shape .tables .queue .items);
     vacant = a .vacant;
+    unnoted = a .unnoted;
     unseen = a .unseen;
     request = getD-set-same (w .requests) d _ noRequest (omega (arith, k .shape .requests));
     connects = a .connects;
@@ -124,6 +125,10 @@ module _ (s : Setup) (range : Ranges s) (w : World) (k : SoundWorld s w) (d o : 
     unfolding noted
     unwaited h = none-waited s noticed d o h
 
+    no-notes : notesAt (w .tables) d v ≡ 0 → hasNotes noticed d v ≡ false
+    unfolding noted
+    no-notes e = rw e
+
     unwritten : NoneStands s (w .tables) o → standingAt noticed o ≡ false
     unfolding noted
     unwritten h = h o ho refl
@@ -131,7 +136,7 @@ module _ (s : Setup) (range : Ranges s) (w : World) (k : SoundWorld s w) (d o : 
     pub grants : Asked s w d o n true → Granted s (delivering s w d (Renew o n known-epoch held)) d o n
     unfolding renewedBy granted objectRenewed volumeRenewed noted
     grants a =
-        rw (renew-leaves n known-epoch held, is-new (a .unseen) known-epoch held, drops true (a .connects), unwaited (a .vacant), unwritten (a .vacant))
+        rw (renew-leaves n known-epoch held, is-new (a .unseen) known-epoch held, drops true (a .connects), no-notes (a .unnoted), unwaited (a .vacant), unwritten (a .vacant))
         (record {
           epoch = epochAt (w .tables) v;
           version = versionAt (w .tables) o;
@@ -148,6 +153,8 @@ module _ (s : Setup) (range : Ranges s) (w : World) (k : SoundWorld s w) (d o : 
         (record {
           offer = only-answer (w .tables .queue) _ (a .renew .one) (k .shape .tables .queue .items);
           vacant = a .vacant;
+          -- a mark drops the notes
+          unnoted = getD-set-same (w .tables .sessions .notes) (byVolume d v) 0 0 (omega (arith, in-sessions, k .shape .tables .sessions .notes));
           positive = omega (arith, a .unseen);
           seen = getD-set-same (w .tables .sessions .seen) d n 0 (omega (arith, client-fits range hd, k .shape .tables .sessions .seen));
           awaits = getD-set-same (w .tables .sessions .offer) (byVolume d v) n 0 (omega (arith, in-sessions, k .shape .tables .sessions .offer));
@@ -166,6 +173,7 @@ module _ (s : Setup) (range : Ranges s) (w : World) (k : SoundWorld s w) (d o : 
         (record {
           dropped = only-answer (w .tables .queue) _ (a .offer .one) (k .shape .tables .queue .items);
           vacant = a .vacant;
+          unnoted = a .unnoted;
           positive = a .positive;
           seen = a .seen;
           awaits = a .awaits;
@@ -194,6 +202,7 @@ module _ (s : Setup) (range : Ranges s) (w : World) (k : SoundWorld s w) (d o : 
           idle = record {
             empty = none-left (w .tables .queue) (a .dropped .one);
             vacant = a .vacant;
+            unnoted = a .unnoted;
             unseen = omega (arith, a .seen, a .next);
             connects = both-true
                 (ap not (getD-set-same (w .tables .sessions .unreachable) (byVolume d v) false false (omega (arith, in-sessions, k .shape .tables .sessions .unreachable))))

@@ -16,7 +16,7 @@ use Rattle.protocol.specs.declared.records.Request.{Request}
 use Rattle.protocol.specs.declared.setup.Setup.{Setup}
 use Rattle.protocol.specs.Setup.{volumeOf}
 use Rattle.protocol.specs.Messages.{blank, messageAt, pushed, removed}
-use Rattle.protocol.specs.Tables.{epochAt, seenAt, offerAt, viewEpochAt}
+use Rattle.protocol.specs.Tables.{epochAt, seenAt, offerAt, notesAt, viewEpochAt}
 use Rattle.protocol.specs.Client.{showable}
 use Rattle.protocol.specs.World.{World}
 use Rattle.protocol.specs.Safety.View.{copyAt, requestAt}
@@ -51,6 +51,7 @@ standing n o = record { next = n + 1; standing = true; number = n; object = o }
 pub record Idle (s : Setup) (w : World) (d o : ℕ) (known : Bool) : Type 0 where
   pub empty : w .tables .queue .len ≡ 0
   pub vacant : NoneStands s (w .tables) o
+  pub unnoted : notesAt (w .tables) d (volumeOf s o) ≡ 0
   -- every number seen is below the next one: the server takes the RENEW for a new one
   pub unseen : seenAt (w .tables) d < requestAt (w .requests) d .next
   pub connects : connected (w .tables) d (volumeOf s o) ≡ known
@@ -59,6 +60,7 @@ pub record Idle (s : Setup) (w : World) (d o : ℕ) (known : Bool) : Type 0 wher
 pub record Asked (s : Setup) (w : World) (d o n : ℕ) (known : Bool) : Type 0 where
   pub renew : Only (w .tables .queue) (from d (Renew o n (viewEpochAt (w .tables) d (volumeOf s o)) (copyAt s (w .copies) d o .version)))
   pub vacant : NoneStands s (w .tables) o
+  pub unnoted : notesAt (w .tables) d (volumeOf s o) ≡ 0
   pub unseen : seenAt (w .tables) d < n
   pub request : requestAt (w .requests) d ≡ standing n o
   pub connects : connected (w .tables) d (volumeOf s o) ≡ known
@@ -67,6 +69,7 @@ pub record Asked (s : Setup) (w : World) (d o n : ℕ) (known : Bool) : Type 0 w
 pub record Offered (s : Setup) (w : World) (d o n : ℕ) : Type 0 where
   pub offer : Only (w .tables .queue) (from d (Offer (volumeOf s o) n (epochAt (w .tables) (volumeOf s o))))
   pub vacant : NoneStands s (w .tables) o
+  pub unnoted : notesAt (w .tables) d (volumeOf s o) ≡ 0
   pub positive : 1 ≤ n
   pub seen : seenAt (w .tables) d ≡ n
   pub awaits : offerAt (w .tables) d (volumeOf s o) ≡ n
@@ -76,6 +79,7 @@ pub record Offered (s : Setup) (w : World) (d o n : ℕ) : Type 0 where
 pub record Dropping (s : Setup) (w : World) (d o n : ℕ) : Type 0 where
   pub dropped : Only (w .tables .queue) (from d (Dropped (volumeOf s o) n (epochAt (w .tables) (volumeOf s o))))
   pub vacant : NoneStands s (w .tables) o
+  pub unnoted : notesAt (w .tables) d (volumeOf s o) ≡ 0
   pub positive : 1 ≤ n
   pub seen : seenAt (w .tables) d ≡ n
   pub awaits : offerAt (w .tables) d (volumeOf s o) ≡ n

@@ -16,7 +16,7 @@ use Rattle.protocol.specs.declared.step.Step.{Step}
 use Rattle.protocol.specs.declared.tables.Tables.{Tables}
 use Rattle.protocol.specs.Setup.{volumeOf}
 use Rattle.protocol.specs.Messages.{messageAt}
-use Rattle.protocol.specs.Tables.{epochAt, unreachableAt, standingAt, viewEpochAt}
+use Rattle.protocol.specs.Tables.{epochAt, unreachableAt, notesAt, standingAt, viewEpochAt}
 use Rattle.protocol.specs.Answers.{isRefused}
 use Rattle.protocol.specs.World.{World, freshWorld, stepped, answerOf, ran, answers}
 use Rattle.protocol.specs.Safety.View.{requestAt}
@@ -57,13 +57,15 @@ policy s d o (suc n) due w =
 abbrev pub NoneStands : Setup → Tables → ℕ → Type 0
 NoneStands s t o = (k : ℕ) → k < s .objects → volumeOf s k ≡ volumeOf s o → standingAt t k ≡ false
 
--- nothing is under way, nothing stands in the volume, and the client can ask twice
+-- nothing is under way, nothing stands in the volume, the client has no notes there, and it can ask twice
 pub record Quiet (s : Setup) (w : World) (d o : ℕ) : Type 0 where
   pub client : d < s .clients
   pub object : o < s .objects
   -- "with an empty message list"
   pub empty : w .tables .queue .len ≡ 0
   pub vacant : NoneStands s (w .tables) o
+  -- 02, A6: "the wait of A1 excludes dashes with notes"
+  pub unnoted : notesAt (w .tables) d (volumeOf s o) ≡ 0
   -- "two request numbers left": question 6 asks of each ask that the next number is below 4,294,967,295
   pub numbers : requestAt (w .requests) d .next + 1 < 4294967295
 

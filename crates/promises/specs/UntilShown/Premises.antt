@@ -17,7 +17,7 @@ use Rattle.protocol.specs.declared.step.Step.{Step}
 use Rattle.protocol.specs.declared.tables.Tables.{Tables}
 use Rattle.protocol.specs.Setup.{inRange}
 use Rattle.protocol.specs.Messages.{pushed, removed}
-use Rattle.protocol.specs.Tables.{standingAt, freshRequest, freshTables}
+use Rattle.protocol.specs.Tables.{notesAt, standingAt, freshRequest, freshTables}
 use Rattle.protocol.specs.Server.{sent}
 use Rattle.protocol.specs.Client.{renewal, numbered}
 use Rattle.protocol.specs.Gate.{known, exists, timely, vacant, growable, refusalOfStep, refusal}
@@ -42,6 +42,7 @@ holds ys xs n y e l = record {
   object = omega arith;
   empty = ap (λ (x : Observed). x .underWay) e;
   vacant = λ k h q. vacant k h;
+  unnoted = ap (λ (x : Observed). x .notes) e;
   numbers = let f = ap (λ (x : Observed). x .next) e in omega arith;
 }
   where
@@ -56,21 +57,23 @@ unfolding Table
 quiet-cases =
     (holds [] _ 1 0 (table .0) (omega arith), holds restarted _ 3 0 (table .1) (omega arith), holds marked _ 3 7 (table .2) (omega arith), holds expired _ 3 0 (table .3) (omega arith))
 
--- after ys so many messages are under way, no write stands on the object, one on the volume's other object or not, and this is the client's next number;
--- and the read is not shown in time
-pub record Late (ys : List Step) (messages : ℕ) (beside : Bool) (next : ℕ) : Type 0 where
+-- after ys so many messages are under way, no write stands on the object, one on the volume's other object or not, and these are the client's notes and its
+-- next number; and the read is not shown in time
+pub record Late (ys : List Step) (messages : ℕ) (beside : Bool) (notes next : ℕ) : Type 0 where
   pub underWay : after ys .tables .queue .len ≡ messages
   pub vacant : standingAt (after ys .tables) 0 ≡ false
   pub written : standingAt (after ys .tables) 1 ≡ beside
+  pub noted : notesAt (after ys .tables) 0 0 ≡ notes
   pub number : requestAt (after ys .requests) 0 .next ≡ next
   pub late : ShownInTime two ys 0 0 → ⊥
 
-late-by : (ys xs : List Step) (w : World) (messages n : ℕ) (beside : Bool) → after ys ≡ w → Fails w messages beside n xs → Late ys messages beside n
+late-by : (ys xs : List Step) (w : World) (messages notes n : ℕ) (beside : Bool) → after ys ≡ w → Fails w messages beside notes n xs → Late ys messages beside notes n
 unfolding observed
-late-by ys xs w messages n beside e f = record {
+late-by ys xs w messages notes n beside e f = record {
   underWay = rw e (ap (λ (x : Observed). x .underWay) f);
   vacant = rw e (ap (λ (x : Observed). x .standing) f);
   written = rw e (ap (λ (x : Observed). x .standingBeside) f);
+  noted = rw e (ap (λ (x : Observed). x .notes) f);
   number = rw e (ap (λ (x : Observed). x .next) f);
   late = λ h. never (h 9 (omega arith) .shown);
 }
@@ -82,14 +85,14 @@ late-by ys xs w messages n beside e f = record {
     never h = let a = not-shown in let z : _≡_ {A = ℕ} 0 1 = cc in omega arith
 
 -- ---- "no write standing in the volume", and not on the object alone
-pub write-matters : Late writtenBeside 0 true 3
+pub write-matters : Late writtenBeside 0 true 0 3
 unfolding Table
-write-matters = late-by writtenBeside _ _ 0 3 true refl (table .4)
+write-matters = late-by writtenBeside _ _ 0 0 3 true refl (table .4)
 
 -- ---- "an empty message list"
-pub message-matters : Late invalidatedTwice 1 false 3
+pub message-matters : Late invalidatedTwice 1 false 0 3
 unfolding Table
-message-matters = late-by invalidatedTwice _ _ 1 3 false refl (table .5)
+message-matters = late-by invalidatedTwice _ _ 1 0 3 false refl (table .5)
 
 -- ---- "two request numbers left": the client asks again and again, and each RENEW is lost
 unfoldable pub askedInVain : ℕ → List Step
@@ -155,6 +158,6 @@ last-request (suc k) e =
     ap (λ (n : ℕ). standing n 0) h
 
 -- one number is left, 4,294,967,294
-pub numbers-matter : (k : ℕ) → k ≡ 4294967293 → Late (askedInVain k) 0 false 4294967294
+pub numbers-matter : (k : ℕ) → k ≡ 4294967293 → Late (askedInVain k) 0 false 0 4294967294
 unfolding Table
-numbers-matter k e = late-by (askedInVain k) _ _ 0 4294967294 false (numbers-taken k (omega arith) ∙ ap resting (last-request k e)) (table .6)
+numbers-matter k e = late-by (askedInVain k) _ _ 0 0 4294967294 false (numbers-taken k (omega arith) ∙ ap resting (last-request k e)) (table .6)

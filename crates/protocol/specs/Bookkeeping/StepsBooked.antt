@@ -25,7 +25,7 @@ use Rattle.protocol.specs.Setup.{volumeOf}
 use Rattle.protocol.specs.Messages.{messageAt}
 use Rattle.protocol.specs.Tables.{standingAt}
 use Rattle.protocol.specs.Writes.{unstaged, latestEnd, begun, ready, settled, settling, written, writeStaged, clockStaged}
-use Rattle.protocol.specs.Server.{noted, offered, volumeRenewed, objectRenewed, granted, lowestWaited, mustDrop, renewedBy, renewed, ackTaken, acked, ackStaged, dropTaken, dropped, ofVolume, dropStaged, serverRestarted, stale, beingWritten}
+use Rattle.protocol.specs.Server.{noted, offered, volumeRenewed, objectRenewed, granted, lowestWaited, mustDrop, hasNotes, renewedBy, renewed, ackTaken, acked, ackStaged, dropTaken, dropped, ofVolume, dropStaged, serverRestarted, stale, beingWritten}
 use Rattle.protocol.specs.Client.{showable, stands}
 use Rattle.protocol.specs.Sound.{kindSound}
 use Rattle.protocol.specs.SoundLaws.{named}
@@ -71,9 +71,10 @@ renewed-same s t d o n e w =
     let u = noted t d n in
     cond-keeps (SameWrites t) (stale t d n) (λ _. objects-same t _ refl) (λ _.
     cond-keeps (SameWrites t) (mustDrop u d v e) (λ _. objects-same t _ refl) (λ _.
+    cond-keeps (SameWrites t) (hasNotes u d v) (λ _. objects-same t _ refl) (λ _.
     cond-keeps (SameWrites t) (ltb (lowestWaited s u d v) (s .objects)) (λ _. objects-same t _ refl) (λ _.
     cond-keeps (SameWrites t) (beingWritten u o) (λ _. objects-same t _ refl)
-    (λ _. record { value = refl; standing = refl; pending = refl; end = refl }))))
+    (λ _. record { value = refl; standing = refl; pending = refl; end = refl })))))
 
 -- ---- what is staged
 unstaged-on : (s : Setup) (t : Tables) → Shape t → StagedOn s t (unstaged t)

@@ -94,6 +94,7 @@ module _ (s : Setup) (range : Ranges s) (w : World) (inv : Inv s w) (shape : Sha
     numbers = inv .numbers;
     versions = inv .versions;
     offers = inv .offers;
+    batches = inv .batches;
     writes = record {
       guards = inv .writes .guards;
       waits = λ k i hk h a b. ⊎-elim (λ q. not-both b (q .2))

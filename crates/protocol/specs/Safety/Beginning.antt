@@ -34,7 +34,7 @@ pub unwaited : (s : Setup) (t : Tables) (o d : ℕ) → waits s t o d ≡ false
     → Unwaited (t .clock) (leaseAt t d o) (sessionExpiryAt t d (volumeOf s o)) (excusesOf t d (volumeOf s o) o)
 unfolding waits
 unwaited s t o d e =
-    ⊎-elim inl (λ p. let q = or-false (not (unreachableAt t d (volumeOf s o))) _ p in inr (q .1, marked-excused _ d (volumeOf s o) o (marks _ (q .0))))
+    ⊎-elim inl (λ p. let q = or-false (not (unreachableAt t d (volumeOf s o))) _ p in inr (q .1, marked-excused _ _ d (volumeOf s o) o (marks _ (q .0))))
     (and-false (serverAlive (t .clock) (leaseAt t d o)) _ e)
   where
     marks : (b : Bool) → not b ≡ false → b ≡ true
@@ -94,6 +94,7 @@ module _ (s : Setup) (w : World) (o new : ℕ) (range : Ranges s) (shape : Shape
         numbers = inv .numbers;
         versions = inv .versions;
         offers = inv .offers;
+        batches = inv .batches;
         writes = record {
           guards = λ j hj st.
               ⊎-elim (λ q. rw (here-at end j q) (rw q (ends-after-guard s t o)))

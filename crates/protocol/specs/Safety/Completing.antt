@@ -230,6 +230,7 @@ module _ (s : Setup) (w : World) (o : ℕ) (range : Ranges s) (objects : Objects
           (same? j o);
     };
     offers = inv .offers;
+    batches = inv .batches;
     writes = record {
       guards = λ j hj st. let ne = still-other standing j st in rw (end .other j ne) (inv .writes .guards j hj (sym (standing .other j ne) ∙ st));
       waits = λ d j hd hj st wt.

@@ -110,10 +110,10 @@ covered-left c leaves = record {
 }
 
 -- a GRANT's clause where nothing changes but what covers the view
-pub grant-covered : {s : Setup} {clocks clocks′ : ℕ → ℕ} {epoch guard seen session session′ : List ℕ} {excuse excuse′ : ℕ → ℕ → ℕ → Bool} {offer value version lease lease′ : List ℕ}
-    {copies : List Copy} {requests : List Request} {d o n x e ver y : ℕ} {p : Payload} → GrantOk s clocks epoch guard seen session excuse offer value version lease copies requests d o n x e ver y p
+pub grant-covered : {s : Setup} {clocks clocks′ : ℕ → ℕ} {epoch guard seen session session′ : List ℕ} {excuse excuse′ : ℕ → ℕ → ℕ → Bool} {offer batch value version lease lease′ : List ℕ}
+    {copies : List Copy} {requests : List Request} {d o n x e ver y : ℕ} {p : Payload} → GrantOk s clocks epoch guard seen session excuse offer batch value version lease copies requests d o n x e ver y p
     → (Stands requests d n → ViewOk s clocks′ epoch guard session′ excuse′ version lease′ d (volumeOf s o) (viewGranted s copies d o x e ver y))
-    → GrantOk s clocks′ epoch guard seen session′ excuse′ offer value version lease′ copies requests d o n x e ver y p
+    → GrantOk s clocks′ epoch guard seen session′ excuse′ offer batch value version lease′ copies requests d o n x e ver y p
 grant-covered c covered = record {
   exists = c .exists;
   header = c .header;

@@ -24,7 +24,7 @@ use Rattle.protocol.specs.Soundness.Shape.{Shape}
 use Rattle.protocol.specs.Safety.View.{left, View}
 use Rattle.protocol.specs.Safety.Invariant.{Inv, excusesOf, viewIn, AnswersIn, KindOk, CoveredIn}
 use Rattle.protocol.specs.Safety.Stores.{After, at-place, off-place, volume-set, object-fits, client-removed}
-use Rattle.protocol.specs.Safety.Tools.{zero-dead, left-below, excused-grows}
+use Rattle.protocol.specs.Safety.Tools.{zero-dead, left-below, marked-excused, noted-excused, excused-grows}
 use Rattle.protocol.specs.Safety.Replaced.{withTables}
 use Rattle.protocol.specs.Safety.Covering.{covered-by, remains-by, covered-left, covered-older}
 use Rattle.protocol.specs.Safety.Sending.{Keeps, each}
@@ -110,7 +110,8 @@ module _ (s : Setup) (range : Ranges s) (w : World) (inv : Inv s w) (shape : Sha
   same-lease k i h ne = off-place (at-lease k i h) ne
 
   excused-still : (k u i : ℕ) → u < s .volumes → (k ≡ d → u ≡ v → ⊥) → excusesOf (w .tables) k u i ≡ true → excusesOf t k u i ≡ true
-  excused-still k u i h ne = excused-grows _ _ k u i (λ a. off-place (at-un k u h) ne ∙ a)
+  unfolding dropped
+  excused-still k u i h ne = excused-grows _ _ k u i _ _ (λ a. marked-excused _ _ k u i (off-place (at-un k u h) ne ∙ a)) (noted-excused _ _ k u i)
 
   -- another client, or another volume, is covered as it was
   elsewhere : (k u : ℕ) (view : View) → u < s .volumes → (k ≡ d → u ≡ v → ⊥) → CoveredIn s (w .tables) k u view → CoveredIn s t k u view
@@ -146,9 +147,9 @@ module _ (s : Setup) (range : Ranges s) (w : World) (inv : Inv s w) (shape : Sha
         reached = c .reached;
         payload = c .payload;
         object = c .object;
-        unoffered = λ a b. ⊎-elim (λ q. q .2) (λ q. q .1 ∙ c .unoffered a b) (at-offer k (volumeOf s i) hu);
+        unoffered = λ a b. (⊎-elim (λ q. q .2) (λ q. q .1 ∙ c .unoffered a b .0) (at-offer k (volumeOf s i) hu), c .unoffered a b .1);
         held = c .held;
-        covered = λ a. ⊎-elim (λ q. covered-older (λ b. offered k (volumeOf s i) (q .0) (q .1) (c .unoffered a b)) (c .covered a)) (λ q. elsewhere k (volumeOf s i) _ hu (q .0) (c .covered a))
+        covered = λ a. ⊎-elim (λ q. covered-older (λ b. offered k (volumeOf s i) (q .0) (q .1) (c .unoffered a b .0)) (c .covered a)) (λ q. elsewhere k (volumeOf s i) _ hu (q .0) (c .covered a))
             (at-session k (volumeOf s i) hu);
       }
     where
@@ -178,6 +179,7 @@ module _ (s : Setup) (range : Ranges s) (w : World) (inv : Inv s w) (shape : Sha
     numbers = inv .numbers;
     versions = inv .versions;
     offers = λ k u hk h ne. ⊎-elim (λ a. absurd (ne (a .2))) (λ a. off-place (at-un k u h) (a .0) ∙ inv .offers k u hk h (λ z. ne (a .1 ∙ z))) (at-offer k u h);
+    batches = λ k u hk h ne. let b = inv .batches k u hk h ne in (b .0, ⊎-elim (λ a. a .2) (λ a. a .1 ∙ b .1) (at-un k u h));
     writes = record {
       guards = inv .writes .guards;
       waits = λ k i hk h a b. ⊎-elim (λ q. not-both b (q .2))

@@ -54,6 +54,7 @@ module _ (s : Setup) (range : Ranges s) where
       values = λ d o hd ho e. let r = sym (no-version d o hd ho) ∙ e ∙ all-same 32 o 1 (object-fits range ho) in absurd (omega arith);
     };
     offers = λ d v hd hv ne. absurd (ne (zero-session range d v hd hv));
+    batches = λ d v hd hv ne. absurd (ne (zero-session range d v hd hv));
     writes = record { guards = λ o h a. nothing-stands range o h a; waits = λ d o hd ho a b. nothing-stands range o ho a; others = λ d o hd ho a b. nothing-stands range o ho a };
     views = λ d v hd hv. covered-empty (record { volume = zero-session range d v hd hv; objects = λ o a. a .copy (no-version d o hd (a .exists)) });
     messages = λ m z. none-sent m z;

@@ -67,7 +67,7 @@ module _ (s : Setup) (range : Ranges s) (w : World) (inv : Inv s w) (shape : Wor
     erased = λ i f u z q a. ⊎-elim (λ b. absurd (alone f u (rw (b .1) at z) (rw (b .1) at a))) (λ b. same-version (b .1) ∙ inv .messages _ z .kind .erased a)
         (at-copy d i (inv .messages _ z .kind .invalidate .exists));
     -- no offer stands
-    remains = λ n′ f z a b. absurd (a .nonzero (sym (a .same) ∙ ok .unoffered stands b));
+    remains = λ n′ f z a b. absurd (a .nonzero (sym (a .same) ∙ ok .unoffered stands b .0));
   }
 
   pub grant-taken : Inv s (record {

@@ -91,6 +91,7 @@ module _ (s : Setup) (w : World) (inv : Inv s w) (full : length (w .copies) ≡ 
           (λ q. ap (λ (c : Copy). c .value) q ∙ inv .versions .values k i hk hi (sym (same-version q) ∙ e)) (less k i hi);
     };
     offers = inv .offers;
+    batches = inv .batches;
     writes = inv .writes;
     views = λ k v hk hv. covered-less (view-less (fewer k v) refl refl) (inv .views k v hk hv);
     messages = each inv keeps;

@@ -58,6 +58,11 @@ abbrev pub Offers : Setup → List Bool → List ℕ → Type 0
 Offers s un offer =
     (d v : ℕ) → d < s .clients → v < s .volumes → (getD offer (byVolume d v) 0 ≡ 0 → ⊥) → getD un (byVolume d v) false ≡ true
 
+-- a batch stands for clients with notes only, and for none that is marked
+abbrev pub Batches : Setup → List Bool → List ℕ → List ℕ → Type 0
+Batches s un notes batch =
+    (d v : ℕ) → d < s .clients → v < s .volumes → (getD batch (byVolume d v) 0 ≡ 0 → ⊥) → (getD notes (byVolume d v) 0 ≡ 0 → ⊥) × (getD un (byVolume d v) false ≡ false)
+
 -- whom a write does not wait for cannot show the copy, or is not counted on
 abbrev pub Unwaited : ℕ → ℕ → ℕ → Bool → Type 0
 Unwaited clock lease session excuse = (serverAlive clock lease ≡ false) ⊎ ((serverAlive clock session ≡ false) × (excuse ≡ true))
@@ -97,14 +102,15 @@ abbrev pub NamesHeld : ℕ → ℕ → Payload → Type 0
 NamesHeld held ver Same = (ver ≡ held) × (1 ≤ ver)
 NamesHeld held ver (Value x) = Unit {0}
 
-pub record GrantOk (s : Setup) (clocks : ℕ → ℕ) (epoch guard seen session : List ℕ) (excuse : ℕ → ℕ → ℕ → Bool) (offer value version lease : List ℕ) (copies : List Copy) (requests : List Request) (d o n x e ver y : ℕ) (p : Payload) : Type 0 where
+pub record GrantOk (s : Setup) (clocks : ℕ → ℕ) (epoch guard seen session : List ℕ) (excuse : ℕ → ℕ → ℕ → Bool) (offer batch value version lease : List ℕ) (copies : List Copy) (requests : List Request) (d o n x e ver y : ℕ) (p : Payload) : Type 0 where
   pub exists : o < s .objects
   pub header : Header epoch seen requests d (volumeOf s o) n e
   pub reached : ver ≤ getD version o 0
   pub payload : PayloadOk value version o ver p
   -- of the standing request, it may be taken: what the client knows then is covered
   pub object : Stands requests d n → requestAt requests d .object ≡ o
-  pub unoffered : Stands requests d n → e ≡ getD epoch (volumeOf s o) 0 → getD offer (byVolume d (volumeOf s o)) 0 ≡ 0
+  -- .. and of the server's epoch, neither an offer nor a batch stands
+  pub unoffered : Stands requests d n → e ≡ getD epoch (volumeOf s o) 0 → (getD offer (byVolume d (volumeOf s o)) 0 ≡ 0) × (getD batch (byVolume d (volumeOf s o)) 0 ≡ 0)
   pub held : Stands requests d n → NamesHeld (copyAt s copies d o .version) ver p
   pub covered : Stands requests d n → ViewOk s clocks epoch guard session excuse version lease d (volumeOf s o) (viewGranted s copies d o x e ver y)
 
@@ -154,11 +160,11 @@ abbrev pub clocksOf : Tables → ℕ → ℕ
 clocksOf t = clientClock (t .clock)
 
 abbrev pub excusesOf : Tables → ℕ → ℕ → ℕ → Bool
-excusesOf t = excused (t .sessions .unreachable)
+excusesOf t = excused (t .sessions .unreachable) (t .sessions .notes)
 
 abbrev pub KindOk : Setup → World → ℕ → Kind → Type 0
 KindOk s w d (Renew o n e ver) = RenewOk s (w .tables .volumes .epoch) (w .tables .views .epoch) (w .copies) (w .requests) d o n e ver
-KindOk s w d (Grant o n x e ver y p) = GrantOk s (clocksOf (w .tables)) (w .tables .volumes .epoch) (w .tables .volumes .guard) (w .tables .sessions .seen) (w .tables .sessions .expiry) (excusesOf (w .tables)) (w .tables .sessions .offer) (w .tables .objects .value) (w .tables .objects .version) (w .tables .holders .lease) (w .copies) (w .requests) d o n x e ver y p
+KindOk s w d (Grant o n x e ver y p) = GrantOk s (clocksOf (w .tables)) (w .tables .volumes .epoch) (w .tables .volumes .guard) (w .tables .sessions .seen) (w .tables .sessions .expiry) (excusesOf (w .tables)) (w .tables .sessions .offer) (w .tables .sessions .batch) (w .tables .objects .value) (w .tables .objects .version) (w .tables .holders .lease) (w .copies) (w .requests) d o n x e ver y p
 KindOk s w d (Invalidate o e ver) = InvalidateOk s (w .tables .volumes .epoch) (w .tables .objects .version) (w .tables .objects .standing) o e ver
 KindOk s w d (Ack o e ver) = AckOk s (w .tables .volumes .epoch) (w .tables .objects .version) (w .tables .objects .standing) (w .copies) d o e ver
 KindOk s w d (Offer v n e) = OfferOk s (w .tables .volumes .epoch) (w .tables .sessions .seen) (w .requests) d v n e
@@ -236,6 +242,7 @@ pub record Inv (s : Setup) (w : World) : Type 0 where
   pub numbers : Numbers s (w .tables .sessions .seen) (w .requests)
   pub versions : Versions s (w .tables .objects .value) (w .tables .objects .version) (w .copies)
   pub offers : Offers s (w .tables .sessions .unreachable) (w .tables .sessions .offer)
+  pub batches : Batches s (w .tables .sessions .unreachable) (w .tables .sessions .notes) (w .tables .sessions .batch)
   pub writes : Writes s (w .tables .clock) (w .tables .volumes .guard) (w .tables .sessions .expiry) (excusesOf (w .tables)) (w .tables .objects .standing) (w .tables .objects .end) (w .tables .holders .lease) (w .tables .holders .waiting)
   -- what each client knows is covered
   pub views : (d v : ℕ) → d < s .clients → v < s .volumes → CoveredIn s (w .tables) d v (viewIn s w d v)

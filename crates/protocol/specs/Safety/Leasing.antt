@@ -13,7 +13,7 @@ use Rattle.protocol.specs.declared.message.Kind.the-variants.{Renew, Gra
 use Rattle.protocol.specs.declared.setup.Setup.{Setup}
 use Rattle.protocol.specs.declared.tables.Tables.{Tables}
 use Rattle.protocol.specs.Setup.{volumeOf}
-use Rattle.protocol.specs.Tables.{epochAt, volumeExpiryAt, seenAt, sessionExpiryAt, unreachableAt, offerAt, versionAt, objectExpiryAt, standingAt, leaseAt, waitingAt}
+use Rattle.protocol.specs.Tables.{epochAt, volumeExpiryAt, seenAt, sessionExpiryAt, unreachableAt, offerAt, notesAt, batchAt, versionAt, objectExpiryAt, standingAt, leaseAt, waitingAt}
 use Rattle.protocol.specs.Leases.{serverAlive}
 use Rattle.protocol.specs.Server.{volumeRenewed, objectRenewed, sameVersion, payloadFor, granting, granted}
 use Rattle.protocol.specs.World.{World}
@@ -27,7 +27,7 @@ use Rattle.protocol.specs.Safety.Covering.{covered-by, remains-by, grant
 use Rattle.protocol.specs.Safety.Sending.{Keeps, each, acking-case, not-acking, send}
 
 module _ (s : Setup) (range : Ranges s) (w : World) (inv : Inv s w) (shape : Shape (w .tables)) (d o : ℕ) (hd : d < s .clients) (ho : o < s .objects)
-    (reachable : unreachableAt (w .tables) d (volumeOf s o) ≡ false) (free : standingAt (w .tables) o ≡ false)
+    (reachable : unreachableAt (w .tables) d (volumeOf s o) ≡ false) (unnoted : notesAt (w .tables) d (volumeOf s o) ≡ 0) (free : standingAt (w .tables) o ≡ false)
     (trusted : (i : ℕ) → i < s .objects → volumeOf s i ≡ volumeOf s o → excusesOf (w .tables) d (volumeOf s o) i ≡ false)
     (unwaited : (i : ℕ) → i < s .objects → volumeOf s i ≡ volumeOf s o → standingAt (w .tables) i ≡ true → waitingAt (w .tables) d i ≡ false) where
   abbrev v : ℕ
@@ -121,6 +121,7 @@ module _ (s : Setup) (range : Ranges s) (w : World) (inv : Inv s w) (shape : Sha
     numbers = inv .numbers;
     versions = inv .versions;
     offers = inv .offers;
+    batches = inv .batches;
     writes = record {
       guards = inv .writes .guards;
       waits = λ k i hk h a b.
@@ -156,6 +157,13 @@ module _ (s : Setup) (range : Ranges s) (w : World) (inv : Inv s w) (shape : Sha
         go : Dec (offerAt (w .tables) d v ≡ 0) → offerAt (w .tables) d v ≡ 0
         go (yes q) = q
         go (no q) = not-both (inv .offers d v hd hv q) reachable
+
+    none-batched : batchAt (w .tables) d v ≡ 0
+    none-batched = go (ℕ-discrete (batchAt (w .tables) d v) 0)
+      where
+        go : Dec (batchAt (w .tables) d v ≡ 0) → batchAt (w .tables) d v ≡ 0
+        go (yes q) = q
+        go (no q) = absurd (inv .batches d v hd hv q .0 unnoted)
 
     -- what the client will know of the volume; its epoch is the server's, so the server counted on its other copies
     abbrev view : View
@@ -201,7 +209,7 @@ module _ (s : Setup) (range : Ranges s) (w : World) (inv : Inv s w) (shape : Sha
             reached = omega arith;
             payload = says;
             object = renew .object;
-            unoffered = λ a b. none-offered;
+            unoffered = λ a b. (none-offered, none-batched);
             held = names;
             covered = covers;
           };

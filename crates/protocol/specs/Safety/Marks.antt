@@ -1,42 +1,52 @@
--- The server counts on fewer clients than before: a mark, and any number of them. Nothing else changes by it.
+-- The server counts on fewer copies than before: a mark, any number of them, and notes (Delaying). Nothing else changes by it.
 use Prim.Native.Nat.{ℕ, _<_}
 use native.Mathlib.Omega.{arith}
 use mathlib.Core.Bool.{true, false}
-use mathlib.Core.Logic.{inl, inr, ⊎-elim}
+use mathlib.Core.Logic.{_⊎_, inl, inr, ⊎-elim}
 use mathlib.Core.Path.{_≡_, refl, sym, _∙_}
 use lib.ListN.{getD}
 use Rattle.laws.specs.Choice.{cond-keeps}
 use Rattle.laws.specs.Loop.{fold-keeps-in, fold-reaches}
+use Rattle.laws.specs.Sets.{bitAt}
 use Rattle.protocol.specs.declared.message.Kind.the-variants.{Renew, Grant, Invalidate, Ack, Offer, Dropped}
 use Rattle.protocol.specs.declared.setup.Setup.{Setup}
 use Rattle.protocol.specs.declared.tables.Sessions.{Sessions}
 use Rattle.protocol.specs.declared.tables.Tables.{Tables}
 use Rattle.protocol.specs.Setup.{volumeOf}
-use Rattle.protocol.specs.Tables.{byVolume, waitingAt, withSessions}
-use Rattle.protocol.specs.Updates.{withUnreachable}
+use Rattle.protocol.specs.Tables.{byVolume, waitingAt, batchAt, withSessions}
+use Rattle.protocol.specs.Updates.{withUnreachable, withNotes, withBatch}
 use Rattle.protocol.specs.Writes.{marked, markIfWaiting, deserted}
 use Rattle.protocol.specs.World.{World}
 use Rattle.protocol.specs.Ranges.{Ranges}
 use Rattle.protocol.specs.Soundness.Shape.{SessionsShape}
 use Rattle.protocol.specs.Soundness.ShapeKept.{marked-shape}
 use Rattle.protocol.specs.Safety.View.{excused, View}
-use Rattle.protocol.specs.Safety.Invariant.{excusesOf, CoveredIn, Inv}
-use Rattle.protocol.specs.Safety.Stores.{After, at-place, volume-set}
-use Rattle.protocol.specs.Safety.Tools.{marked-excused, excused-grows}
+use Rattle.protocol.specs.Safety.Invariant.{CoveredIn, Inv}
+use Rattle.protocol.specs.Safety.Stores.{After, at-place, off-place, volume-set}
+use Rattle.protocol.specs.Safety.Tools.{marked-excused, noted-excused, excused-grows}
 use Rattle.protocol.specs.Safety.Replaced.{withTables}
-use Rattle.protocol.specs.Safety.Covering.{covered-by, grant-covered}
+use Rattle.protocol.specs.Safety.Covering.{covered-by}
 use Rattle.protocol.specs.Safety.Sending.{Keeps, each}
 
--- x′ is x with more doubts: who is marked stays marked, what is excused stays excused
+-- a batch is void, or it, its notes and the mark are as they were
+abbrev pub Voids : Sessions → Sessions → ℕ → ℕ → Type 0
+Voids x x′ d v =
+    (getD (x′ .batch) (byVolume d v) 0 ≡ 0)
+    ⊎ ((getD (x′ .batch) (byVolume d v) 0 ≡ getD (x .batch) (byVolume d v) 0) × (getD (x′ .notes) (byVolume d v) 0 ≡ getD (x .notes) (byVolume d v) 0)
+    × (getD (x′ .unreachable) (byVolume d v) false ≡ getD (x .unreachable) (byVolume d v) false))
+
+-- x′ is x with more doubts: who is marked stays marked, what is excused stays excused, and a batch is void, or stands with its notes as it did
 pub record Doubted (s : Setup) (x x′ : Sessions) : Type 0 where
   pub seen : x′ .seen ≡ x .seen
   pub expiry : x′ .expiry ≡ x .expiry
   pub offer : x′ .offer ≡ x .offer
   pub marks : (d v : ℕ) → d < s .clients → v < s .volumes → getD (x .unreachable) (byVolume d v) false ≡ true → getD (x′ .unreachable) (byVolume d v) false ≡ true
-  pub excuses : (d v o : ℕ) → d < s .clients → v < s .volumes → o < s .objects → excused (x .unreachable) d v o ≡ true → excused (x′ .unreachable) d v o ≡ true
+  pub excuses : (d v o : ℕ) → d < s .clients → v < s .volumes → o < s .objects → excused (x .unreachable) (x .notes) d v o ≡ true
+      → excused (x′ .unreachable) (x′ .notes) d v o ≡ true
+  pub batches : (d v : ℕ) → d < s .clients → v < s .volumes → Voids x x′ d v
 
 pub undoubted : (s : Setup) (x : Sessions) → Doubted s x x
-undoubted s x = record { seen = refl; expiry = refl; offer = refl; marks = λ d v hd hv e. e; excuses = λ d v o hd hv ho e. e }
+undoubted s x = record { seen = refl; expiry = refl; offer = refl; marks = λ d v hd hv e. e; excuses = λ d v o hd hv ho e. e; batches = λ d v hd hv. inr (refl, refl, refl) }
 
 -- doubts upon doubts
 pub doubted-on : {s : Setup} {x x′ x″ : Sessions} → Doubted s x x′ → Doubted s x′ x″ → Doubted s x x″
@@ -46,22 +56,41 @@ doubted-on a b = record {
   offer = b .offer ∙ a .offer;
   marks = λ d v hd hv e. b .marks d v hd hv (a .marks d v hd hv e);
   excuses = λ d v o hd hv ho e. b .excuses d v o hd hv ho (a .excuses d v o hd hv ho e);
+  batches = λ d v hd hv.
+      ⊎-elim inl
+      (λ q. ⊎-elim (λ p. inl (q .0 ∙ p)) (λ p. inr (q .0 ∙ p .0, q .1 ∙ p .1, q .2 ∙ p .2)) (a .batches d v hd hv))
+      (b .batches d v hd hv);
 }
 
 -- ---- they keep the invariant
 module _ (s : Setup) (range : Ranges s) (w : World) (x′ : Sessions) (doubts : Doubted s (w .tables .sessions) x′) (inv : Inv s w) where
-  abbrev after : World
-  after = withTables w (withSessions (w .tables) (withUnreachable (w .tables .sessions) (x′ .unreachable)))
+  abbrev doubtful : Sessions
+  doubtful = withBatch (withNotes (withUnreachable (w .tables .sessions) (x′ .unreachable)) (x′ .notes)) (x′ .batch)
 
-  more : (d v o : ℕ) → d < s .clients → v < s .volumes → o < s .objects → excusesOf (w .tables) d v o ≡ true → excusesOf (after .tables) d v o ≡ true
-  more = doubts .excuses
+  abbrev after : World
+  after = withTables w (withSessions (w .tables) doubtful)
 
   covered : (d v : ℕ) (view : View) → d < s .clients → v < s .volumes → CoveredIn s (w .tables) d v view → CoveredIn s (after .tables) d v view
-  covered d v view hd hv c = covered-by c (omega arith) (λ o ho q. more d v o hd hv ho) (λ o h. omega arith)
+  covered d v view hd hv c = covered-by c (omega arith) (λ o ho q. doubts .excuses d v o hd hv ho) (λ o h. omega arith)
+
+  -- no batch stands that did not
+  void : (d v : ℕ) → d < s .clients → v < s .volumes → batchAt (w .tables) d v ≡ 0 → batchAt (after .tables) d v ≡ 0
+  void d v hd hv e = ⊎-elim (λ q. q) (λ q. q .0 ∙ e) (doubts .batches d v hd hv)
 
   keeps : Keeps s w after
   keeps d (Renew o n e ver) z hd c = c
-  keeps d (Grant o n x e ver y p) z hd c = grant-covered c (λ a. covered d (volumeOf s o) _ hd (range .within o (c .exists)) (c .covered a))
+  keeps d (Grant o n x e ver y p) z hd c =
+      let hv = range .within o (c .exists) in
+      record {
+        exists = c .exists;
+        header = c .header;
+        reached = c .reached;
+        payload = c .payload;
+        object = c .object;
+        unoffered = λ a b. let q = c .unoffered a b in (q .0, void d (volumeOf s o) hd hv (q .1));
+        held = c .held;
+        covered = λ a. covered d (volumeOf s o) _ hd hv (c .covered a);
+      }
   keeps d (Invalidate o e ver) z hd c = c
   keeps d (Ack o e ver) z hd c = c
   keeps d (Offer v n e) z hd c = c
@@ -74,10 +103,14 @@ module _ (s : Setup) (range : Ranges s) (w : World) (x′ : Sessions) (doubts : 
     numbers = inv .numbers;
     versions = inv .versions;
     offers = λ d v hd hv ne. doubts .marks d v hd hv (inv .offers d v hd hv ne);
+    batches = λ d v hd hv ne.
+        ⊎-elim (λ q. absurd (ne q))
+        (λ q. let b = inv .batches d v hd hv (λ e. ne (q .0 ∙ e)) in (λ e. b .0 (sym (q .1) ∙ e), q .2 ∙ b .1))
+        (doubts .batches d v hd hv);
     writes = record {
       guards = inv .writes .guards;
       waits = inv .writes .waits;
-      others = λ d o hd ho st wt. ⊎-elim inl (λ a. inr (a .0, more d (volumeOf s o) o hd (range .within o ho) ho (a .1))) (inv .writes .others d o hd ho st wt);
+      others = λ d o hd ho st wt. ⊎-elim inl (λ a. inr (a .0, doubts .excuses d (volumeOf s o) o hd (range .within o ho) ho (a .1))) (inv .writes .others d o hd ho st wt);
     };
     views = λ d v hd hv. covered d v _ hd hv (inv .views d v hd hv);
     messages = each inv keeps;
@@ -85,16 +118,22 @@ module _ (s : Setup) (range : Ranges s) (w : World) (x′ : Sessions) (doubts : 
   }
 
   -- nothing else changed
-  same : record { seen = x′ .seen; expiry = x′ .expiry; unreachable = x′ .unreachable; offer = x′ .offer } ≡ withUnreachable (w .tables .sessions) (x′ .unreachable)
+  same : record { seen = x′ .seen; expiry = x′ .expiry; unreachable = x′ .unreachable; offer = x′ .offer; notes = x′ .notes; batch = x′ .batch } ≡ doubtful
   same = rw (doubts .seen, doubts .expiry, doubts .offer)
 
   pub doubts-keep : Inv s (withTables w (withSessions (w .tables) x′))
   doubts-keep = rw (sym same) at doubting
 
--- ---- a mark
+-- ---- a mark: "drops its notes there and voids the batch"
 module _ (s : Setup) (range : Ranges s) (x : Sessions) (shape : SessionsShape x) (d v : ℕ) (hd : d < s .clients) (hv : v < s .volumes) where
   at-mark : (k u : ℕ) → u < s .volumes → After d v k u (getD (marked x d v .unreachable) (byVolume k u) false) true (getD (x .unreachable) (byVolume k u) false)
   at-mark k u hu = volume-set range hd hv (x .unreachable) true false (shape .unreachable) k u hu
+
+  at-notes : (k u : ℕ) → u < s .volumes → After d v k u (getD (marked x d v .notes) (byVolume k u) 0) 0 (getD (x .notes) (byVolume k u) 0)
+  at-notes k u hu = volume-set range hd hv (x .notes) 0 0 (shape .notes) k u hu
+
+  at-batch : (k u : ℕ) → u < s .volumes → After d v k u (getD (marked x d v .batch) (byVolume k u) 0) 0 (getD (x .batch) (byVolume k u) 0)
+  at-batch k u hu = volume-set range hd hv (x .batch) 0 0 (shape .batch) k u hu
 
   pub marked-there : getD (marked x d v .unreachable) (byVolume d v) false ≡ true
   marked-there = at-place (at-mark d v hv) refl refl
@@ -102,13 +141,19 @@ module _ (s : Setup) (range : Ranges s) (x : Sessions) (shape : SessionsShape x)
   marked-stays : (k u : ℕ) → u < s .volumes → getD (x .unreachable) (byVolume k u) false ≡ true → getD (marked x d v .unreachable) (byVolume k u) false ≡ true
   marked-stays k u hu e = ⊎-elim (λ a. a .2) (λ a. a .1 ∙ e) (at-mark k u hu)
 
+  -- its notes are not needed any more
+  noted-still : (k u o : ℕ) → u < s .volumes → bitAt (getD (x .notes) (byVolume k u) 0) o ≡ true → excused (marked x d v .unreachable) (marked x d v .notes) k u o ≡ true
+  noted-still k u o hu e =
+      ⊎-elim (λ a. marked-excused _ _ k u o (a .2)) (λ a. noted-excused _ _ k u o (rw (off-place (at-notes k u hu) (a .0)) e)) (at-mark k u hu)
+
   pub marked-doubts : Doubted s x (marked x d v)
   marked-doubts = record {
     seen = refl;
     expiry = refl;
     offer = refl;
     marks = λ k u hk hu e. marked-stays k u hu e;
-    excuses = λ k u o hk hu ho e. excused-grows (x .unreachable) (marked x d v .unreachable) k u o (marked-stays k u hu) e;
+    excuses = λ k u o hk hu ho. excused-grows _ _ k u o _ _ (λ e. marked-excused _ _ k u o (marked-stays k u hu e)) (noted-still k u o hu);
+    batches = λ k u hk hu. ⊎-elim (λ a. inl (a .2)) (λ a. inr (a .1, off-place (at-notes k u hu) (a .0), off-place (at-mark k u hu) (a .0))) (at-batch k u hu);
   }
 
 -- ---- those marked whom a write that completes still waits for
@@ -129,10 +174,10 @@ module _ (s : Setup) (t : Tables) (o : ℕ) (range : Ranges s) (ho : o < s .obje
       (λ x d hd p. (turn-shape x d hd (p .0), doubted-on (p .1) (turn-doubts x d hd (p .0)))) (t .sessions) 0 (s .clients) (omega arith) (shape, undoubted s (t .sessions)) .1
 
   -- who is waited for is marked, and so is not counted on
-  pub deserted-marks : (d : ℕ) → d < s .clients → waitingAt t d o ≡ true → excused (deserted s t o .unreachable) d (volumeOf s o) o ≡ true
+  pub deserted-marks : (d : ℕ) → d < s .clients → waitingAt t d o ≡ true → excused (deserted s t o .unreachable) (deserted s t o .notes) d (volumeOf s o) o ≡ true
   unfolding deserted
   deserted-marks d hd e =
-      marked-excused _ d (volumeOf s o) o
+      marked-excused _ _ d (volumeOf s o) o
       (fold-reaches SessionsShape (λ (x : Sessions). getD (x .unreachable) (byVolume d (volumeOf s o)) false ≡ true) (markIfWaiting s t o) (s .clients) d turn-shape
       (λ x k hk h p. turn-doubts x k hk h .marks d (volumeOf s o) hd hv p) turn (t .sessions) 0 (s .clients) (omega arith) (omega arith) (omega arith) shape)
     where

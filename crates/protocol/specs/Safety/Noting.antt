@@ -44,6 +44,7 @@ module _ (s : Setup) (w : World) (inv : Inv s w) (d n : ℕ) (full : length (w .
     };
     versions = inv .versions;
     offers = inv .offers;
+    batches = inv .batches;
     writes = inv .writes;
     views = inv .views;
     messages = each inv keeps;
@@ -103,7 +104,7 @@ module _ (s : Setup) (range : Ranges s) (w : World) (inv : Inv s w) (d v n : ℕ
     reached = c .reached;
     payload = c .payload;
     object = c .object;
-    unoffered = λ a b. ⊎-elim (λ q. absurd (unused k _ n′ e (q .0) (c .header) b .1 a)) (λ q. q .1 ∙ c .unoffered a b) (at-offer k (volumeOf s o) (range .within o (c .exists)));
+    unoffered = λ a b. ⊎-elim (λ q. absurd (unused k _ n′ e (q .0) (c .header) b .1 a)) (λ q. (q .1 ∙ c .unoffered a b .0, c .unoffered a b .1)) (at-offer k (volumeOf s o) (range .within o (c .exists)));
     held = c .held;
     covered = c .covered;
   }
@@ -124,6 +125,7 @@ module _ (s : Setup) (range : Ranges s) (w : World) (inv : Inv s w) (d v n : ℕ
     numbers = inv .numbers;
     versions = inv .versions;
     offers = λ k u hk hu ne. ⊎-elim (λ a. rw (a .0, a .1) marked) (λ a. inv .offers k u hk hu (λ e. ne (a .1 ∙ e))) (at-offer k u hu);
+    batches = inv .batches;
     writes = inv .writes;
     views = inv .views;
     messages = each inv keeps;

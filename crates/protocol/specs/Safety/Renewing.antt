@@ -15,7 +15,7 @@ use Rattle.protocol.specs.declared.tables.Tables.{Tables}
 use Rattle.protocol.specs.Setup.{volumeOf}
 use Rattle.protocol.specs.Tables.{epochAt, seenAt, unreachableAt, standingAt, waitingAt, withSessions}
 use Rattle.protocol.specs.Writes.{marked, invalidation}
-use Rattle.protocol.specs.Server.{sent, noted, offered, offering, waitedIn, lowestWaited, mustDrop, granted, renewedBy, renewed, stale, beingWritten}
+use Rattle.protocol.specs.Server.{sent, noted, offered, offering, waitedIn, lowestWaited, mustDrop, hasNotes, granted, renewedBy, renewed, stale, beingWritten}
 use Rattle.protocol.specs.World.{World}
 use Rattle.protocol.specs.Ranges.{Ranges}
 use Rattle.protocol.specs.Soundness.ShapeKept.{noted-shape}
@@ -89,20 +89,22 @@ module _ (s : Setup) (range : Ranges s) (w : World) (inv : Inv s w) (shape : Sha
       (λ i b. b) (λ k i b. b)
 
   -- "Else .. send GRANT"
-  by-grant : mustDrop t d v e ≡ false → ltb low (s .objects) ≡ false → standingAt t o ≡ false → Inv s (withTables w (granted s t d o n ver))
+  by-grant : mustDrop t d v e ≡ false → hasNotes t d v ≡ false → ltb low (s .objects) ≡ false → standingAt t o ≡ false → Inv s (withTables w (granted s t d o n ver))
   unfolding noted mustDrop
-  by-grant keep none free =
+  by-grant keep unnoted none free =
       let a = or-false (not (eqb e (epochAt t v))) (unreachableAt t d v) keep in
+      let no-notes = eqb-true _ _ (not-false _ unnoted) in
       granted-keeps s range (withTables w t) noticed
       (noted-shape (w .tables) d n shape)
-      d o hd ho (a .1) free (λ i h q. unmarked-trusted _ d v i (a .1)) (unwaited none) n e ver renew (eqb-true _ _ (not-false _ (a .0))) seen-now
+      d o hd ho (a .1) no-notes free (λ i h q. unmarked-trusted _ _ d v i (a .1) no-notes) (unwaited none) n e ver renew (eqb-true _ _ (not-false _ (a .0))) seen-now
 
   pub renewed-new : Inv s (withTables w (renewedBy s t d o n e ver))
   unfolding renewedBy
   renewed-new =
       cond-keeps (λ (x : Tables). Inv s (withTables w x)) (mustDrop t d v e) (λ a. by-offer)
-      (λ a. cond-keeps (λ (x : Tables). Inv s (withTables w x)) (ltb low (s .objects)) (λ b. by-resend (ltb-true _ _ b))
-      (λ b. cond-keeps (λ (x : Tables). Inv s (withTables w x)) (beingWritten t o) (λ l. noticed) (λ l. by-grant a b l)))
+      (λ a. cond-keeps (λ (x : Tables). Inv s (withTables w x)) (hasNotes t d v) (λ b. noticed)
+      (λ b. cond-keeps (λ (x : Tables). Inv s (withTables w x)) (ltb low (s .objects)) (λ c. by-resend (ltb-true _ _ c))
+      (λ c. cond-keeps (λ (x : Tables). Inv s (withTables w x)) (beingWritten t o) (λ l. noticed) (λ l. by-grant a b c l))))
 
 -- "number not above the highest seen: nothing"
 pub renewed-keeps : (s : Setup) → Ranges s → (w : World) → Inv s w → Shape (w .tables) → (d o n e ver : ℕ) → d < s .clients → KindOk s w d (Renew o n e ver)

@@ -72,6 +72,7 @@ module _ (s : Setup) (w : World) (inv : Inv s w) (requests : List Request) (move
     numbers = numbers;
     versions = inv .versions;
     offers = inv .offers;
+    batches = inv .batches;
     writes = inv .writes;
     views = inv .views;
     messages = each inv keeps;

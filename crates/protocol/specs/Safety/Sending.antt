@@ -90,6 +90,7 @@ module _ (s : Setup) (w : World) (inv : Inv s w) where
     numbers = inv .numbers;
     versions = inv .versions;
     offers = inv .offers;
+    batches = inv .batches;
     writes = inv .writes;
     views = inv .views;
     messages = λ m z. let c = messages m z in record { client = c .client; kind = unlisted s w q (m .client) (m .kind) (c .kind) };

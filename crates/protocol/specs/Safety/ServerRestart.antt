@@ -115,6 +115,7 @@ module _ (s : Setup) (range : Ranges s) (w : World) (inv : Inv s w) (shape : Sha
     };
     versions = inv .versions;
     offers = λ d v hd hv ne. absurd (ne (zero-session range d v hd hv));
+    batches = λ d v hd hv ne. absurd (ne (zero-session range d v hd hv));
     writes = record {
       guards = λ o h a. nothing-stands range o h a;
       waits = λ d o hd ho a b. nothing-stands range o ho a;

@@ -107,6 +107,7 @@ module _ (s : Setup) (range : Ranges s) (w : World) (inv : Inv s w) (d : ℕ) (i
       values = λ k o hk ho. ⊎-elim (λ e. rw e (own .values o ho)) (λ ne. rw (others .copies k o ne ho) (inv .versions .values k o hk ho)) (same? k d);
     };
     offers = inv .offers;
+    batches = inv .batches;
     writes = inv .writes;
     views = λ k v hk hv. ⊎-elim (λ e. rw e (own .views v hv)) (λ ne. covered-less (same-view k v ne hv) (inv .views k v hk hv)) (same? k d);
     messages = each inv keeps;

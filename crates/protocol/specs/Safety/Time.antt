@@ -45,6 +45,7 @@ clock-keeps s w later h inv = record {
   numbers = inv .numbers;
   versions = inv .versions;
   offers = inv .offers;
+  batches = inv .batches;
   writes = record {
     guards = inv .writes .guards;
     waits = inv .writes .waits;

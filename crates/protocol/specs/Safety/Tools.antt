@@ -1,4 +1,4 @@
--- The laws of what later rules may change, by which alone the proofs go: the tests of time (T1 to T6), whom the server does not count on (E1) and what a
+-- The laws of what later rules may change, by which alone the proofs go: the tests of time (T1 to T6), whom the server does not count on (E1, E2) and what a
 -- DROPPED leaves; and laws of the standing request, of functions and of the message list.
 use Prim.Native.Nat.{ℕ, zero, suc, _+_, _<_, _≤_, min}
 use native.Mathlib.Decide.{decLe}
@@ -10,8 +10,9 @@ use mathlib.Core.Path.{_≡_, refl, sym, _∙_}
 use lib.Dec.{eqb}
 use lib.ListN.{length, getD, set, List·getD-append}
 use borrow.Author.Tests.{ltb-true, ltb-false, lt-ltb, le-ltb, eqb-true, not-true}
-use Rattle.laws.specs.Choice.{cond-keeps, and-true}
+use Rattle.laws.specs.Choice.{cond-keeps, and-true, or-true, or-yes}
 use Rattle.laws.specs.Store.{set-at}
+use Rattle.laws.specs.Sets.{bitAt, bit-none}
 use Rattle.laws.specs.Lists.{removeAt, length-removed}
 use Rattle.protocol.specs.declared.message.Message.{Message}
 use Rattle.protocol.specs.declared.message.Queue.{Queue}
@@ -81,19 +82,24 @@ pub dead-ended : (clock e : ℕ) → serverAlive clock e ≡ false → e ≤ clo
 unfolding serverAlive
 dead-ended clock e p = ltb-false clock e p
 
--- ---- E1: a mark excuses the client for every object of the volume, no mark for none, and other marks do not matter
+-- ---- E1: a mark excuses the client for every object of the volume, E2: a note for one, neither for none; and other marks and notes do not matter
+module _ (un : List Bool) (notes : List ℕ) (d v o : ℕ) where
+  pub marked-excused : getD un (byVolume d v) false ≡ true → excused un notes d v o ≡ true
+  unfolding excused
+  marked-excused e = rw e
 
-pub marked-excused : (un : List Bool) (d v o : ℕ) → getD un (byVolume d v) false ≡ true → excused un d v o ≡ true
-unfolding excused
-marked-excused un d v o e = e
+  pub noted-excused : bitAt (getD notes (byVolume d v) 0) o ≡ true → excused un notes d v o ≡ true
+  unfolding excused
+  noted-excused e = rw e (sym (or-yes (getD un (byVolume d v) false)))
 
-pub unmarked-trusted : (un : List Bool) (d v o : ℕ) → getD un (byVolume d v) false ≡ false → excused un d v o ≡ false
-unfolding excused
-unmarked-trusted un d v o e = e
+  pub unmarked-trusted : getD un (byVolume d v) false ≡ false → getD notes (byVolume d v) 0 ≡ 0 → excused un notes d v o ≡ false
+  unfolding excused
+  unmarked-trusted e f = rw (e, f) (bit-none o)
 
-pub excused-grows : (un un′ : List Bool) (d v o : ℕ) → (getD un (byVolume d v) false ≡ true → getD un′ (byVolume d v) false ≡ true) → excused un d v o ≡ true → excused un′ d v o ≡ true
-unfolding excused
-excused-grows un un′ d v o h e = h e
+  pub excused-grows : (un′ : List Bool) (notes′ : List ℕ) → (getD un (byVolume d v) false ≡ true → excused un′ notes′ d v o ≡ true)
+      → (bitAt (getD notes (byVolume d v) 0) o ≡ true → excused un′ notes′ d v o ≡ true) → excused un notes d v o ≡ true → excused un′ notes′ d v o ≡ true
+  unfolding excused
+  excused-grows un′ notes′ f g e = ⊎-elim f g (or-true _ _ e)
 
 -- ---- what a DROPPED leaves of a lease: no more than there was, and no less of a longer one
 

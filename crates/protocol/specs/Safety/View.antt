@@ -1,6 +1,6 @@
 -- What a client may know and hold, and when it is covered by what the server knows. The letters are those of Invariant.
 use Prim.Native.Nat.{ℕ, _+_, _*_, _<_, _≤_}
-use mathlib.Core.Bool.{Bool, true, false}
+use mathlib.Core.Bool.{Bool, true, false, _||_}
 use mathlib.Core.List.{List}
 use mathlib.Core.Logic.{_⊎_}
 use mathlib.Core.Path.{_≡_}
@@ -12,6 +12,7 @@ use Rattle.protocol.specs.Setup.{volumeOf}
 use Rattle.protocol.specs.Tables.{byVolume, byObject, noCopy, noRequest}
 use Rattle.protocol.specs.Leases.{clientAlive}
 use Rattle.laws.specs.Updated.{updated}
+use Rattle.laws.specs.Sets.{bitAt}
 
 abbrev pub copyAt : Setup → List Copy → ℕ → ℕ → Copy
 copyAt s copies d o = getD copies (d * s .objects + o) noCopy
@@ -24,9 +25,10 @@ pub record Stands (requests : List Request) (d n : ℕ) : Type 0 where
   pub there : requestAt requests d .standing ≡ true
   pub same : requestAt requests d .number ≡ n
 
--- the server does not count on client d's copy of object o, of volume v, being current; of it law E1 in Tools is used alone
-unfoldable pub excused : List Bool → ℕ → ℕ → ℕ → Bool
-excused un d v o = getD un (byVolume d v) false
+-- the server does not count on client d's copy of object o, of volume v, being current: the client is marked, or the object noted. Of it the laws E1 and E2 in
+-- Tools are used alone
+unfoldable pub excused : List Bool → List ℕ → ℕ → ℕ → ℕ → Bool
+excused un notes d v o = getD un (byVolume d v) false || bitAt (getD notes (byVolume d v) 0) o
 
 -- what the server keeps of a client's lease on an object when it takes the client's DROPPED: nothing. Of it the laws in Tools are used alone, and in
 -- Dropping that the server keeps so much

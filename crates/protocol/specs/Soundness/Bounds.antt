@@ -5,11 +5,14 @@ use Prim.Native.Nat.{ℕ, _<_, _≤_, _*_}
 use native.Mathlib.Omega.{arith}
 use mathlib.Core.Bool.{Bool, true, false}
 use mathlib.Core.List.{List}
+use mathlib.Core.Logic.{⊎-elim}
 use mathlib.Core.Path.{_≡_, refl}
 use lib.ListN.{getD, set}
 use borrow.Author.Tests.{ltb-true, lt-ltb}
 use Rattle.laws.specs.Choice.{cond-keeps, both-true, not-both}
 use Rattle.laws.specs.Lists.{All, removeAt, all-snoc, all-remove}
+use Rattle.laws.specs.Store.{set-or}
+use Rattle.laws.specs.Sets.{within-none}
 use Rattle.laws.specs.Each.{each-set, each-getD, each-replicate, replicate-at}
 use Rattle.protocol.specs.declared.message.Message.{Message}
 use Rattle.protocol.specs.declared.message.Queue.{Queue}
@@ -22,13 +25,13 @@ use Rattle.protocol.specs.declared.tables.Objects.{Objects}
 use Rattle.protocol.specs.declared.tables.Holders.{Holders}
 use Rattle.protocol.specs.declared.tables.Views.{Views}
 use Rattle.protocol.specs.declared.tables.Tables.{Tables}
-use Rattle.protocol.specs.Setup.{inRange}
+use Rattle.protocol.specs.Setup.{inRange, objectsIn}
 use Rattle.protocol.specs.Ranges.{Ranges, ranges}
 use Rattle.protocol.specs.Messages.{blank, messageAt, pushed, removed, hasRoom}
-use Rattle.protocol.specs.Tables.{withClock, withVolumes, withSessions, withObjects, withHolders, withViews, withQueue, noCopy, freshSessions, freshObjects, freshHolders, freshTables}
-use Rattle.protocol.specs.Updates.{withEpoch, withVolumeExpiry, withGuard, withSeen, withSessionExpiry, withUnreachable, withOffer, withValue, withVersion, withObjectExpiry, withStanding, withPending, withEnd, setWrite, withLease, withWaiting, withViewEpoch, withViewExpiry}
+use Rattle.protocol.specs.Tables.{byVolume, withClock, withVolumes, withSessions, withObjects, withHolders, withViews, withQueue, noCopy, freshSessions, freshObjects, freshHolders, freshTables}
+use Rattle.protocol.specs.Updates.{withEpoch, withVolumeExpiry, withGuard, withSeen, withSessionExpiry, withUnreachable, withOffer, withNotes, withBatch, withValue, withVersion, withObjectExpiry, withStanding, withPending, withEnd, setWrite, withLease, withWaiting, withViewEpoch, withViewExpiry}
 use Rattle.protocol.specs.Server.{sent}
-use Rattle.protocol.specs.Sound.{clockLimit, messageSound}
+use Rattle.protocol.specs.Sound.{clockLimit, setSound, messageSound}
 use Rattle.protocol.specs.Decide.{taken}
 use Rattle.protocol.specs.World.{World, freshWorld}
 
@@ -49,8 +52,13 @@ pub record VolumesBounded (x : Volumes) : Type 0 where
   pub expiry : All Timed (x .expiry)
   pub guard : All Timed (x .guard)
 
-pub record SessionsBounded (x : Sessions) : Type 0 where
+-- "A set bit that is no object of its volume makes tables unsound": no set of a list per client and volume has one
+abbrev pub SetsFit : Setup → List ℕ → Type 0
+SetsFit s l = (d v : ℕ) → v < 8 → setSound s v (getD l (byVolume d v) 0) ≡ true
+
+pub record SessionsBounded (s : Setup) (x : Sessions) : Type 0 where
   pub expiry : All Timed (x .expiry)
+  pub notes : SetsFit s (x .notes)
 
 pub record ObjectsBounded (x : Objects) : Type 0 where
   pub version : All Started (x .version)
@@ -72,7 +80,7 @@ pub record QueueBounded (s : Setup) (q : Queue) : Type 0 where
 pub record Bounded (s : Setup) (t : Tables) : Type 0 where
   pub clock : t .clock ≤ clockLimit
   pub volumes : VolumesBounded (t .volumes)
-  pub sessions : SessionsBounded (t .sessions)
+  pub sessions : SessionsBounded s (t .sessions)
   pub objects : ObjectsBounded (t .objects)
   pub holders : HoldersBounded (t .holders)
   pub views : ViewsBounded (t .views)
@@ -100,17 +108,27 @@ volume-expiry-bounded l e h = record { epoch = h .epoch; expiry = e; guard = h .
 pub guard-bounded : {x : Volumes} (l : List ℕ) → All Timed l → VolumesBounded x → VolumesBounded (withGuard x l)
 guard-bounded l e h = record { epoch = h .epoch; expiry = h .expiry; guard = e }
 
-pub seen-bounded : {x : Sessions} (l : List ℕ) → SessionsBounded x → SessionsBounded (withSeen x l)
-seen-bounded l h = record { expiry = h .expiry }
+pub seen-bounded : {s : Setup} {x : Sessions} (l : List ℕ) → SessionsBounded s x → SessionsBounded s (withSeen x l)
+seen-bounded l h = record { expiry = h .expiry; notes = h .notes }
 
-pub session-expiry-bounded : {x : Sessions} (l : List ℕ) → All Timed l → SessionsBounded x → SessionsBounded (withSessionExpiry x l)
-session-expiry-bounded l e h = record { expiry = e }
+pub session-expiry-bounded : {s : Setup} {x : Sessions} (l : List ℕ) → All Timed l → SessionsBounded s x → SessionsBounded s (withSessionExpiry x l)
+session-expiry-bounded l e h = record { expiry = e; notes = h .notes }
 
-pub unreachable-bounded : {x : Sessions} (l : List Bool) → SessionsBounded x → SessionsBounded (withUnreachable x l)
-unreachable-bounded l h = record { expiry = h .expiry }
+pub unreachable-bounded : {s : Setup} {x : Sessions} (l : List Bool) → SessionsBounded s x → SessionsBounded s (withUnreachable x l)
+unreachable-bounded l h = record { expiry = h .expiry; notes = h .notes }
 
-pub offer-bounded : {x : Sessions} (l : List ℕ) → SessionsBounded x → SessionsBounded (withOffer x l)
-offer-bounded l h = record { expiry = h .expiry }
+pub offer-bounded : {s : Setup} {x : Sessions} (l : List ℕ) → SessionsBounded s x → SessionsBounded s (withOffer x l)
+offer-bounded l h = record { expiry = h .expiry; notes = h .notes }
+
+pub notes-bounded : {s : Setup} {x : Sessions} (l : List ℕ) → SetsFit s l → SessionsBounded s x → SessionsBounded s (withNotes x l)
+notes-bounded l e h = record { expiry = h .expiry; notes = e }
+
+pub batch-bounded : {s : Setup} {x : Sessions} (l : List ℕ) → SessionsBounded s x → SessionsBounded s (withBatch x l)
+batch-bounded l h = record { expiry = h .expiry; notes = h .notes }
+
+-- a set stored: where it comes to stand, it fits
+pub set-fits : (s : Setup) (l : List ℕ) (i a : ℕ) → SetsFit s l → ((d v : ℕ) → v < 8 → byVolume d v ≡ i → setSound s v a ≡ true) → SetsFit s (set l i a)
+set-fits s l i a h k d v p = ⊎-elim (λ q. rw (q .1) (k d v p (q .0))) (λ q. rw q (h d v p)) (set-or l i a (byVolume d v) 0)
 
 pub value-bounded : {x : Objects} (l : List ℕ) → ObjectsBounded x → ObjectsBounded (withValue x l)
 value-bounded l h = record { version = h .version; expiry = h .expiry; end = h .end; standing = h .standing }
@@ -155,7 +173,7 @@ clock-bounded x k h = record { clock = k; volumes = h .volumes; sessions = h .se
 pub volumes-bounded : {s : Setup} {t : Tables} {x : Volumes} → VolumesBounded x → Bounded s t → Bounded s (withVolumes t x)
 volumes-bounded k h = record { clock = h .clock; volumes = k; sessions = h .sessions; objects = h .objects; holders = h .holders; views = h .views; queue = h .queue }
 
-pub sessions-bounded : {s : Setup} {t : Tables} {x : Sessions} → SessionsBounded x → Bounded s t → Bounded s (withSessions t x)
+pub sessions-bounded : {s : Setup} {t : Tables} {x : Sessions} → SessionsBounded s x → Bounded s t → Bounded s (withSessions t x)
 sessions-bounded k h = record { clock = h .clock; volumes = h .volumes; sessions = k; objects = h .objects; holders = h .holders; views = h .views; queue = h .queue }
 
 pub objects-bounded : {s : Setup} {t : Tables} {x : Objects} → ObjectsBounded x → Bounded s t → Bounded s (withObjects t x)
@@ -199,8 +217,8 @@ module _ (s : Setup) (rs : Ranges s) where
   named-at t i h = each-getD (Named s) (t .queue .items) i blank (h .queue .items) blank-named
 
 -- ---- fresh tables
-pub fresh-sessions : SessionsBounded freshSessions
-fresh-sessions = record { expiry = each-replicate Timed 128 0 (omega arith) }
+pub fresh-sessions : (s : Setup) → SessionsBounded s freshSessions
+fresh-sessions s = record { expiry = each-replicate Timed 128 0 (omega arith); notes = λ d v p. rw (replicate-at {A = ℕ} 128 (byVolume d v) 0) (within-none (objectsIn s v)) }
 
 pub fresh-objects : ObjectsBounded freshObjects
 fresh-objects = record {
@@ -223,7 +241,7 @@ fresh-bounded s e = record {
       expiry = each-replicate Timed 8 0 (omega arith);
       guard = each-replicate Timed 8 0 (omega arith);
     };
-    sessions = fresh-sessions;
+    sessions = fresh-sessions s;
     objects = fresh-objects;
     holders = fresh-holders;
     views = record { expiry = each-replicate Timed 128 0 (omega arith) };

@@ -67,11 +67,13 @@ module _ (s : Setup) (rs : Ranges s) (t : Tables) (k : Shape t) (h : Bounded s t
       (le-leb _ 2148483647 (all-at Timed (t .objects .end) o 0 (omega (arith, rs .objects .1, k .objects .end)) (h .objects .end)))
       (lt-ltb _ 4294967295 (h .objects .standing o e))))
 
-  session-is-sound : (d v : ℕ) → d < s .clients → v < s .volumes → sessionSound t d v ≡ true
+  session-is-sound : (d v : ℕ) → d < s .clients → v < s .volumes → sessionSound s t d v ≡ true
   session-is-sound d v p q =
       both-true
+      (both-true
       (le-leb _ 2148483647 (all-at Timed (t .sessions .expiry) (byVolume d v) 0 (omega (arith, rs .clients .1, rs .volumes .1, k .sessions .expiry)) (h .sessions .expiry)))
-      (le-leb _ 2148483647 (all-at Timed (t .views .expiry) (byVolume d v) 0 (omega (arith, rs .clients .1, rs .volumes .1, k .views .expiry)) (h .views .expiry)))
+      (le-leb _ 2148483647 (all-at Timed (t .views .expiry) (byVolume d v) 0 (omega (arith, rs .clients .1, rs .volumes .1, k .views .expiry)) (h .views .expiry))))
+      (h .sessions .notes d v (omega (arith, rs .volumes .1)))
 
   holder-is-sound : (d o : ℕ) → d < s .clients → o < s .objects → holderSound t d o ≡ true
   holder-is-sound d o p q =

@@ -23,7 +23,7 @@ use Rattle.protocol.specs.Setup.{volumeOf}
 use Rattle.protocol.specs.Ranges.{Ranges}
 use Rattle.protocol.specs.Tables.{byVolume, byObject}
 use Rattle.protocol.specs.Writes.{Staged}
-use Rattle.protocol.specs.Server.{noted, offered, volumeRenewed, objectRenewed, granting, granted, lowestWaited, mustDrop, renewedBy, renewed, ackTaken, acked, ackStaged, dropTaken, disowned, dropped, dropStaged, serverRestarted, stale, beingWritten}
+use Rattle.protocol.specs.Server.{noted, offered, volumeRenewed, objectRenewed, granting, granted, lowestWaited, mustDrop, hasNotes, renewedBy, renewed, ackTaken, acked, ackStaged, dropTaken, disowned, dropped, dropStaged, serverRestarted, stale, beingWritten}
 use Rattle.protocol.specs.Client.{viewed, ended, turned, changed, stands, forgotten, clientRestarted, asksFor}
 use Rattle.protocol.specs.Sound.{timeFits, kindSound}
 use Rattle.protocol.specs.Decide.{Received, kept, grantReceived, invalidateReceived, offerReceived, received}
@@ -73,9 +73,10 @@ module _ (s : Setup) (rs : Ranges s) where
       cond-keeps (Bounded s) (stale t d n) (λ _. h) (λ _.
       cond-keeps (Bounded s) (mustDrop t′ d v e)
       (λ _. sent-bounded _ _ (both-true (lt-ltb d (s .clients) p) (lt-ltb v (s .volumes) (rs .within o q))) (offered-bounded t′ d v n k)) (λ _.
+      cond-keeps (Bounded s) (hasNotes t′ d v) (λ _. k) (λ _.
       cond-keeps (Bounded s) (ltb (lowestWaited s t′ d v) (s .objects))
       (λ b. sent-bounded _ _ (invalidation-named s t′ (lowestWaited s t′ d v) d (ltb-true _ _ b) p) k) (λ _.
-      cond-keeps (Bounded s) (beingWritten t′ o) (λ _. k) (λ _. granted-bounded t′ d o n w p q k))))
+      cond-keeps (Bounded s) (beingWritten t′ o) (λ _. k) (λ _. granted-bounded t′ d o n w p q k)))))
 
 -- ---- ACK and DROPPED
 acked-bounded : {s : Setup} (t : Tables) (d o : ℕ) → Bounded s t → Bounded s (acked t d o)
@@ -106,7 +107,7 @@ unfolding serverRestarted
 server-bounded s t h =
     holders-bounded fresh-holders
     (objects-bounded (version-bounded _ (h .objects .version) (λ o e. not-both e (replicate-at 32 o false)) (value-bounded _ fresh-objects))
-    (sessions-bounded fresh-sessions
+    (sessions-bounded (fresh-sessions s)
     (volumes-bounded
     (guard-bounded _ (search h)
     (epoch-bounded _ (each-store Started _ _ _ (t .volumes .epoch) _ (h .volumes .epoch) (λ v b. omega arith)) (h .volumes))) h)))

@@ -19,7 +19,7 @@ use Rattle.protocol.specs.declared.tables.Views.{Views}
 use Rattle.protocol.specs.declared.tables.Tables.{Tables}
 use Rattle.protocol.specs.Messages.{pushed, removed, hasRoom}
 use Rattle.protocol.specs.Tables.{withClock, withVolumes, withSessions, withObjects, withHolders, withViews, withQueue, freshSessions, freshObjects, freshHolders, freshTables}
-use Rattle.protocol.specs.Updates.{withEpoch, withVolumeExpiry, withGuard, withSeen, withSessionExpiry, withUnreachable, withOffer, withValue, withVersion, withObjectExpiry, withStanding, withPending, withEnd, setWrite, withLease, withWaiting, withViewEpoch, withViewExpiry}
+use Rattle.protocol.specs.Updates.{withEpoch, withVolumeExpiry, withGuard, withSeen, withSessionExpiry, withUnreachable, withOffer, withNotes, withBatch, withValue, withVersion, withObjectExpiry, withStanding, withPending, withEnd, setWrite, withLease, withWaiting, withViewEpoch, withViewExpiry}
 use Rattle.protocol.specs.Server.{sent}
 use Rattle.protocol.specs.Decide.{taken}
 use Rattle.protocol.specs.World.{World, freshWorld}
@@ -34,6 +34,8 @@ pub record SessionsShape (x : Sessions) : Type 0 where
   pub expiry : length (x .expiry) ≡ 128
   pub unreachable : length (x .unreachable) ≡ 128
   pub offer : length (x .offer) ≡ 128
+  pub notes : length (x .notes) ≡ 128
+  pub batch : length (x .batch) ≡ 128
 
 pub record ObjectsShape (x : Objects) : Type 0 where
   pub value : length (x .value) ≡ 32
@@ -78,16 +80,22 @@ pub guard-shape : {x : Volumes} (l : List ℕ) → length l ≡ length (x .guard
 guard-shape l e h = record { epoch = h .epoch; expiry = h .expiry; guard = e ∙ h .guard }
 
 pub seen-shape : {x : Sessions} (l : List ℕ) → length l ≡ length (x .seen) → SessionsShape x → SessionsShape (withSeen x l)
-seen-shape l e h = record { seen = e ∙ h .seen; expiry = h .expiry; unreachable = h .unreachable; offer = h .offer }
+seen-shape l e h = record { seen = e ∙ h .seen; expiry = h .expiry; unreachable = h .unreachable; offer = h .offer; notes = h .notes; batch = h .batch }
 
 pub session-expiry-shape : {x : Sessions} (l : List ℕ) → length l ≡ length (x .expiry) → SessionsShape x → SessionsShape (withSessionExpiry x l)
-session-expiry-shape l e h = record { seen = h .seen; expiry = e ∙ h .expiry; unreachable = h .unreachable; offer = h .offer }
+session-expiry-shape l e h = record { seen = h .seen; expiry = e ∙ h .expiry; unreachable = h .unreachable; offer = h .offer; notes = h .notes; batch = h .batch }
 
 pub unreachable-shape : {x : Sessions} (l : List Bool) → length l ≡ length (x .unreachable) → SessionsShape x → SessionsShape (withUnreachable x l)
-unreachable-shape l e h = record { seen = h .seen; expiry = h .expiry; unreachable = e ∙ h .unreachable; offer = h .offer }
+unreachable-shape l e h = record { seen = h .seen; expiry = h .expiry; unreachable = e ∙ h .unreachable; offer = h .offer; notes = h .notes; batch = h .batch }
 
 pub offer-shape : {x : Sessions} (l : List ℕ) → length l ≡ length (x .offer) → SessionsShape x → SessionsShape (withOffer x l)
-offer-shape l e h = record { seen = h .seen; expiry = h .expiry; unreachable = h .unreachable; offer = e ∙ h .offer }
+offer-shape l e h = record { seen = h .seen; expiry = h .expiry; unreachable = h .unreachable; offer = e ∙ h .offer; notes = h .notes; batch = h .batch }
+
+pub notes-shape : {x : Sessions} (l : List ℕ) → length l ≡ length (x .notes) → SessionsShape x → SessionsShape (withNotes x l)
+notes-shape l e h = record { seen = h .seen; expiry = h .expiry; unreachable = h .unreachable; offer = h .offer; notes = e ∙ h .notes; batch = h .batch }
+
+pub batch-shape : {x : Sessions} (l : List ℕ) → length l ≡ length (x .batch) → SessionsShape x → SessionsShape (withBatch x l)
+batch-shape l e h = record { seen = h .seen; expiry = h .expiry; unreachable = h .unreachable; offer = h .offer; notes = h .notes; batch = e ∙ h .batch }
 
 pub value-shape : {x : Objects} (l : List ℕ) → length l ≡ length (x .value) → ObjectsShape x → ObjectsShape (withValue x l)
 value-shape l e h = record { value = e ∙ h .value; version = h .version; expiry = h .expiry; standing = h .standing; pending = h .pending; end = h .end }
@@ -162,7 +170,7 @@ taken-shape t i k h = queue-shape (removed-shape (t .queue) i k (h .queue)) h
 
 -- ---- fresh tables
 pub fresh-sessions : SessionsShape freshSessions
-fresh-sessions = record { seen = refl; expiry = refl; unreachable = refl; offer = refl }
+fresh-sessions = record { seen = refl; expiry = refl; unreachable = refl; offer = refl; notes = refl; batch = refl }
 
 pub fresh-objects : ObjectsShape freshObjects
 fresh-objects = record { value = refl; version = refl; expiry = refl; standing = refl; pending = refl; end = refl }

@@ -26,14 +26,14 @@ use Rattle.protocol.specs.declared.tables.Tables.{Tables}
 use Rattle.protocol.specs.Setup.{volumeOf}
 use Rattle.protocol.specs.Tables.{waitingAt}
 use Rattle.protocol.specs.Writes.{Counted, Staged, opened, awaited, begun, notify, notified, deserted, marked, markIfWaiting, posted, released, completed, completeIf, settled, written}
-use Rattle.protocol.specs.Server.{noted, offered, volumeRenewed, objectRenewed, granted, lowestWaited, mustDrop, renewedBy, renewed, ackTaken, acked, ackStaged, dropTaken, disowned, dropped, dropStaged, serverRestarted, stale, beingWritten}
+use Rattle.protocol.specs.Server.{noted, offered, volumeRenewed, objectRenewed, granted, lowestWaited, mustDrop, hasNotes, renewedBy, renewed, ackTaken, acked, ackStaged, dropTaken, disowned, dropped, dropStaged, serverRestarted, stale, beingWritten}
 use Rattle.protocol.specs.Client.{showable, stands, viewed, sweepAt, sweptAll, clientRestarted}
 use Rattle.protocol.specs.Gate.{usesPlace}
 use Rattle.protocol.specs.Decide.{Received, performed, readDecided, askDecided, deliverDecided, restartDecided, grantReceived, invalidateReceived, offerReceived, received}
 use Rattle.protocol.specs.World.{World, stepped}
 use Rattle.protocol.specs.Ledger.{accepts}
 use Rattle.protocol.specs.Soundness.StepCases.{Accepted, accepted, copyOf, requestOf, tables-after, refused-keeps, by-kind, place-exists, queue-fits, clock-performed, read-performed, ask-performed, write-performed, deliver-performed, lose-performed, double-performed, server-performed, client-performed}
-use Rattle.protocol.specs.Soundness.Shape.{SessionsShape, ViewsShape, QueueShape, Shape, WorldShape, epoch-shape, volume-expiry-shape, guard-shape, seen-shape, session-expiry-shape, unreachable-shape, offer-shape, value-shape, version-shape, object-expiry-shape, write-shape, lease-shape, waiting-shape, view-epoch-shape, view-expiry-shape, clock-shape, volumes-shape, sessions-shape, objects-shape, holders-shape, views-shape, queue-shape, pushed-shape, sent-shape, taken-shape, fresh-sessions, fresh-objects, fresh-holders}
+use Rattle.protocol.specs.Soundness.Shape.{SessionsShape, ViewsShape, QueueShape, Shape, WorldShape, epoch-shape, volume-expiry-shape, guard-shape, seen-shape, session-expiry-shape, unreachable-shape, offer-shape, notes-shape, batch-shape, value-shape, version-shape, object-expiry-shape, write-shape, lease-shape, waiting-shape, view-epoch-shape, view-expiry-shape, clock-shape, volumes-shape, sessions-shape, objects-shape, holders-shape, views-shape, queue-shape, pushed-shape, sent-shape, taken-shape, fresh-sessions, fresh-objects, fresh-holders}
 
 -- ---- writes
 pub begun-shape : (s : Setup) (t : Tables) (o x : ℕ) → Shape t → Shape (begun s t o x)
@@ -53,7 +53,7 @@ written-shape s t o x h =
     queue-shape (notified-shape s (begun s t o x) o (b .queue)) b
 
 pub marked-shape : (x : Sessions) (d v : ℕ) → SessionsShape x → SessionsShape (marked x d v)
-marked-shape x d v h = unreachable-shape _ (simp length-set) h
+marked-shape x d v h = batch-shape _ (simp length-set) (notes-shape _ (simp length-set) (unreachable-shape _ (simp length-set) h))
 
 deserted-shape : (s : Setup) (t : Tables) (o : ℕ) → SessionsShape (t .sessions) → SessionsShape (deserted s t o)
 unfolding deserted
@@ -101,8 +101,9 @@ renewed-shape s t d o n e w h =
     let k = noted-shape t d n h in
     cond-keeps Shape (stale t d n) (λ _. h) (λ _.
     cond-keeps Shape (mustDrop t′ d v e) (λ _. sent-shape _ _ (offered-shape t′ d v n k)) (λ _.
+    cond-keeps Shape (hasNotes t′ d v) (λ _. k) (λ _.
     cond-keeps Shape (ltb (lowestWaited s t′ d v) (s .objects)) (λ _. sent-shape _ _ k) (λ _.
-    cond-keeps Shape (beingWritten t′ o) (λ _. k) (λ _. sent-shape _ _ (object-renewed-shape s _ d o (volume-renewed-shape s t′ d v k))))))
+    cond-keeps Shape (beingWritten t′ o) (λ _. k) (λ _. sent-shape _ _ (object-renewed-shape s _ d o (volume-renewed-shape s t′ d v k)))))))
 
 pub acked-shape : (t : Tables) (d o : ℕ) → Shape t → Shape (acked t d o)
 unfolding acked

@@ -10,17 +10,18 @@ use lib.Seq.{getD-set-other}
 use borrow.Author.Tests.{lt-ltb}
 use Rattle.laws.specs.Choice.{cond-keeps, same?, both-true}
 use Rattle.laws.specs.Loop.{fold-keeps, fold-keeps-in}
+use Rattle.laws.specs.Sets.{within-none}
 use Rattle.laws.specs.Each.{each-set, each-getD, each-store}
 use Rattle.protocol.specs.declared.setup.Setup.{Setup}
 use Rattle.protocol.specs.declared.tables.Sessions.{Sessions}
 use Rattle.protocol.specs.declared.tables.Tables.{Tables}
-use Rattle.protocol.specs.Setup.{volumeOf}
+use Rattle.protocol.specs.Setup.{volumeOf, objectsIn}
 use Rattle.protocol.specs.Ranges.{Ranges}
 use Rattle.protocol.specs.Tables.{byVolume, byObject, waitingAt, versionAt}
 use Rattle.protocol.specs.Writes.{Counted, Staged, latestEnd, opened, awaited, begun, invalidation, notify, notified, marked, markIfWaiting, deserted, posted, released, completed, completeIf, settled, written}
 use Rattle.protocol.specs.LatestEnd.{ends-by}
 use Rattle.protocol.specs.SoundLaws.{not-cleared}
-use Rattle.protocol.specs.Soundness.Bounds.{Timed, Started, Named, SessionsBounded, ObjectsBounded, QueueBounded, Bounded, unreachable-bounded, value-bounded, version-bounded, write-bounded, lease-bounded, waiting-bounded, sessions-bounded, objects-bounded, holders-bounded, queue-bounded, pushed-bounded}
+use Rattle.protocol.specs.Soundness.Bounds.{Timed, Started, Named, SessionsBounded, ObjectsBounded, QueueBounded, Bounded, unreachable-bounded, notes-bounded, batch-bounded, set-fits, value-bounded, version-bounded, write-bounded, lease-bounded, waiting-bounded, sessions-bounded, objects-bounded, holders-bounded, queue-bounded, pushed-bounded}
 
 module _ (s : Setup) where
   -- ---- a write accepted
@@ -64,13 +65,14 @@ module _ (s : Setup) where
       (λ k e. let p = not-cleared (t .objects .standing) o k e in rw (getD-set-other (t .objects .version) o k (versionAt t o + 1) 0 (p .0)) (h .standing k (p .1)))
       (value-bounded _ (write-bounded o false 0 0 (λ k e. h .standing k (not-cleared (t .objects .standing) o k e .1)) (omega arith) h))
 
-  pub marked-bounded : (x : Sessions) (d v : ℕ) → SessionsBounded x → SessionsBounded (marked x d v)
-  marked-bounded x d v h = unreachable-bounded _ h
+  pub marked-bounded : (x : Sessions) (d v : ℕ) → SessionsBounded s x → SessionsBounded s (marked x d v)
+  marked-bounded x d v h =
+      batch-bounded _ (notes-bounded _ (set-fits s (x .notes) (byVolume d v) 0 (h .notes) (λ k u p q. within-none (objectsIn s u))) (unreachable-bounded _ h))
 
-  deserted-bounded : (t : Tables) (o : ℕ) → SessionsBounded (t .sessions) → SessionsBounded (deserted s t o)
+  deserted-bounded : (t : Tables) (o : ℕ) → SessionsBounded s (t .sessions) → SessionsBounded s (deserted s t o)
   unfolding deserted
   deserted-bounded t o h =
-      fold-keeps SessionsBounded (markIfWaiting s t o) (λ x d k. cond-keeps SessionsBounded (waitingAt t d o) (λ e. marked-bounded x d (volumeOf s o) k) (λ e. k)) (t .sessions) 0 (s .clients) h
+      fold-keeps (SessionsBounded s) (markIfWaiting s t o) (λ x d k. cond-keeps (SessionsBounded s) (waitingAt t d o) (λ e. marked-bounded x d (volumeOf s o) k) (λ e. k)) (t .sessions) 0 (s .clients) h
 
   completed-bounded : (t : Tables) (o : ℕ) → Bounded s t → Bounded s (completed s t o)
   unfolding completed released
