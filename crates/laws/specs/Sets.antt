@@ -9,7 +9,7 @@ use lib.Dec.{eqb, ltb, lit<}
 use lib.Arith.{digits-div, digits-mod, lt-one}
 use lib.Pow.{pow-mono}
 use borrow.Author.Tests.{eq-eqb, ne-eqb, eqb-true, eqb-false, ltb-true, ltb-false}
-use Rattle.laws.specs.Choice.{cond-keeps, true-or-false, not-both, same?, and-yes, and-no}
+use Rattle.laws.specs.Choice.{cond-keeps, true-or-false, not-both, same?, and-true, and-yes, and-no}
 use Rattle.laws.specs.Loop.{allFrom, all-each, all-of}
 
 -- whether k is a member of m
@@ -24,12 +24,15 @@ setOf p (suc n) = setOf (λ k. p (suc k)) n * 2 + cond (p zero) 1 0
 
 -- ---- sets in a word of 32 bits
 
--- k added, k taken out
+-- k added, k taken out, the members of b taken out
 unfoldable pub added : ℕ → ℕ → ℕ
 added m k = setOf (λ j. bitAt m j || eqb j k) 32
 
 unfoldable pub removed : ℕ → ℕ → ℕ
 removed m k = setOf (λ j. bitAt m j && not (eqb j k)) 32
+
+unfoldable pub less : ℕ → ℕ → ℕ
+less a b = setOf (λ j. bitAt a j && not (bitAt b j)) 32
 
 -- whether each member of m passes p
 unfoldable pub allIn : (ℕ → Bool) → ℕ → Bool
@@ -105,10 +108,14 @@ set-is p (suc n) m h e =
 set-back : (m n : ℕ) → m < 2 ^ n → setOf (bitAt m) n ≡ m
 set-back m n h = sym (set-is (bitAt m) n m h (λ k i. refl))
 
--- a bit of what is left
+-- the bits of what is left
 pub bit-removed : (m k j : ℕ) → j < 32 → bitAt (removed m k) j ≡ bitAt m j && not (eqb j k)
 unfolding removed
 bit-removed m k j h = set-in _ 32 j h
+
+pub bit-less : (a b j : ℕ) → j < 32 → bitAt (less a b) j ≡ bitAt a j && not (bitAt b j)
+unfolding less
+bit-less a b j h = set-in _ 32 j h
 
 -- ---- each member passes
 
@@ -124,9 +131,12 @@ in-all p m f = all-of (λ k. not (bitAt m k) || p k) 32 (λ k h. pick k (f k h) 
     pick k g (inl e) = rw e (g e)
     pick k g (inr e) = rw e
 
--- the empty set is within every set
+-- the empty set is within every set, and a part of a set within what the set is in
 pub within-none : (b : ℕ) → within 0 b ≡ true
 within-none b = in-all (bitAt b) 0 (λ k h e. not-both e (bit-none k))
+
+pub within-less : (a b c : ℕ) → within a c ≡ true → within (less a b) c ≡ true
+within-less a b c w = in-all (bitAt c) (less a b) (λ k h e. all-in (bitAt c) a w k h (and-true _ _ (sym (bit-less a b k h) ∙ e) .0))
 
 -- ---- a set that is made member by member
 

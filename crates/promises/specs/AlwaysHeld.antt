@@ -10,7 +10,7 @@ use lib.Dec.{eqb}
 use borrow.Author.Tests.{eqb-true, eq-eqb, not-true}
 use Rattle.laws.specs.Choice.{cond-keeps, true-or-false, not-both, and-true}
 use Rattle.protocol.specs.declared.message.Kind.{Kind}
-use Rattle.protocol.specs.declared.message.Kind.the-variants.{Renew, Grant, Invalidate, Ack, Offer, Dropped}
+use Rattle.protocol.specs.declared.message.Kind.the-variants.{Renew, Grant, Invalidate, Ack, Offer, Dropped, Batch, Cleared}
 use Rattle.protocol.specs.declared.message.Payload.the-variants.{Same, Value}
 use Rattle.protocol.specs.declared.records.Copy.{Copy}
 use Rattle.protocol.specs.declared.setup.Setup.{Setup}
@@ -50,6 +50,8 @@ formerlyIgnored c (Invalidate o e ver) = false
 formerlyIgnored c (Ack o e ver) = false
 formerlyIgnored c (Offer v n e) = false
 formerlyIgnored c (Dropped v n e) = false
+formerlyIgnored c (Batch v n e m) = false
+formerlyIgnored c (Cleared v n e m) = false
 
 -- That test put back into today's step: such a message is removed, and nothing else. 01 asks for the standing number first; where it does not stand, nothing
 -- comes of the message either way.
@@ -87,6 +89,8 @@ module _ (s : Setup) (w : World) (inv : Inv s w) where
   nothing-received t d (Ack o e ver) z a = not-both a refl
   nothing-received t d (Offer v n e) z a = not-both a refl
   nothing-received t d (Dropped v n e) z a = not-both a refl
+  nothing-received t d (Batch v n e m) z a = not-both a refl
+  nothing-received t d (Cleared v n e m) z a = not-both a refl
 
   nothing-delivered : (x : Step) → accepts s w x ≡ true → isDeliver x ≡ true
       → formerlyIgnored (copyOf s w x) (messageAt (w .tables .queue) (x .place) .kind) ≡ true

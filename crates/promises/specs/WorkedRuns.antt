@@ -8,7 +8,7 @@ use Rattle.laws.specs.Loop.{foldFrom, anyFrom, allFrom, firstFrom, countFrom}
 use Rattle.laws.specs.Lists.{removeAt}
 use Rattle.laws.specs.Store.{storeEach}
 use Rattle.laws.specs.Greatest.{greatest}
-use Rattle.laws.specs.Sets.{bitAt, setOf, allIn}
+use Rattle.laws.specs.Sets.{bitAt, setOf, less, allIn}
 use Rattle.laws.specs.Sets as sets
 use Rattle.protocol.specs.declared.message.Message.{Message}
 use Rattle.protocol.specs.declared.message.Kind.the-variants.{Grant}
@@ -20,12 +20,12 @@ use Rattle.protocol.specs.Messages.{message, messageAt, pushed, removed}
 use Rattle.protocol.specs.Tables.{freshTables}
 use Rattle.protocol.specs.Leases.{serverAlive, clientAlive, clientClock, guardPassed, endOver}
 use Rattle.protocol.specs.Writes.{waits, latestEnd, opened, awaited, notified, waited, ready, due, deserted, posted, released, completed, settled, settling, written}
-use Rattle.protocol.specs.Server.{noted, offered, lowestWaited, volumeRenewed, objectRenewed, granted, mustDrop, renewedBy, renewed, ackTaken, acked, ackStaged, dropTaken, disowned, dropped, dropStaged, serverRestarted}
+use Rattle.protocol.specs.Server.{noted, offered, batched, lowestWaited, volumeRenewed, objectRenewed, granted, mustDrop, renewedBy, renewed, ackTaken, acked, ackStaged, dropTaken, disowned, dropped, dropStaged, clearTaken, notesDropped, notesCleared, serverRestarted}
 use Rattle.protocol.specs.Client.{showable, stands, forgotten, swept, sweptAll}
 use Rattle.protocol.specs.Sound.{queueSound, tablesSound, copiesSound, requestsSound, sound}
 use Rattle.protocol.specs.Answers.{answerNumber, answerValue}
 use Rattle.protocol.specs.Gate.{known, exists, timely, vacant, growable, refusalOfStep, refusal}
-use Rattle.protocol.specs.Decide.{grantReceived, invalidateReceived, offerReceived, received, readDecided, askDecided, deliverDecided, restartDecided, performed, decided}
+use Rattle.protocol.specs.Decide.{grantReceived, invalidateReceived, offerReceived, batchReceived, received, readDecided, askDecided, deliverDecided, restartDecided, performed, decided}
 use Rattle.protocol.specs.World.{World, freshWorld, target, decision, stepped, ran, answers}
 use Rattle.protocol.specs.Safety.View.{copyAt, requestAt}
 use Rattle.protocol.specs.Edges.{tiny, step, clock, write, lose}
@@ -86,7 +86,7 @@ answerValues =
 pub worked-through : (history tiny steps ≡ eventsTold)
     × (map answerNumber (answers tiny (freshWorld tiny) steps) ≡ answerNumbers)
     × (map answerValue (answers tiny (freshWorld tiny) steps) ≡ answerValues)
-unfolding eventsTold answerNumbers answerValues answers tiny step clock lose restart write steps told historyFrom events happening foldFrom anyFrom allFrom firstFrom removeAt storeEach greatest inRange objectsIn bitAt setOf sets.removed allIn pushed removed freshTables serverAlive clientAlive clientClock guardPassed endOver waits latestEnd opened awaited notified waited ready due deserted posted released completed settled settling written noted offered lowestWaited volumeRenewed objectRenewed granted mustDrop renewedBy renewed ackTaken acked ackStaged dropTaken disowned dropped dropStaged serverRestarted showable stands forgotten swept sweptAll queueSound tablesSound copiesSound requestsSound sound known exists timely vacant growable refusalOfStep refusal grantReceived invalidateReceived offerReceived received readDecided askDecided deliverDecided performed decided target decision stepped
+unfolding eventsTold answerNumbers answerValues answers tiny step clock lose restart write steps told historyFrom events happening foldFrom anyFrom allFrom firstFrom removeAt storeEach greatest inRange objectsIn bitAt setOf sets.removed less allIn pushed removed freshTables serverAlive clientAlive clientClock guardPassed endOver waits latestEnd opened awaited notified waited ready due deserted posted released completed settled settling written noted offered batched lowestWaited volumeRenewed objectRenewed granted mustDrop renewedBy renewed ackTaken acked ackStaged dropTaken disowned dropped dropStaged clearTaken notesDropped notesCleared serverRestarted showable stands forgotten swept sweptAll queueSound tablesSound copiesSound requestsSound sound known exists timely vacant growable refusalOfStep refusal grantReceived invalidateReceived offerReceived batchReceived received readDecided askDecided deliverDecided performed decided target decision stepped
 worked-through = (refl, refl, refl)
 
 -- accepted = completed + cut off + open
@@ -117,7 +117,7 @@ writeUnheard = write 7 ∷ lose 0 ∷ clock 12 ∷ clock 13 ∷ []
 pub never-held : (history twoClients (takenApart ++ writeUnheard) ≡ clockStep 13 ∷ completion 0 ∷ clockStep 12 ∷ acceptance 0 7 12 ∷ clockStep 9 ∷ [])
     × (latestEnd twoClients (ran twoClients (freshWorld twoClients) takenApart .tables) 0 ≡ 12)
     × (formerEnd twoClients (ran twoClients (freshWorld twoClients) takenApart .tables) 0 ≡ 19)
-unfolding twoClients takenApart writeUnheard formerEnd ran step clock lose write told historyFrom events happening foldFrom anyFrom allFrom firstFrom removeAt storeEach greatest inRange objectsIn bitAt setOf sets.removed allIn pushed removed freshTables serverAlive clientAlive clientClock guardPassed endOver waits latestEnd opened awaited notified waited ready due deserted posted released completed settled settling written noted offered lowestWaited volumeRenewed objectRenewed granted mustDrop renewedBy renewed ackTaken acked ackStaged dropTaken disowned dropped dropStaged serverRestarted showable stands forgotten swept sweptAll queueSound tablesSound copiesSound requestsSound sound known exists timely vacant growable refusalOfStep refusal grantReceived invalidateReceived offerReceived received readDecided askDecided deliverDecided performed decided target decision stepped
+unfolding twoClients takenApart writeUnheard formerEnd ran step clock lose write told historyFrom events happening foldFrom anyFrom allFrom firstFrom removeAt storeEach greatest inRange objectsIn bitAt setOf sets.removed less allIn pushed removed freshTables serverAlive clientAlive clientClock guardPassed endOver waits latestEnd opened awaited notified waited ready due deserted posted released completed settled settling written noted offered batched lowestWaited volumeRenewed objectRenewed granted mustDrop renewedBy renewed ackTaken acked ackStaged dropTaken disowned dropped dropStaged clearTaken notesDropped notesCleared serverRestarted showable stands forgotten swept sweptAll queueSound tablesSound copiesSound requestsSound sound known exists timely vacant growable refusalOfStep refusal grantReceived invalidateReceived offerReceived batchReceived received readDecided askDecided deliverDecided performed decided target decision stepped
 never-held = (refl, refl, refl)
 
 -- ---- 02, A4: "a matching GRANT without a value"
@@ -133,5 +133,5 @@ met w = (w .tables .queue .len, messageAt (w .tables .queue) 0, copyAt tiny (w .
 -- the GRANT meets the version that it names; once the client has restarted, its number stands no more and no copy is there
 pub asked-again : (met (ran tiny (freshWorld tiny) askedAgain) ≡ (1, message 0 (Grant 0 3 10 1 1 100 Same), 1, true))
     × (met (ran tiny (freshWorld tiny) (askedAgain ++ (step 9 0 0 0 ∷ []))) ≡ (1, message 0 (Grant 0 3 10 1 1 100 Same), 0, false))
-unfolding askedAgain tiny ran step foldFrom allFrom firstFrom removeAt storeEach inRange objectsIn bitAt setOf sets.removed allIn pushed removed freshTables ready settled noted offered lowestWaited volumeRenewed objectRenewed granted mustDrop renewedBy renewed dropTaken disowned dropped dropStaged stands swept sweptAll queueSound tablesSound copiesSound requestsSound sound known exists timely vacant growable refusalOfStep refusal grantReceived offerReceived received askDecided deliverDecided restartDecided performed decided target decision stepped
+unfolding askedAgain tiny ran step foldFrom allFrom firstFrom removeAt storeEach inRange objectsIn bitAt setOf sets.removed less allIn pushed removed freshTables ready settled noted offered batched lowestWaited volumeRenewed objectRenewed granted mustDrop renewedBy renewed dropTaken disowned dropped dropStaged stands swept sweptAll queueSound tablesSound copiesSound requestsSound sound known exists timely vacant growable refusalOfStep refusal grantReceived offerReceived received askDecided deliverDecided restartDecided performed decided target decision stepped
 asked-again = (refl, refl)

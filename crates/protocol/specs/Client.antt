@@ -7,6 +7,7 @@ use mathlib.Core.List.{List}
 use lib.Dec.{eqb}
 use lib.ListN.{getD, set}
 use Rattle.laws.specs.Loop.{foldFrom}
+use Rattle.laws.specs.Sets.{bitAt}
 use Rattle.laws.specs.Store.{storeEach, always}
 use Rattle.protocol.specs.declared.message.Message.{Message}
 use Rattle.protocol.specs.declared.message.Payload.{Payload}
@@ -19,7 +20,7 @@ use Rattle.protocol.specs.declared.step.Change.{Change}
 use Rattle.protocol.specs.declared.step.CopyChange.{CopyChange}
 use Rattle.protocol.specs.declared.step.CopyChange.the-variants as copy
 use Rattle.protocol.specs.declared.step.Sweep.{Sweep}
-use Rattle.protocol.specs.declared.step.Sweep.the-variants.{Keep, Expire, Erase}
+use Rattle.protocol.specs.declared.step.Sweep.the-variants.{Keep, Expire, Forget, Erase}
 use Rattle.protocol.specs.declared.step.Turn.{Turn}
 use Rattle.protocol.specs.declared.step.Turn.the-variants as request
 use Rattle.protocol.specs.declared.tables.Views.{Views}
@@ -96,16 +97,19 @@ asksFor r o = r .standing && eqb (r .object) o
 unfoldable pub forgotten : Request → ℕ → Turn
 forgotten r o = cond (asksFor r o) request.End request.Keep
 
--- ---- OFFER, and Step 9: what becomes of each copy of the client, for object o. An OFFER leaves versions and values: "all its object expiries to 0"
+-- ---- OFFER, BATCH, and Step 9: what becomes of each copy of the client, for object o. An OFFER leaves versions and values: "all its object expiries to 0".
+-- 02, A6, a BATCH of the set m: "erases those copies"
 unfoldable pub swept : Setup → Sweep → Copy → ℕ → Copy
 swept s Keep c o = c
 swept s (Expire v) c o = cond (eqb (volumeOf s o) v) (record { version = c .version; value = c .value; expiry = 0 }) c
+swept s (Forget m) c o = cond (bitAt m o) noCopy c
 swept s Erase c o = noCopy
 
 -- how many copies a sweep goes over
 abbrev pub sweeps : Sweep → ℕ → ℕ
 sweeps Keep n = 0
 sweeps (Expire v) n = n
+sweeps (Forget m) n = n
 sweeps Erase n = n
 
 -- one turn, at place k of a list in which the client's copies begin at `first`

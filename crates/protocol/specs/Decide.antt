@@ -1,13 +1,14 @@
 -- 01, "Steps" and "Messages received": one step decided, on the tables, the one copy and the one request that it can touch.
--- Letters: s setup, t tables, c the copy, r the request, d client, o object, v volume, i a place in the message list, m a message, n its number, e epoch, w
--- version, x and y a GRANT's volume and object expiry, p its payload; g a change or what is received, a an answer, k a refusal; of a step, x is the step.
+-- Letters: s setup, t tables, c the copy, r the request, d client, o object, v volume, i a place in the message list, m a message or a set, n the number, e
+-- epoch, w version, x and y a GRANT's volume and object expiry, p its payload; g a change or what is received, a an answer, k a refusal; of a step, x is
+-- the step.
 use Prim.Native.Nat.{ℕ}
 use mathlib.Core.Bool.{Bool, cond}
 use lib.Dec.{eqb}
 use Rattle.protocol.specs.declared.message.Message.{Message}
 use Rattle.protocol.specs.declared.message.Payload.{Payload}
 use Rattle.protocol.specs.declared.message.Kind.{Kind}
-use Rattle.protocol.specs.declared.message.Kind.the-variants.{Renew, Grant, Invalidate, Ack, Offer, Dropped}
+use Rattle.protocol.specs.declared.message.Kind.the-variants.{Renew, Grant, Invalidate, Ack, Offer, Dropped, Batch, Cleared}
 use Rattle.protocol.specs.declared.records.Copy.{Copy}
 use Rattle.protocol.specs.declared.records.Request.{Request}
 use Rattle.protocol.specs.declared.setup.Setup.{Setup}
@@ -24,7 +25,7 @@ use Rattle.protocol.specs.Setup.{volumeOf}
 use Rattle.protocol.specs.Messages.{message, messageAt, removed, doubled}
 use Rattle.protocol.specs.Tables.{withViews, withQueue}
 use Rattle.protocol.specs.Writes.{Counted, settled, writeStaged, clockStaged}
-use Rattle.protocol.specs.Server.{sent, renewed, ackStaged, dropStaged, serverRestarted}
+use Rattle.protocol.specs.Server.{sent, renewed, ackStaged, dropStaged, notesCleared, serverRestarted}
 use Rattle.protocol.specs.Client.{showable, renewal, stands, viewed, grantStored, forgotten, clientRestarted}
 use Rattle.protocol.specs.Answers.{completedAnswer}
 use Rattle.protocol.specs.Gate.{isClock, isRead, isAsk, isWrite, isDeliver, isLose, isDouble, isRestartServer, refusal}
@@ -65,6 +66,13 @@ offerReceived t r d v n e =
     (byClient (record { copy = copy.Keep; request = request.End; sweep = sweep.Expire v }) (sent (withViews t (viewed (t .views) d v e 0)) (message d (Dropped v n e))))
     (byClient kept t)
 
+-- 02, A6, BATCH: "With that number standing the dash erases those copies, ends the request and sends CLEARED (kind 8) with number, epoch and set"
+unfoldable pub batchReceived : Tables → Request → ℕ → ℕ → ℕ → ℕ → ℕ → Received
+batchReceived t r d v n e m =
+    cond (stands r n)
+    (byClient (record { copy = copy.Keep; request = request.End; sweep = sweep.Forget m }) (sent t (message d (Cleared v n e m))))
+    (byClient kept t)
+
 unfoldable pub received : Setup → Tables → Copy → Request → ℕ → Kind → Received
 received s t c r d (Renew o n e w) = byServer (uncounted (renewed s t d o n e w))
 received s t c r d (Grant o n x e w y p) = grantReceived s t c r d o n x e w y p
@@ -72,6 +80,8 @@ received s t c r d (Invalidate o e w) = invalidateReceived t r d o e w
 received s t c r d (Ack o e w) = byServer (settled s (ackStaged s t d o e w))
 received s t c r d (Offer v n e) = offerReceived t r d v n e
 received s t c r d (Dropped v n e) = byServer (settled s (dropStaged s t d v n e))
+received s t c r d (Batch v n e m) = batchReceived t r d v n e m
+received s t c r d (Cleared v n e m) = byServer (uncounted (notesCleared s t d v n e m))
 
 -- ---- the nine steps
 

@@ -9,7 +9,7 @@ use lib.ListN.{getD}
 use Rattle.laws.specs.Loop.{countFrom}
 use Rattle.laws.specs.Updated.{updated}
 use Rattle.protocol.specs.declared.message.Kind.{Kind}
-use Rattle.protocol.specs.declared.message.Kind.the-variants.{Renew, Grant, Invalidate, Ack, Offer, Dropped}
+use Rattle.protocol.specs.declared.message.Kind.the-variants.{Renew, Grant, Invalidate, Ack, Offer, Dropped, Batch, Cleared}
 use Rattle.protocol.specs.declared.records.Copy.{Copy}
 use Rattle.protocol.specs.declared.setup.Setup.{Setup}
 use Rattle.protocol.specs.declared.step.Step.{Step}
@@ -48,6 +48,8 @@ receiptStaged s t d (Invalidate _ _ _) = unstaged t
 receiptStaged s t d (Ack o epoch version) = ackStaged s t d o epoch version
 receiptStaged s t d (Offer _ _ _) = unstaged t
 receiptStaged s t d (Dropped volume number epoch) = dropStaged s t d volume number epoch
+receiptStaged s t d (Batch _ _ _ _) = unstaged t
+receiptStaged s t d (Cleared _ _ _ _) = unstaged t
 
 abbrev pub deliveryStaged : Setup → Tables → ℕ → Staged
 deliveryStaged s t i = receiptStaged s (taken t i) (messageAt (t .queue) i .client) (messageAt (t .queue) i .kind)

@@ -8,7 +8,7 @@ use Rattle.laws.specs.Lists.{removeAt}
 use Rattle.protocol.specs.declared.message.Queue.{Queue}
 use Rattle.protocol.specs.declared.message.Message.{Message}
 use Rattle.protocol.specs.declared.message.Kind.{Kind}
-use Rattle.protocol.specs.declared.message.Kind.the-variants.{Renew, Grant, Invalidate, Ack, Offer, Dropped}
+use Rattle.protocol.specs.declared.message.Kind.the-variants.{Renew, Grant, Invalidate, Ack, Offer, Dropped, Batch, Cleared}
 
 -- what an unused place of the list holds in a run from fresh tables
 abbrev pub blank : Message
@@ -40,7 +40,7 @@ removed q i = record { items = removeAt (q .items) i ++ (blank ∷ []); len = q 
 abbrev pub doubled : Queue → ℕ → Queue
 doubled q i = pushed q (messageAt q i)
 
--- the object that a message is about; an OFFER and a DROPPED are about a volume, and 0 stands for its place
+-- the object that a message is about; an OFFER, a DROPPED, a BATCH and a CLEARED are about a volume, and 0 stands for its place
 abbrev pub objectOf : Kind → ℕ
 objectOf (Renew o n e w) = o
 objectOf (Grant o n x e w y p) = o
@@ -48,6 +48,8 @@ objectOf (Invalidate o e w) = o
 objectOf (Ack o e w) = o
 objectOf (Offer v n e) = 0
 objectOf (Dropped v n e) = 0
+objectOf (Batch v n e m) = 0
+objectOf (Cleared v n e m) = 0
 
 abbrev pub emptyQueue : Queue
 emptyQueue = record { items = replicate 64 blank; len = 0 }

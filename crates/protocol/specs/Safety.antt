@@ -19,12 +19,15 @@ pub mod Granting
 pub mod Offering
 pub mod ClientRestart
 pub mod Asking
+pub mod Erasing
 pub mod Invalidating
+pub mod Batching
 pub mod Noting
 pub mod Leasing
 pub mod Renewing
 pub mod Acknowledging
 pub mod Dropping
+pub mod Clearing
 pub mod ServerRestart
 pub mod Delivering
 pub mod InvariantKept

@@ -1,15 +1,15 @@
 -- 01, "Messages received" by the server, and its restart.
--- Letters: s setup, t tables, d client, o object, v volume; of a message m, n number, e epoch, w version.
+-- Letters: s setup, t tables, d client, o object, v volume; of a message m, n number, e epoch, w version; m is a set too.
 use Prim.Native.Nat.{ℕ, _+_}
 use mathlib.Core.Bool.{Bool, false, cond, not, _&&_, _||_}
 use lib.Dec.{ltb, leb, eqb}
 use Rattle.laws.specs.Loop.{firstFrom}
-use Rattle.laws.specs.Sets.{removed}
+use Rattle.laws.specs.Sets.{bitAt, less, removed}
 use Rattle.laws.specs.Store.{storeEach, always}
 use Rattle.protocol.specs.declared.message.Message.{Message}
 use Rattle.protocol.specs.declared.message.Payload.{Payload}
 use Rattle.protocol.specs.declared.message.Payload.the-variants.{Same, Value}
-use Rattle.protocol.specs.declared.message.Kind.the-variants.{Grant, Offer}
+use Rattle.protocol.specs.declared.message.Kind.the-variants.{Grant, Offer, Batch}
 use Rattle.protocol.specs.declared.setup.Setup.{Setup}
 use Rattle.protocol.specs.declared.tables.Volumes.{Volumes}
 use Rattle.protocol.specs.declared.tables.Objects.{Objects}
@@ -17,8 +17,8 @@ use Rattle.protocol.specs.declared.tables.Holders.{Holders}
 use Rattle.protocol.specs.declared.tables.Tables.{Tables}
 use Rattle.protocol.specs.Setup.{volumeOf}
 use Rattle.protocol.specs.Messages.{message, pushed}
-use Rattle.protocol.specs.Tables.{byObject, epochAt, seenAt, unreachableAt, offerAt, notesAt, valueAt, versionAt, standingAt, awaitedAt, waitingAt, withVolumes, withSessions, withObjects, withHolders, withQueue, freshSessions, freshObjects, freshHolders}
-use Rattle.protocol.specs.Updates.{withEpoch, withGuard, setVolumeExpiry, setSeen, setSessionExpiry, setUnreachable, setOffer, withValue, withVersion, setObjectExpiry, withLease, withWaiting, setLease, setWaiting}
+use Rattle.protocol.specs.Tables.{byObject, epochAt, seenAt, unreachableAt, offerAt, notesAt, batchAt, valueAt, versionAt, standingAt, awaitedAt, waitingAt, withVolumes, withSessions, withObjects, withHolders, withQueue, freshSessions, freshObjects, freshHolders}
+use Rattle.protocol.specs.Updates.{withEpoch, withGuard, setVolumeExpiry, setSeen, setSessionExpiry, setUnreachable, setOffer, setNotes, setBatch, withValue, withVersion, setObjectExpiry, withLease, withWaiting, setLease, setWaiting}
 use Rattle.protocol.specs.Writes.{Staged, unstaged, invalidation, ready, marked}
 
 -- one message sent
@@ -38,6 +38,18 @@ offered t d v n = withSessions t (setOffer (marked (t .sessions) d v) d v n)
 -- ".. send OFFER"
 abbrev pub offering : Tables → ℕ → ℕ → ℕ → Message
 offering t d v n = message d (Offer v n (epochAt t v))
+
+-- 02, A6: "No volume lease is given while notes remain."
+abbrev pub hasNotes : Tables → ℕ → ℕ → Bool
+hasNotes t d v = not (eqb (notesAt t d v) 0)
+
+-- the batch last sent is the RENEW's
+unfoldable pub batched : Tables → ℕ → ℕ → ℕ → Tables
+batched t d v n = withSessions t (setBatch (t .sessions) d v n)
+
+-- "answered by BATCH (kind 7) with number, epoch and the noted set"
+abbrev pub batching : Tables → ℕ → ℕ → ℕ → Message
+batching t d v n = message d (Batch v n (epochAt t v) (notesAt t d v))
 
 -- "Dash waited for in this volume": whether o is of volume v, and its standing write waits for d
 abbrev pub waitedIn : Setup → Tables → ℕ → ℕ → ℕ → Bool
@@ -76,19 +88,15 @@ granted s t d o n w = sent (objectRenewed s (volumeRenewed s t d (volumeOf s o))
 unfoldable pub mustDrop : Tables → ℕ → ℕ → ℕ → Bool
 mustDrop t d v e = not (eqb e (epochAt t v)) || unreachableAt t d v
 
--- 02, A6: "No volume lease is given while notes remain."
-abbrev pub hasNotes : Tables → ℕ → ℕ → Bool
-hasNotes t d v = not (eqb (notesAt t d v) 0)
-
 -- "This object has a standing write"
 abbrev pub beingWritten : Tables → ℕ → Bool
 beingWritten t o = standingAt t o
 
--- "take the first rule that fits"
+-- "take the first rule that fits". 02, A6: "Its RENEW there, after the epoch rule, is answered by BATCH"
 unfoldable pub renewedBy : Setup → Tables → ℕ → ℕ → ℕ → ℕ → ℕ → Tables
 renewedBy s t d o n e w =
     cond (mustDrop t d (volumeOf s o) e) (sent (offered t d (volumeOf s o) n) (offering t d (volumeOf s o) n))
-    (cond (hasNotes t d (volumeOf s o)) t
+    (cond (hasNotes t d (volumeOf s o)) (sent (batched t d (volumeOf s o) n) (batching t d (volumeOf s o) n))
     (cond (ltb (lowestWaited s t d (volumeOf s o)) (s .objects)) (sent t (invalidation s t (lowestWaited s t d (volumeOf s o)) d))
     (cond (beingWritten t o) t (granted s t d o n w))))
 
@@ -142,6 +150,21 @@ readyIn s v t o = ofVolume s v o && ready s t o
 unfoldable pub dropStaged : Setup → Tables → ℕ → ℕ → ℕ → ℕ → Staged
 dropStaged s t d v n e =
     cond (dropTaken t d v n e) (record { tables = dropped s t d v; test = readyIn s v; from = 0; many = s .objects }) (unstaged t)
+
+-- ---- 02, A6, CLEARED (volume v, number n, epoch e, set m) of client d
+
+-- "only if number and epoch match the batch last sent"; 0 is none
+unfoldable pub clearTaken : Tables → ℕ → ℕ → ℕ → ℕ → Bool
+clearTaken t d v n e = eqb e (epochAt t v) && (not (eqb n 0) && eqb n (batchAt t d v))
+
+-- "drops the notes and leases of the set in CLEARED", and "an accepted CLEARED ends" the batch; it completes nothing
+unfoldable pub notesDropped : Setup → Tables → ℕ → ℕ → ℕ → Tables
+notesDropped s t d v m =
+    withHolders (withSessions t (setBatch (setNotes (t .sessions) d v (less (notesAt t d v) m)) d v 0))
+    (withLease (t .holders) (storeEach (bitAt m) (byObject d) (λ (o : ℕ). 0) (t .holders .lease) (s .objects)))
+
+unfoldable pub notesCleared : Setup → Tables → ℕ → ℕ → ℕ → ℕ → ℕ → Tables
+notesCleared s t d v n e m = cond (clearTaken t d v n e) (notesDropped s t d v m) t
 
 -- ---- Step 8: "values, versions, VE remain; every epoch grows by 1; guard becomes VE; its other fields become fresh. Messages remain."
 

@@ -10,7 +10,7 @@ use Rattle.laws.specs.Sets.{within}
 use Rattle.protocol.specs.declared.message.Message.{Message}
 use Rattle.protocol.specs.declared.message.Queue.{Queue}
 use Rattle.protocol.specs.declared.message.Kind.{Kind}
-use Rattle.protocol.specs.declared.message.Kind.the-variants.{Renew, Grant, Invalidate, Ack, Offer, Dropped}
+use Rattle.protocol.specs.declared.message.Kind.the-variants.{Renew, Grant, Invalidate, Ack, Offer, Dropped, Batch, Cleared}
 use Rattle.protocol.specs.declared.records.Copy.{Copy}
 use Rattle.protocol.specs.declared.records.Request.{Request}
 use Rattle.protocol.specs.declared.setup.Setup.{Setup}
@@ -57,7 +57,7 @@ holderSound t d o = timeFits (leaseAt t d o)
 abbrev pub holdersSound : Setup → Tables → ℕ → Bool
 holdersSound s t d = allFrom (holderSound t d) 0 (s .objects)
 
--- "named items existing", and "expiries (in messages too)"
+-- "named items existing", and "expiries (in messages too)"; 02, A6: a set's bits "in messages too"
 abbrev pub kindSound : Setup → Kind → Bool
 kindSound s (Renew o n e w) = ltb o (s .objects)
 kindSound s (Grant o n x e w y p) = ltb o (s .objects) && timeFits x && timeFits y
@@ -65,6 +65,8 @@ kindSound s (Invalidate o e w) = ltb o (s .objects)
 kindSound s (Ack o e w) = ltb o (s .objects)
 kindSound s (Offer v n e) = ltb v (s .volumes)
 kindSound s (Dropped v n e) = ltb v (s .volumes)
+kindSound s (Batch v n e m) = ltb v (s .volumes) && setSound s v m
+kindSound s (Cleared v n e m) = ltb v (s .volumes) && setSound s v m
 
 abbrev pub messageSound : Setup → Message → Bool
 messageSound s m = ltb (m .client) (s .clients) && kindSound s (m .kind)

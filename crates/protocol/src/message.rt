@@ -4,7 +4,7 @@ pub enum Payload {
     Value(u64),
 }
 
-// The six kinds, in the order of their numbers in a frame, each with its own fields (01, "Frame, run file and listing").
+// The eight kinds, in the order of their numbers in a frame, each with its own fields (01, "Frame, run file and listing").
 pub enum Kind {
     Renew {
         object: u8,
@@ -40,6 +40,19 @@ pub enum Kind {
         volume: u8,
         number: u32,
         epoch: u32,
+    },
+    // the noted objects of the volume, bit k of `set` for object k (02, A6)
+    Batch {
+        volume: u8,
+        number: u32,
+        epoch: u32,
+        set: u32,
+    },
+    Cleared {
+        volume: u8,
+        number: u32,
+        epoch: u32,
+        set: u32,
     },
 }
 

@@ -40,10 +40,12 @@ pub enum CopyChange {
     Erase,
 }
 
-// What becomes of all copies of one client: nothing, the expiries of one volume's objects become 0 (an OFFER was taken), or all are erased (a restart).
+// What becomes of all copies of one client: nothing, the expiries of one volume's objects become 0 (an OFFER was taken), those of a set are erased, bit k
+// for object k (a BATCH was taken), or all are erased (a restart).
 pub enum Sweep {
     Keep,
     Expire(u8),
+    Forget(u32),
     Erase,
 }
 

@@ -32,7 +32,7 @@ use Rattle.protocol.specs.Safety.Tools.{granted-alive}
 use Rattle.protocol.specs.Safety.Sweeping.{swept-keep}
 use Rattle.promises.specs.UntilShown.Policy.{NoneStands, connected}
 use Rattle.promises.specs.UntilShown.Steps.{asking, delivering}
-use Rattle.promises.specs.UntilShown.Phases.{only-sent, none-left, only-answer, standing, Idle, Asked, Offered, Dropping, Cleared, Granted, Showing}
+use Rattle.promises.specs.UntilShown.Phases.{only-sent, none-left, only-answer, standing, Idle, Asked, Offered, Dropping, Reconnected, Granted, Showing}
 
 -- ---- laws of the rules
 
@@ -194,7 +194,7 @@ module _ (s : Setup) (range : Ranges s) (w : World) (k : SoundWorld s w) (d o : 
     dropped-leaves a =
         rw (answers-offer a, none-completes s (dropped s (taken (w .tables) 0) d v) o (a .vacant), set-getD (w .copies), set-getD (w .requests), swept-keep s)
 
-    pub clears : Dropping s w d o n → Cleared s (delivering s w d (Dropped v n (epochAt (w .tables) v))) d o n
+    pub clears : Dropping s w d o n → Reconnected s (delivering s w d (Dropped v n (epochAt (w .tables) v))) d o n
     unfolding dropped
     clears a =
         rw (dropped-leaves a)

@@ -87,7 +87,7 @@ pub record Dropping (s : Setup) (w : World) (d o n : ℕ) : Type 0 where
   pub next : requestAt (w .requests) d .next ≡ n + 1
 
 -- the server has cleared the client: it may ask again, and is connected
-pub record Cleared (s : Setup) (w : World) (d o n : ℕ) : Type 0 where
+pub record Reconnected (s : Setup) (w : World) (d o n : ℕ) : Type 0 where
   pub idle : Idle s w d o true
   pub next : requestAt (w .requests) d .next ≡ n + 1
 

@@ -8,7 +8,7 @@ use lib.Dec.{eqb}
 use lib.ListN.{length}
 use Rattle.laws.specs.Lists.{All}
 use Rattle.protocol.specs.declared.message.Kind.{Kind}
-use Rattle.protocol.specs.declared.message.Kind.the-variants.{Renew, Grant, Invalidate, Ack, Offer, Dropped}
+use Rattle.protocol.specs.declared.message.Kind.the-variants.{Renew, Grant, Invalidate, Ack, Offer, Dropped, Batch, Cleared}
 use Rattle.protocol.specs.declared.setup.Setup.{Setup}
 use Rattle.protocol.specs.declared.step.Answer.{Answer}
 use Rattle.protocol.specs.declared.step.Answer.the-variants.{Shown}
@@ -41,6 +41,8 @@ isDropped (Invalidate o e ver) = false
 isDropped (Ack o e ver) = false
 isDropped (Offer v n e) = false
 isDropped (Dropped v n e) = true
+isDropped (Batch v n e m) = false
+isDropped (Cleared v n e m) = false
 
 -- "let the dash ask and everything be delivered at place 0, asking once more after a DROPPED": the steps that it takes, n at the most. `due` says that the
 -- client asks now: at first, and where a DROPPED was delivered just before. It ends where no ask is due and the message list is empty. There is "no other

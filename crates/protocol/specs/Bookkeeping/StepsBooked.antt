@@ -11,7 +11,7 @@ use lib.Dec.{ltb, eqb·suc-zero}
 use borrow.Author.Tests.{ltb-true}
 use Rattle.laws.specs.Choice.{cond-keeps, and-true, not-both}
 use Rattle.protocol.specs.declared.message.Kind.{Kind}
-use Rattle.protocol.specs.declared.message.Kind.the-variants.{Renew, Grant, Invalidate, Ack, Offer, Dropped}
+use Rattle.protocol.specs.declared.message.Kind.the-variants.{Renew, Grant, Invalidate, Ack, Offer, Dropped, Batch, Cleared}
 use Rattle.protocol.specs.declared.message.Message.{Message}
 use Rattle.protocol.specs.declared.message.Payload.{Payload}
 use Rattle.protocol.specs.declared.records.Copy.{Copy}
@@ -25,12 +25,12 @@ use Rattle.protocol.specs.Setup.{volumeOf}
 use Rattle.protocol.specs.Messages.{messageAt}
 use Rattle.protocol.specs.Tables.{standingAt}
 use Rattle.protocol.specs.Writes.{unstaged, latestEnd, begun, ready, settled, settling, written, writeStaged, clockStaged}
-use Rattle.protocol.specs.Server.{noted, offered, volumeRenewed, objectRenewed, granted, lowestWaited, mustDrop, hasNotes, renewedBy, renewed, ackTaken, acked, ackStaged, dropTaken, dropped, ofVolume, dropStaged, serverRestarted, stale, beingWritten}
+use Rattle.protocol.specs.Server.{noted, offered, volumeRenewed, objectRenewed, granted, lowestWaited, mustDrop, hasNotes, batched, renewedBy, renewed, ackTaken, acked, ackStaged, dropTaken, dropped, ofVolume, dropStaged, clearTaken, notesDropped, notesCleared, serverRestarted, stale, beingWritten}
 use Rattle.protocol.specs.Client.{showable, stands}
 use Rattle.protocol.specs.Sound.{kindSound}
 use Rattle.protocol.specs.SoundLaws.{named}
 use Rattle.protocol.specs.Answers.{reported, completedAnswer}
-use Rattle.protocol.specs.Decide.{Received, uncounted, kept, answered, counting, received, grantReceived, invalidateReceived, offerReceived, taken, performed, readDecided, askDecided, deliverDecided, restartDecided}
+use Rattle.protocol.specs.Decide.{Received, uncounted, kept, answered, counting, received, grantReceived, invalidateReceived, offerReceived, batchReceived, taken, performed, readDecided, askDecided, deliverDecided, restartDecided}
 use Rattle.protocol.specs.Ledger.{Event, acceptance, serverRestart, settlingOf, completions, receiptStaged, deliveryStaged, readEvents, clockEvents, writeEvents, happening, Ledger, book, bookAll}
 use Rattle.protocol.specs.Soundness.StepCases.{Accepted, by-kind, object-exists, place-exists, queue-fits, none-stands, clock-performed, read-performed, ask-performed, write-performed, deliver-performed, lose-performed, double-performed, server-performed, client-performed}
 use Rattle.protocol.specs.Soundness.Shape.{Shape, clock-shape, taken-shape}
@@ -65,7 +65,7 @@ pub objects-same : (t u : Tables) → u .objects ≡ t .objects → SameWrites t
 objects-same t u e = record { value = rw e; standing = rw e; pending = rw e; end = rw e }
 
 renewed-same : (s : Setup) (t : Tables) (d o n e w : ℕ) → SameWrites t (renewed s t d o n e w)
-unfolding renewed renewedBy granted noted offered volumeRenewed objectRenewed
+unfolding renewed renewedBy granted noted offered batched volumeRenewed objectRenewed
 renewed-same s t d o n e w =
     let v = volumeOf s o in
     let u = noted t d n in
@@ -113,6 +113,10 @@ drop-on s t d v n e k =
     })
     (λ _. unstaged-on s t k)
 
+cleared-same : (s : Setup) (t : Tables) (d v n e m : ℕ) → SameWrites t (notesCleared s t d v n e m)
+unfolding notesCleared notesDropped
+cleared-same s t d v n e m = cond-keeps (SameWrites t) (clearTaken t d v n e) (λ _. objects-same t _ refl) (λ _. objects-same t _ refl)
+
 -- ---- a message received
 uncounted-settles : (s : Setup) (t u : Tables) (l : Ledger) → SameWrites t u → Booked s t l → Settlement s l 0 (uncounted u) []
 unfolding bookAll OpenEach
@@ -135,6 +139,12 @@ module _ (s : Setup) (rs : Ranges s) (t : Tables) (k : Shape t) (c : Copy) (r : 
       cond-keeps (λ (g : Received). Settlement s l 0 (g .counted) []) (stands r n)
       (λ _. uncounted-settles s t _ l (objects-same t _ refl) h) (λ _. uncounted-settles s t _ l (objects-same t _ refl) h)
 
+  batch-settles : (v n e m : ℕ) → Settlement s l 0 (batchReceived t r d v n e m .counted) []
+  unfolding batchReceived
+  batch-settles v n e m =
+      cond-keeps (λ (g : Received). Settlement s l 0 (g .counted) []) (stands r n)
+      (λ _. uncounted-settles s t _ l (objects-same t _ refl) h) (λ _. uncounted-settles s t _ l (objects-same t _ refl) h)
+
   received-settles : (q : Kind) → kindSound s q ≡ true → Settlement s l 0 (received s t c r d q .counted) (settlingOf s (receiptStaged s t d q))
   unfolding received settling
   received-settles (Renew o n e w) f = uncounted-settles s t _ l (renewed-same s t d o n e w) h
@@ -143,6 +153,8 @@ module _ (s : Setup) (rs : Ranges s) (t : Tables) (k : Shape t) (c : Copy) (r : 
   received-settles (Ack o e w) f = settle s rs t _ l (ack-on s t d o e w (ltb-true _ _ f) k) h
   received-settles (Offer v n e) f = offer-settles v n e
   received-settles (Dropped v n e) f = settle s rs t _ l (drop-on s t d v n e k) h
+  received-settles (Batch v n e m) f = batch-settles v n e m
+  received-settles (Cleared v n e m) f = uncounted-settles s t _ l (cleared-same s t d v n e m) h
 
 acceptance-completes : (s : Setup) (l : Ledger) (o y end : ℕ) → book s l (acceptance o y end) .completedCount ≡ l .completedCount
 unfolding book

@@ -13,7 +13,7 @@ use Rattle.laws.specs.Sets.{bitAt, removed}
 use Rattle.laws.specs.Store.{set-at}
 use Rattle.laws.specs.Updated.{updated-other}
 use Rattle.protocol.specs.declared.message.Kind.{Kind}
-use Rattle.protocol.specs.declared.message.Kind.the-variants.{Renew, Grant, Invalidate, Ack, Offer, Dropped}
+use Rattle.protocol.specs.declared.message.Kind.the-variants.{Renew, Grant, Invalidate, Ack, Offer, Dropped, Batch, Cleared}
 use Rattle.protocol.specs.declared.setup.Setup.{Setup}
 use Rattle.protocol.specs.declared.tables.Tables.{Tables}
 use Rattle.protocol.specs.Setup.{volumeOf}
@@ -68,7 +68,7 @@ module _ (s : Setup) (range : Ranges s) (w : World) (inv : Inv s w) (shape : Sha
   unfolding acked
   keeps k (Renew i n e ver) z hk c = c
   keeps k (Grant i n x e ver y p) z hk c =
-      grant-covered c (λ a. covered-by (c .covered a) (omega arith) (λ j h q b. b)
+      grant-covered c (λ a. covered-by (c .covered a) (omega arith) (λ j h b. b)
       (unowed k _ _ _ (λ q. updated-other (heldOf s (w .copies) k) i o ver (λ r. alone (Grant i n x e ver y p) (rw q at z) (sym r, rw q at a)) ∙ gone-at k q)))
   keeps k (Invalidate i e ver) z hk c = c
   keeps k (Ack i e ver) z hk c = c
@@ -79,6 +79,8 @@ module _ (s : Setup) (range : Ranges s) (w : World) (inv : Inv s w) (shape : Sha
     writes = λ a i h q b. ⊎-elim (λ r. let l = left-below 0 in rw (r .2) (omega arith)) (λ r. rw (r .1) (c .writes a i h q b)) (at-lease k i h);
     remains = λ a b. remains-by (c .remains a b) (unowed k _ _ _ (gone-at k));
   }
+  keeps k (Batch v n e m) z hk c = c
+  keeps k (Cleared v n e m) z hk c = c
 
   pub acked-keeps : Inv s (withTables w (acked (w .tables) d o))
   unfolding acked
@@ -102,7 +104,7 @@ module _ (s : Setup) (range : Ranges s) (w : World) (inv : Inv s w) (shape : Sha
       others = λ k i hk h a b. ⊎-elim (λ r. inl (rw (r .2) (zero-dead (w .tables .clock))))
           (λ r. ⊎-elim (λ q. absurd (r .0 (q .0) (q .1))) (λ q. rw (r .1) (inv .writes .others k i hk h a (sym (q .1) ∙ b))) (at-waiting k i hk)) (at-lease k i h);
     };
-    views = λ k v hk hv. covered-by (inv .views k v hk hv) (omega arith) (λ j h q b. b) (unowed k _ _ _ (gone-at k));
+    views = λ k v hk hv. covered-by (inv .views k v hk hv) (omega arith) (λ j h b. b) (unowed k _ _ _ (gone-at k));
     messages = each inv keeps;
     pairs = inv .pairs;
   }

@@ -10,7 +10,7 @@ use Rattle.laws.specs.Choice.{cond-keeps, same?, not-both, and-false, or-false}
 use Rattle.laws.specs.Loop.{fold-keeps-in}
 use Rattle.laws.specs.Sets.{setOf, set-in}
 use Rattle.protocol.specs.declared.message.Queue.{Queue}
-use Rattle.protocol.specs.declared.message.Kind.the-variants.{Renew, Grant, Invalidate, Ack, Offer, Dropped}
+use Rattle.protocol.specs.declared.message.Kind.the-variants.{Renew, Grant, Invalidate, Ack, Offer, Dropped, Batch, Cleared}
 use Rattle.protocol.specs.declared.setup.Setup.{Setup}
 use Rattle.protocol.specs.declared.tables.Tables.{Tables}
 use Rattle.protocol.specs.Setup.{volumeOf}
@@ -80,6 +80,8 @@ module _ (s : Setup) (w : World) (o new : ℕ) (range : Ranges s) (shape : Shape
   }
   keeps d (Offer v n e) z hd c = c
   keeps d (Dropped v n e) z hd c = record { exists = c .exists; header = c .header; writes = λ a j h q b. left-none _; remains = c .remains }
+  keeps d (Batch v n e m) z hd c = c
+  keeps d (Cleared v n e m) z hd c = c
 
   begun-keeps : Inv s after
   unfolding opened awaited

@@ -63,6 +63,7 @@ module _ (s : Setup) (range : Ranges s) (w : World) (inv : Inv s w) (shape : Wor
     views = λ u h. covered-empty (empty u h);
     erased = λ i e ver z a. no-version i (inv .messages _ z .kind .invalidate .exists);
     remains = λ u n e h z a b. remains-empty (empty u h);
+    unheld = λ u n e m h z a b. record { none = λ i p q. empty u h .objects i q };
   }
 
   pub client-restart : Inv s (record {

@@ -7,7 +7,7 @@ use mathlib.Core.Logic.{_⊎_, inl, ⊎-elim}
 use mathlib.Core.Path.{_≡_, sym, _∙_}
 use lib.ListN.{getD}
 use Rattle.laws.specs.Choice.{same?, true-or-false, not-both}
-use Rattle.protocol.specs.declared.message.Kind.the-variants.{Renew, Grant, Invalidate, Ack, Offer, Dropped}
+use Rattle.protocol.specs.declared.message.Kind.the-variants.{Renew, Grant, Invalidate, Ack, Offer, Dropped, Batch, Cleared}
 use Rattle.protocol.specs.declared.message.Payload.{Payload}
 use Rattle.protocol.specs.declared.message.Payload.the-variants.{Same, Value}
 use Rattle.protocol.specs.declared.setup.Setup.{Setup}
@@ -205,6 +205,8 @@ module _ (s : Setup) (w : World) (o : ℕ) (range : Ranges s) (objects : Objects
     writes = λ a j h q b. let ne = still-other standing j b in rw (lease .other d j h ne) (c .writes a j h q (sym (standing .other j ne) ∙ b));
     remains = λ a b. remains-posted s w o inv ho stands may mark version lease d v _ hd (λ q. c .writes a o ho q stands) (c .remains a b);
   }
+  keeps d (Batch v n e m) z hd c = c
+  keeps d (Cleared v n e m) z hd c = c
 
   -- the write's value is posted, and all leases on its object go
   posted-keeps : Inv s after

@@ -14,7 +14,7 @@ use Rattle.protocol.specs.declared.records.Request.{Request}
 use Rattle.protocol.specs.declared.setup.Setup.{Setup}
 use Rattle.protocol.specs.Setup.{volumeOf}
 use Rattle.protocol.specs.Tables.{byObject}
-use Rattle.protocol.specs.Safety.View.{Stands, copyAt, left, heldOf, untilOf, View, viewOf, viewGranted, Held, Claimed, Covered, ViewOk, Remains}
+use Rattle.protocol.specs.Safety.View.{Stands, copyAt, left, heldOf, untilOf, View, viewOf, viewGranted, Held, Unheld, Claimed, Covered, ViewOk, Remains}
 use Rattle.protocol.specs.Safety.Invariant.{GrantOk}
 use Rattle.protocol.specs.Safety.Stores.{same-version, same-expiry}
 use Rattle.protocol.specs.Safety.Tools.{left-grows}
@@ -52,6 +52,9 @@ module _ {s : Setup} {clock v : ℕ} {view view′ : View} (less : Less s clock 
     objects = λ o h. let q = less .copies o h in let r = c .objects o (held-less o h) in (q .0 ∙ r .0, rw (q .1) (r .1));
   }
 
+  pub unheld-less : {m : ℕ} → Unheld s clock v m view → Unheld s clock v m view′
+  unheld-less c = record { none = λ o b h. c .none o b (held-less o h) }
+
 -- client d's copies in the volume, some perhaps erased
 pub record Fewer (s : Setup) (d v : ℕ) (copies copies′ : List Copy) : Type 0 where
   pub each : (o : ℕ) → o < s .objects → volumeOf s o ≡ v → (copyAt s copies′ d o .version ≡ 0) ⊎ (copyAt s copies′ d o ≡ copyAt s copies d o)
@@ -79,7 +82,7 @@ module _ {s : Setup} {clock d v : ℕ} {copies copies′ : List Copy} (fewer : F
 
 pub covered-by : {s : Setup} {clock d v epoch guard session session′ : ℕ} {excuse excuse′ : ℕ → Bool} {version lease lease′ : List ℕ} {view : View}
     → Covered s clock d v epoch guard session excuse version lease view → session ≤ session′
-    → ((o : ℕ) → o < s .objects → volumeOf s o ≡ v → excuse o ≡ true → excuse′ o ≡ true)
+    → ((o : ℕ) → Held s clock v view o → excuse o ≡ true → excuse′ o ≡ true)
     → ((o : ℕ) → Held s clock v view o → getD lease (byObject d o) 0 ≤ getD lease′ (byObject d o) 0)
     → Covered s clock d v epoch guard session′ excuse′ version lease′ view
 covered-by {s} {clock} {v} {excuse} {excuse′} {view} c a more longer = record {
@@ -91,7 +94,7 @@ covered-by {s} {clock} {v} {excuse} {excuse′} {view} c a more longer = record 
 }
   where
     trusted : (o : ℕ) → Held s clock v view o → excuse′ o ≡ false → excuse o ≡ false
-    trusted o h e = ⊎-elim (λ b. not-both (more o (h .exists) (h .inside) b) e) (λ b. b) (true-or-false (excuse o))
+    trusted o h e = ⊎-elim (λ b. not-both (more o h b) e) (λ b. b) (true-or-false (excuse o))
 
 pub remains-by : {s : Setup} {clock d v : ℕ} {version lease lease′ : List ℕ} {view : View} → Remains s clock d v version lease view
     → ((o : ℕ) → Held s clock v view o → getD lease (byObject d o) 0 ≤ getD lease′ (byObject d o) 0) → Remains s clock d v version lease′ view

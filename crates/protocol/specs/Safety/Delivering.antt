@@ -1,23 +1,26 @@
 -- Step 5, accepted: the message is removed, and received by its client or by the server.
 use Prim.Native.Nat.{ℕ, _+_, _*_, _<_, _≤_}
 use native.Mathlib.Omega.{arith}
-use mathlib.Core.Path.{refl}
+use mathlib.Core.Bool.{true}
+use mathlib.Core.Path.{_≡_, refl}
+use lib.Dec.{ltb}
 use lib.ListN.{set}
 use lib.Seq.{set-getD}
-use Rattle.laws.specs.Choice.{cond-keeps}
+use Rattle.laws.specs.Choice.{cond-keeps, and-true}
 use Rattle.protocol.specs.declared.message.Message.{Message}
 use Rattle.protocol.specs.declared.message.Payload.{Payload}
 use Rattle.protocol.specs.declared.message.Kind.{Kind}
-use Rattle.protocol.specs.declared.message.Kind.the-variants.{Renew, Grant, Invalidate, Ack, Offer, Dropped}
+use Rattle.protocol.specs.declared.message.Kind.the-variants.{Renew, Grant, Invalidate, Ack, Offer, Dropped, Batch, Cleared}
 use Rattle.protocol.specs.declared.records.Request.{Request}
 use Rattle.protocol.specs.declared.setup.Setup.{Setup}
 use Rattle.protocol.specs.declared.tables.Tables.{Tables}
 use Rattle.protocol.specs.Messages.{objectOf, removed}
 use Rattle.protocol.specs.Tables.{noCopy, noRequest}
 use Rattle.protocol.specs.Writes.{Staged}
-use Rattle.protocol.specs.Server.{ackTaken, ackStaged, dropTaken, dropStaged}
+use Rattle.protocol.specs.Server.{ackTaken, ackStaged, dropTaken, dropStaged, clearTaken, notesCleared}
 use Rattle.protocol.specs.Client.{turned, changed, stands, sweptAll}
-use Rattle.protocol.specs.Decide.{Received, taken, grantReceived, invalidateReceived, offerReceived, received}
+use Rattle.protocol.specs.Sound.{setSound, kindSound}
+use Rattle.protocol.specs.Decide.{Received, taken, grantReceived, invalidateReceived, offerReceived, batchReceived, received}
 use Rattle.protocol.specs.World.{World}
 use Rattle.protocol.specs.Soundness.Shape.{WorldShape, taken-shape}
 use Rattle.protocol.specs.Safety.View.{copyAt, requestAt}
@@ -33,6 +36,8 @@ use Rattle.protocol.specs.Safety.Offering.{offer-taken}
 use Rattle.protocol.specs.Safety.Renewing.{renewed-keeps}
 use Rattle.protocol.specs.Safety.Acknowledging.{ack-taken, acked-keeps}
 use Rattle.protocol.specs.Safety.Dropping.{drop-taken, dropped-keeps}
+use Rattle.protocol.specs.Safety.Batching.{batch-taken}
+use Rattle.protocol.specs.Safety.Clearing.{clear-taken, cleared-keeps}
 use Rattle.protocol.specs.Ranges.{Ranges}
 use Rattle.protocol.specs.Soundness.ShapeKept.{ack-shape, drop-shape}
 
@@ -138,10 +143,31 @@ module _ (s : Setup) (range : Ranges s) (w : World) (inv : Inv s w) (shape : Wor
         (λ a. rw (set-getD (w .copies) (d * s .objects + 0) noCopy) (offer-taken s range rest remaining shape-rest d v n e hd (inv .messages _ z .kind)))
         (λ a. rw (swept-keep s) (same-records 0 _ remaining))
 
-    pub receipt-keeps : (g : Kind) → Sent (w .tables .queue) (from d g) → Inv s (receiving s w d g (received s t (copyAt s (w .copies) d (objectOf g)) request d g))
-    receipt-keeps (Renew o n e ver) z = by-renew o n e ver z
-    receipt-keeps (Grant o n x e ver y p) z = by-grant o n x e ver y p z
-    receipt-keeps (Invalidate o e ver) z = by-invalidate o e ver z
-    receipt-keeps (Ack o e ver) z = by-ack o e ver z
-    receipt-keeps (Offer v n e) z = by-offer v n e z
-    receipt-keeps (Dropped v n e) z = by-dropped v n e z
+    by-batch : (v n e m : ℕ) → Sent (w .tables .queue) (from d (Batch v n e m))
+        → Inv s (receiving s w d (Batch v n e m) (received s t (copyAt s (w .copies) d 0) request d (Batch v n e m)))
+    unfolding received batchReceived
+    by-batch v n e m z =
+        cond-keeps (λ (g : Received). Inv s (receiving s w d (Batch v n e m) g)) (stands request n)
+        (λ a. rw (set-getD (w .copies) (d * s .objects + 0) noCopy) (batch-taken s rest remaining shape-rest d v n e m hd (inv .messages _ z .kind)))
+        (λ a. rw (swept-keep s) (same-records 0 _ remaining))
+
+    clears : (v n e m : ℕ) → setSound s v m ≡ true → Sent (w .tables .queue) (from d (Cleared v n e m)) → Inv s (withTables rest (notesCleared s t d v n e m))
+    unfolding notesCleared
+    clears v n e m f z =
+        cond-keeps (λ (u : Tables). Inv s (withTables rest u)) (clearTaken t d v n e)
+        (λ a. cleared-keeps s range rest remaining (shape-rest .tables) d v n e m hd f (inv .messages _ z .kind) (clear-taken t d v n e a)) (λ a. remaining)
+
+    by-cleared : (v n e m : ℕ) → setSound s v m ≡ true → Sent (w .tables .queue) (from d (Cleared v n e m))
+        → Inv s (receiving s w d (Cleared v n e m) (received s t (copyAt s (w .copies) d 0) request d (Cleared v n e m)))
+    unfolding received
+    by-cleared v n e m f z = rw (swept-keep s) (same-records 0 _ (clears v n e m f z))
+
+    pub receipt-keeps : (g : Kind) → kindSound s g ≡ true → Sent (w .tables .queue) (from d g) → Inv s (receiving s w d g (received s t (copyAt s (w .copies) d (objectOf g)) request d g))
+    receipt-keeps (Renew o n e ver) f z = by-renew o n e ver z
+    receipt-keeps (Grant o n x e ver y p) f z = by-grant o n x e ver y p z
+    receipt-keeps (Invalidate o e ver) f z = by-invalidate o e ver z
+    receipt-keeps (Ack o e ver) f z = by-ack o e ver z
+    receipt-keeps (Offer v n e) f z = by-offer v n e z
+    receipt-keeps (Dropped v n e) f z = by-dropped v n e z
+    receipt-keeps (Batch v n e m) f z = by-batch v n e m z
+    receipt-keeps (Cleared v n e m) f z = by-cleared v n e m (and-true (ltb v (s .volumes)) (setSound s v m) f .1) z

@@ -10,9 +10,9 @@ use lib.Dec.{eqb}
 use lib.ListN.{length, getD}
 use borrow.Author.Tests.{eqb-true, eqb-false, eq-eqb, not-true}
 use Rattle.laws.specs.Choice.{same?, not-both, and-true}
-use Rattle.laws.specs.Sets.{removed}
 use Rattle.laws.specs.Store.{storeEach, store-hit, store-other}
-use Rattle.protocol.specs.declared.message.Kind.the-variants.{Renew, Grant, Invalidate, Ack, Offer, Dropped}
+use Rattle.protocol.specs.declared.message.Kind.the-variants.{Renew, Grant, Invalidate, Ack, Offer, Dropped, Batch, Cleared}
+use Rattle.laws.specs.Sets.{removed}
 use Rattle.protocol.specs.declared.setup.Setup.{Setup}
 use Rattle.protocol.specs.declared.tables.Tables.{Tables}
 use Rattle.protocol.specs.Setup.{volumeOf}
@@ -23,7 +23,7 @@ use Rattle.protocol.specs.Ranges.{Ranges}
 use Rattle.protocol.specs.Soundness.Shape.{Shape}
 use Rattle.protocol.specs.Safety.View.{left, View}
 use Rattle.protocol.specs.Safety.Invariant.{Inv, excusesOf, viewIn, AnswersIn, KindOk, CoveredIn}
-use Rattle.protocol.specs.Safety.Stores.{After, at-place, off-place, volume-set, object-fits, client-removed}
+use Rattle.protocol.specs.Safety.Stores.{After, at-place, off-place, volume-set, objects-set, object-fits, client-removed}
 use Rattle.protocol.specs.Safety.Tools.{zero-dead, left-below, marked-excused, noted-excused, excused-grows}
 use Rattle.protocol.specs.Safety.Replaced.{withTables}
 use Rattle.protocol.specs.Safety.Covering.{covered-by, remains-by, covered-left, covered-older}
@@ -45,28 +45,10 @@ module _ (s : Setup) (range : Ranges s) (w : World) (inv : Inv s w) (shape : Sha
   hv = ok .exists
 
   -- a field per client and object, stored for the volume's objects
-  module _ {A : Type 0} (l : List A) (x y : A) (full : length l ≡ 512) where
-    abbrev cleared : List A
-    cleared = storeEach (ofVolume s v) (byObject d) (λ (o : ℕ). x) l (s .objects)
-
-    at-object : (k i : ℕ) → i < s .objects → After d v k (volumeOf s i) (getD cleared (byObject k i) y) x (getD l (byObject k i) y)
-    at-object k i h =
-        ⊎-elim
-        (λ p. ⊎-elim (λ q. inl (p, q, rw p (hit i h q))) (λ q. inr (λ a b. q b, off k i h (λ a b. q b))) (same? (volumeOf s i) v))
-        (λ p. inr (λ a b. p a, off k i h (λ a b. p a)))
-        (same? k d)
-      where
-        hit : (i : ℕ) → i < s .objects → volumeOf s i ≡ v → getD cleared (byObject d i) y ≡ x
-        hit i h q =
-            let a = object-fits range h in
-            let b = range .clients .1 in
-            store-hit (ofVolume s v) (byObject d) (λ (o : ℕ). x) (λ i j z. omega arith) l (s .objects) i y h (eq-eqb _ _ q) (omega arith)
-
-        off : (k i : ℕ) → i < s .objects → (k ≡ d → volumeOf s i ≡ v → ⊥) → getD cleared (byObject k i) y ≡ getD l (byObject k i) y
-        off k i h ne =
-            let a = object-fits range h in
-            store-other (ofVolume s v) (byObject d) (λ (o : ℕ). x) l (s .objects) (byObject k i) y
-            (λ j g c z. let b = object-fits range g in let p : k ≡ d = omega arith in let q : i ≡ j = omega arith in ne p (ap (volumeOf s) q ∙ eqb-true _ _ c))
+  at-object : {A : Type 0} (l : List A) (x y : A) → length l ≡ 512 → (k i : ℕ) → i < s .objects
+      → After d v k (volumeOf s i) (getD (storeEach (ofVolume s v) (byObject d) (λ (o : ℕ). x) l (s .objects)) (byObject k i) y) x (getD l (byObject k i) y)
+  at-object l x y full k i h =
+      ⊎-elim (λ a. inl (a .0, eqb-true _ _ (a .1), a .2)) (λ a. inr (λ p q. a .0 p (eq-eqb _ _ q), a .1)) (objects-set range hd (ofVolume s v) l x y full k i h)
 
   -- after a DROPPED the server's lease is what is left of it
   at-lease : (k i : ℕ) → i < s .objects → After d v k (volumeOf s i) (leaseAt t k i) (left (leaseAt (w .tables) k i)) (leaseAt (w .tables) k i)
@@ -117,7 +99,7 @@ module _ (s : Setup) (range : Ranges s) (w : World) (inv : Inv s w) (shape : Sha
   elsewhere : (k u : ℕ) (view : View) → u < s .volumes → (k ≡ d → u ≡ v → ⊥) → CoveredIn s (w .tables) k u view → CoveredIn s t k u view
   unfolding dropped
   elsewhere k u view h ne c =
-      covered-by c (omega (arith, off-place (at-session k u h) ne)) (λ i hi q. excused-still k u i h ne)
+      covered-by c (omega (arith, off-place (at-session k u h) ne)) (λ i a. excused-still k u i h ne)
       (λ i a. omega (arith, same-lease k i (a .exists) (λ p q. ne p (sym (a .inside) ∙ q))))
 
   -- the client that dropped its leases: of this epoch it needs what is left, and of an older one the guard covers it
@@ -164,6 +146,8 @@ module _ (s : Setup) (range : Ranges s) (w : World) (inv : Inv s w) (shape : Sha
     writes = λ a i h q b. let l = answered k u n′ f (c .exists) a in rw (same-lease k i h (λ p r. l .1 p (sym q ∙ r))) (c .writes (l .0) i h q b);
     remains = λ a b. let l = answered k u n′ f (c .exists) a in remains-by (c .remains (l .0) b) (λ i h. omega (arith, same-lease k i (h .exists) (λ p r. l .1 p (sym (h .inside) ∙ r))));
   }
+  keeps k (Batch u n′ f m) z hk c = c
+  keeps k (Cleared u n′ f m) z hk c = c
 
   pub dropped-keeps : Inv s (withTables w t)
   unfolding dropped

@@ -66,8 +66,9 @@ module _ (s : Setup) (range : Ranges s) (w : World) (inv : Inv s w) (shape : Wor
     view = covered-less said (ok .covered stands);
     erased = λ i f u z q a. ⊎-elim (λ b. absurd (alone f u (rw (b .1) at z) (rw (b .1) at a))) (λ b. same-version (b .1) ∙ inv .messages _ z .kind .erased a)
         (at-copy d i (inv .messages _ z .kind .invalidate .exists));
-    -- no offer stands
+    -- no offer and no batch stands
     remains = λ n′ f z a b. absurd (a .nonzero (sym (a .same) ∙ ok .unoffered stands b .0));
+    unheld = λ n′ f m z a b. absurd (a .nonzero (sym (a .same) ∙ ok .unoffered stands b .1));
   }
 
   pub grant-taken : Inv s (record {

@@ -1,9 +1,9 @@
 -- What holds after every step of every run: of the tables, of each message under way, and of each two. Each clause is stated over what it reads, so what
 -- a step leaves alone needs no proof.
--- Letters in this folder: s is a setup, w a world, t tables, q a message list, m a message, g another or its kind; d and k are clients, v and u volumes, o, i
--- and j objects. Of a message n is the number, e the epoch (n′ and f another's), x the volume expiry, ver the version, y the object expiry, p the payload; z
--- says that it is sent, and c is its clause. In proofs a, b, e, h, l, p, q and r are facts, ne is one that says that two are not the same, and hd, hv and ho
--- are that an item exists.
+-- Letters in this folder: s is a setup, w a world, t tables, q a message list, m a message or a set, g another message or its kind; d and k are clients, v and
+-- u volumes, o, i and j objects. Of a message n is the number, e the epoch (n′ and f another's), x the volume expiry, ver the version, y the object expiry, p
+-- the payload; z says that it is sent, and c is its clause. In proofs a, b, e, h, l, p, q and r are facts, ne is one that says that two are not the same, and
+-- hd, hv and ho are that an item exists.
 use Prim.Native.Nat.{ℕ, _+_, _<_, _≤_, min}
 use mathlib.Core.Bool.{Bool, true, false}
 use mathlib.Core.List.{List}
@@ -16,7 +16,7 @@ use Rattle.protocol.specs.declared.message.Queue.{Queue}
 use Rattle.protocol.specs.declared.message.Payload.{Payload}
 use Rattle.protocol.specs.declared.message.Payload.the-variants.{Same, Value}
 use Rattle.protocol.specs.declared.message.Kind.{Kind}
-use Rattle.protocol.specs.declared.message.Kind.the-variants.{Renew, Grant, Invalidate, Ack, Offer, Dropped}
+use Rattle.protocol.specs.declared.message.Kind.the-variants.{Renew, Grant, Invalidate, Ack, Offer, Dropped, Batch, Cleared}
 use Rattle.protocol.specs.declared.records.Copy.{Copy}
 use Rattle.protocol.specs.declared.records.Request.{Request}
 use Rattle.protocol.specs.declared.setup.Setup.{Setup}
@@ -26,7 +26,7 @@ use Rattle.protocol.specs.Messages.{messageAt}
 use Rattle.protocol.specs.Tables.{byVolume, byObject}
 use Rattle.protocol.specs.Leases.{serverAlive, clientClock}
 use Rattle.protocol.specs.World.{World}
-use Rattle.protocol.specs.Safety.View.{Remains, Stands, View, ViewOk, copyAt, excused, left, requestAt, viewAt, viewGranted}
+use Rattle.protocol.specs.Safety.View.{Remains, Stands, Unheld, View, ViewOk, copyAt, excused, left, requestAt, viewAt, viewGranted}
 
 -- ---- the tables
 
@@ -135,11 +135,12 @@ pub record AckOk (s : Setup) (epoch version : List ℕ) (standing : List Bool) (
   pub invalidate : InvalidateOk s epoch version standing o e ver
   pub erased : Acknowledges s epoch version standing o e ver → copyAt s copies d o .version ≡ 0
 
+-- an OFFER or a BATCH
 pub record OfferOk (s : Setup) (epoch seen : List ℕ) (requests : List Request) (d v n e : ℕ) : Type 0 where
   pub exists : v < s .volumes
   pub header : Header epoch seen requests d v n e
 
--- a DROPPED that would be taken
+-- a DROPPED or a CLEARED that would be taken, of the offer or the batch that stands
 pub record Answers (epoch offer : List ℕ) (d v n e : ℕ) : Type 0 where
   pub current : e ≡ getD epoch v 0
   pub nonzero : n ≡ 0 → ⊥
@@ -152,6 +153,12 @@ pub record DroppedOk (s : Setup) (clocks : ℕ → ℕ) (epoch seen offer versio
   pub writes : Answers epoch offer d v n e → (o : ℕ) → o < s .objects → volumeOf s o ≡ v → getD standing o false ≡ true → left (getD lease (byObject d o) 0) ≡ 0
   -- .. and all that a client of the server's epoch needs
   pub remains : Answers epoch offer d v n e → getD known (byVolume d v) 0 ≡ getD epoch v 0 → Remains s (clocks d) d v version lease (viewAt s known expiry copies d v)
+
+-- a CLEARED that would be taken: of its set, a client of the server's epoch holds nothing
+pub record ClearedOk (s : Setup) (clocks : ℕ → ℕ) (epoch seen batch known expiry : List ℕ) (copies : List Copy) (requests : List Request) (d v n e m : ℕ) : Type 0 where
+  pub exists : v < s .volumes
+  pub header : Header epoch seen requests d v n e
+  pub unheld : Answers epoch batch d v n e → getD known (byVolume d v) 0 ≡ getD epoch v 0 → Unheld s (clocks d) v m (viewAt s known expiry copies d v)
 
 -- ---- the messages, all kinds
 
@@ -169,6 +176,8 @@ KindOk s w d (Invalidate o e ver) = InvalidateOk s (w .tables .volumes .epoch) (
 KindOk s w d (Ack o e ver) = AckOk s (w .tables .volumes .epoch) (w .tables .objects .version) (w .tables .objects .standing) (w .copies) d o e ver
 KindOk s w d (Offer v n e) = OfferOk s (w .tables .volumes .epoch) (w .tables .sessions .seen) (w .requests) d v n e
 KindOk s w d (Dropped v n e) = DroppedOk s (clocksOf (w .tables)) (w .tables .volumes .epoch) (w .tables .sessions .seen) (w .tables .sessions .offer) (w .tables .objects .version) (w .tables .objects .standing) (w .tables .holders .lease) (w .tables .views .epoch) (w .tables .views .expiry) (w .copies) (w .requests) d v n e
+KindOk s w d (Batch v n e m) = OfferOk s (w .tables .volumes .epoch) (w .tables .sessions .seen) (w .requests) d v n e
+KindOk s w d (Cleared v n e m) = ClearedOk s (clocksOf (w .tables)) (w .tables .volumes .epoch) (w .tables .sessions .seen) (w .tables .sessions .batch) (w .tables .views .epoch) (w .tables .views .expiry) (w .copies) (w .requests) d v n e m
 
 pub record MessageOk (s : Setup) (w : World) (m : Message) : Type 0 where
   pub client : m .client < s .clients
@@ -184,6 +193,8 @@ Acking s epoch version standing o (Invalidate i e ver) = ⊥
 Acking s epoch version standing o (Ack i e ver) = (i ≡ o) × Acknowledges s epoch version standing i e ver
 Acking s epoch version standing o (Offer v n e) = ⊥
 Acking s epoch version standing o (Dropped v n e) = ⊥
+Acking s epoch version standing o (Batch v n e m) = ⊥
+Acking s epoch version standing o (Cleared v n e m) = ⊥
 
 -- a GRANT of object o to client d that could still be taken
 abbrev pub Bringing : List Request → ℕ → ℕ → Kind → Type 0
@@ -193,6 +204,8 @@ Bringing requests d o (Invalidate i e ver) = ⊥
 Bringing requests d o (Ack i e ver) = ⊥
 Bringing requests d o (Offer v n e) = ⊥
 Bringing requests d o (Dropped v n e) = ⊥
+Bringing requests d o (Batch v n e m) = ⊥
+Bringing requests d o (Cleared v n e m) = ⊥
 
 -- one line for each reason why two messages cannot both be under way
 pub record PairOk (s : Setup) (epoch version : List ℕ) (standing : List Bool) (requests : List Request) (m g : Message) : Type 0 where
@@ -215,6 +228,9 @@ HeaderIn t requests d v n e = Header (t .volumes .epoch) (t .sessions .seen) req
 
 abbrev pub AnswersIn : Tables → ℕ → ℕ → ℕ → ℕ → Type 0
 AnswersIn t d v n e = Answers (t .volumes .epoch) (t .sessions .offer) d v n e
+
+abbrev pub ClearsIn : Tables → ℕ → ℕ → ℕ → ℕ → Type 0
+ClearsIn t d v n e = Answers (t .volumes .epoch) (t .sessions .batch) d v n e
 
 abbrev pub AcknowledgesIn : Setup → Tables → ℕ → ℕ → ℕ → Type 0
 AcknowledgesIn s t o e ver = Acknowledges s (t .volumes .epoch) (t .objects .version) (t .objects .standing) o e ver

@@ -20,7 +20,7 @@ use Rattle.protocol.specs.Decide.{readDecided, askDecided, deliverDecide
 use Rattle.protocol.specs.World.{World, targetAt, target, worldAfter, stepped}
 use Rattle.protocol.specs.Ledger.{accepts}
 use Rattle.protocol.specs.Ranges.{Ranges, ranges}
-use Rattle.protocol.specs.Soundness.StepCases.{Accepted, accepted, by-kind, copyOf, requestOf, recordsOf, performedOf, decision-accepted, refused-keeps, setup-in-range, client-exists, object-exists, place-exists, queue-fits, read-performed, ask-performed, deliver-performed, lose-performed, double-performed, server-performed, client-performed}
+use Rattle.protocol.specs.Soundness.StepCases.{Accepted, accepted, by-kind, copyOf, requestOf, recordsOf, performedOf, decision-accepted, refused-keeps, setup-in-range, client-exists, object-exists, place-exists, queue-fits, message-fits, read-performed, ask-performed, deliver-performed, lose-performed, double-performed, server-performed, client-performed}
 use Rattle.protocol.specs.Soundness.Question.{SoundWorld}
 use Rattle.protocol.specs.Bookkeeping.Agreed.{ReadsCurrent}
 use Rattle.protocol.specs.Safety.View.{copyAt}
@@ -78,7 +78,8 @@ module _ (s : Setup) (w : World) (x : Step) (a : accepts s w x ≡ true) (sound 
       stepped-leaves _ (deliver-performed s (w .tables) (copyOf s w x) (requestOf s w x) x e)
       (rw (message-target e)
       (receipt-keeps s range w inv (sound .shape) (queue-fits facts) (x .place) (place-exists (facts .passes) (rw e)) (m .client)
-      (inv .messages m (sent-at (w .tables .queue) (x .place) (place-exists (facts .passes) (rw e))) .client) (m .kind) (sent-at (w .tables .queue) (x .place) (place-exists (facts .passes) (rw e)))))
+      (inv .messages m (sent-at (w .tables .queue) (x .place) (place-exists (facts .passes) (rw e))) .client) (m .kind)
+      (message-fits facts (x .place) (place-exists (facts .passes) (rw e))) (sent-at (w .tables .queue) (x .place) (place-exists (facts .passes) (rw e)))))
 
   lose-keeps : x .kind ≡ 6 → Inv s (stepped s w x)
   lose-keeps e =

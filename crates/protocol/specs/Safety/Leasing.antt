@@ -9,7 +9,7 @@ use borrow.Author.Tests.{eqb-true}
 use Rattle.laws.specs.Choice.{same?, not-both, cond-keeps}
 use Rattle.laws.specs.Updated.{updated-other, updated-same}
 use Rattle.protocol.specs.declared.message.Kind.{Kind}
-use Rattle.protocol.specs.declared.message.Kind.the-variants.{Renew, Grant, Invalidate, Ack, Offer, Dropped}
+use Rattle.protocol.specs.declared.message.Kind.the-variants.{Renew, Grant, Invalidate, Ack, Offer, Dropped, Batch, Cleared}
 use Rattle.protocol.specs.declared.setup.Setup.{Setup}
 use Rattle.protocol.specs.declared.tables.Tables.{Tables}
 use Rattle.protocol.specs.Setup.{volumeOf}
@@ -90,7 +90,7 @@ module _ (s : Setup) (range : Ranges s) (w : World) (inv : Inv s w) (shape : Sha
   unfolding objectRenewed volumeRenewed
   keeps k (Renew i n e ver) z hk c = c
   keeps k (Grant i n x e ver y p) z hk c =
-      grant-covered c (λ a. covered-by (c .covered a) (session-grows k (volumeOf s i) hk (range .within i (c .exists))) (λ j h q b. b) (λ j h. lease-grows k j hk (h .exists)))
+      grant-covered c (λ a. covered-by (c .covered a) (session-grows k (volumeOf s i) hk (range .within i (c .exists))) (λ j h b. b) (λ j h. lease-grows k j hk (h .exists)))
   keeps k (Invalidate i e ver) z hk c = c
   keeps k (Ack i e ver) z hk c = c
   keeps k (Offer u n e) z hk c = c
@@ -100,6 +100,8 @@ module _ (s : Setup) (range : Ranges s) (w : World) (inv : Inv s w) (shape : Sha
     writes = λ a i h q b. rw (written-same k i h b) (c .writes a i h q b);
     remains = λ a b. remains-by (c .remains a b) (λ i h. lease-grows k i hk (h .exists));
   }
+  keeps k (Batch u n e m) z hk c = c
+  keeps k (Cleared u n e m) z hk c = c
 
   pub leased : Inv s (withTables w t)
   unfolding objectRenewed volumeRenewed
@@ -132,7 +134,7 @@ module _ (s : Setup) (range : Ranges s) (w : World) (inv : Inv s w) (shape : Sha
           (λ r. rw (written-same k i h a, r .1) (inv .writes .others k i hk h a b))
           (at-session k (volumeOf s i) (range .within i h));
     };
-    views = λ k u hk h. covered-by (inv .views k u hk h) (session-grows k u hk h) (λ j h q b. b) (λ j a. lease-grows k j hk (a .exists));
+    views = λ k u hk h. covered-by (inv .views k u hk h) (session-grows k u hk h) (λ j h b. b) (λ j a. lease-grows k j hk (a .exists));
     messages = each inv keeps;
     pairs = inv .pairs;
   }

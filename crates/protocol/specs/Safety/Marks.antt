@@ -8,7 +8,7 @@ use lib.ListN.{getD}
 use Rattle.laws.specs.Choice.{cond-keeps}
 use Rattle.laws.specs.Loop.{fold-keeps-in, fold-reaches}
 use Rattle.laws.specs.Sets.{bitAt}
-use Rattle.protocol.specs.declared.message.Kind.the-variants.{Renew, Grant, Invalidate, Ack, Offer, Dropped}
+use Rattle.protocol.specs.declared.message.Kind.the-variants.{Renew, Grant, Invalidate, Ack, Offer, Dropped, Batch, Cleared}
 use Rattle.protocol.specs.declared.setup.Setup.{Setup}
 use Rattle.protocol.specs.declared.tables.Sessions.{Sessions}
 use Rattle.protocol.specs.declared.tables.Tables.{Tables}
@@ -71,7 +71,7 @@ module _ (s : Setup) (range : Ranges s) (w : World) (x′ : Sessions) (doubts : 
   after = withTables w (withSessions (w .tables) doubtful)
 
   covered : (d v : ℕ) (view : View) → d < s .clients → v < s .volumes → CoveredIn s (w .tables) d v view → CoveredIn s (after .tables) d v view
-  covered d v view hd hv c = covered-by c (omega arith) (λ o ho q. doubts .excuses d v o hd hv ho) (λ o h. omega arith)
+  covered d v view hd hv c = covered-by c (omega arith) (λ o h. doubts .excuses d v o hd hv (h .exists)) (λ o h. omega arith)
 
   -- no batch stands that did not
   void : (d v : ℕ) → d < s .clients → v < s .volumes → batchAt (w .tables) d v ≡ 0 → batchAt (after .tables) d v ≡ 0
@@ -95,6 +95,12 @@ module _ (s : Setup) (range : Ranges s) (w : World) (x′ : Sessions) (doubts : 
   keeps d (Ack o e ver) z hd c = c
   keeps d (Offer v n e) z hd c = c
   keeps d (Dropped v n e) z hd c = c
+  keeps d (Batch v n e m) z hd c = c
+  keeps d (Cleared v n e m) z hd c = record {
+    exists = c .exists;
+    header = c .header;
+    unheld = λ a. ⊎-elim (λ q. absurd (a .nonzero (sym (a .same) ∙ q))) (λ q. c .unheld (record { current = a .current; nonzero = a .nonzero; same = sym (q .0) ∙ a .same })) (doubts .batches d v hd (c .exists));
+  }
 
   doubting : Inv s after
   doubting = record {

@@ -80,6 +80,7 @@ module _ (s : Setup) (range : Ranges s) (w : World) (inv : Inv s w) (shape : Wor
     view = covered-empty empty;
     erased = λ i f ver z q a. kept-version i (inv .messages _ z .kind .invalidate .exists) ∙ inv .messages _ z .kind .erased a;
     remains = λ n′ f z a b. remains-empty empty;
+    unheld = λ n′ f m z a b. record { none = λ i p h. empty .objects i h };
   }
 
   abbrev after : World

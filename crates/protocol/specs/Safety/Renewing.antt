@@ -6,7 +6,7 @@ use mathlib.Core.Logic.{inr, ⊎-elim}
 use mathlib.Core.Path.{_≡_}
 use lib.Dec.{ltb, eqb}
 use lib.Seq.{getD-set-same}
-use borrow.Author.Tests.{ltb-true, ltb-false, leb-false, eqb-true, not-false, eq-eqb}
+use borrow.Author.Tests.{ltb-true, ltb-false, leb-false, eqb-true, eqb-false, not-true, not-false, eq-eqb}
 use Rattle.laws.specs.Choice.{not-both, cond-keeps, and-true, and-false, or-false}
 use Rattle.laws.specs.Loop.{first-found, first-missing}
 use Rattle.protocol.specs.declared.message.Kind.the-variants.{Renew}
@@ -15,7 +15,7 @@ use Rattle.protocol.specs.declared.tables.Tables.{Tables}
 use Rattle.protocol.specs.Setup.{volumeOf}
 use Rattle.protocol.specs.Tables.{epochAt, seenAt, unreachableAt, standingAt, waitingAt, withSessions}
 use Rattle.protocol.specs.Writes.{marked, invalidation}
-use Rattle.protocol.specs.Server.{sent, noted, offered, offering, waitedIn, lowestWaited, mustDrop, hasNotes, granted, renewedBy, renewed, stale, beingWritten}
+use Rattle.protocol.specs.Server.{sent, noted, offered, offering, waitedIn, lowestWaited, mustDrop, hasNotes, batched, batching, granted, renewedBy, renewed, stale, beingWritten}
 use Rattle.protocol.specs.World.{World}
 use Rattle.protocol.specs.Ranges.{Ranges}
 use Rattle.protocol.specs.Soundness.ShapeKept.{noted-shape}
@@ -26,7 +26,7 @@ use Rattle.protocol.specs.Safety.Tools.{unmarked-trusted}
 use Rattle.protocol.specs.Safety.Replaced.{withTables}
 use Rattle.protocol.specs.Safety.Marks.{doubts-keep, marked-there, marked-doubts}
 use Rattle.protocol.specs.Safety.Sending.{send-single}
-use Rattle.protocol.specs.Safety.Noting.{noted-keeps, offer-keeps}
+use Rattle.protocol.specs.Safety.Noting.{noted-keeps, offer-keeps, batch-keeps}
 use Rattle.protocol.specs.Safety.Leasing.{granted-keeps}
 
 module _ (s : Setup) (range : Ranges s) (w : World) (inv : Inv s w) (shape : Shape (w .tables)) (d o n e ver : ℕ) (hd : d < s .clients) (renew : KindOk s w d (Renew o n e ver))
@@ -68,6 +68,19 @@ module _ (s : Setup) (range : Ranges s) (w : World) (inv : Inv s w) (shape : Sha
       (record { client = hd; kind = record { exists = hv; header = record { reached = omega arith; taken = renew .taken; noticed = λ a. seen-now } } })
       (λ i a. a) (λ k i b. b)
 
+  -- "answered by BATCH (kind 7) with number, epoch and the noted set"
+  by-batch : mustDrop t d v e ≡ false → hasNotes t d v ≡ true → Inv s (withTables w (sent (batched t d v n) (batching t d v n)))
+  unfolding noted mustDrop batched
+  by-batch keep has =
+      let a = or-false (not (eqb e (epochAt t v))) (unreachableAt t d v) keep in
+      send-single s (withTables w (batched t d v n))
+      (noted-keeps s _
+      (batch-keeps s range w inv d v n (shape .sessions .batch) hd hv (a .1) (eqb-false _ _ (not-true _ has)) new (renew .taken))
+      d n (shape .sessions .seen) (client-fits range hd) new (renew .taken))
+      (batching t d v n) (shape .queue .items)
+      (record { client = hd; kind = record { exists = hv; header = record { reached = omega arith; taken = renew .taken; noticed = λ a. seen-now } } })
+      (λ i a. a) (λ k i b. b)
+
   -- "its lowest such object": past the objects, nothing that is being written in the volume waits for the client
   abbrev low : ℕ
   low = lowestWaited s t d v
@@ -102,7 +115,7 @@ module _ (s : Setup) (range : Ranges s) (w : World) (inv : Inv s w) (shape : Sha
   unfolding renewedBy
   renewed-new =
       cond-keeps (λ (x : Tables). Inv s (withTables w x)) (mustDrop t d v e) (λ a. by-offer)
-      (λ a. cond-keeps (λ (x : Tables). Inv s (withTables w x)) (hasNotes t d v) (λ b. noticed)
+      (λ a. cond-keeps (λ (x : Tables). Inv s (withTables w x)) (hasNotes t d v) (by-batch a)
       (λ b. cond-keeps (λ (x : Tables). Inv s (withTables w x)) (ltb low (s .objects)) (λ c. by-resend (ltb-true _ _ c))
       (λ c. cond-keeps (λ (x : Tables). Inv s (withTables w x)) (beingWritten t o) (λ l. noticed) (λ l. by-grant a b c l))))
 

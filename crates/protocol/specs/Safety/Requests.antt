@@ -10,7 +10,7 @@ use lib.Seq.{getD-set-same, getD-set-other, set-getD}
 use borrow.Author.Tests.{eq-eqb}
 use Rattle.laws.specs.Choice.{same?, cond-keeps, not-both, both-true}
 use Rattle.protocol.specs.declared.message.Kind.{Kind}
-use Rattle.protocol.specs.declared.message.Kind.the-variants.{Renew, Grant, Invalidate, Ack, Offer, Dropped}
+use Rattle.protocol.specs.declared.message.Kind.the-variants.{Renew, Grant, Invalidate, Ack, Offer, Dropped, Batch, Cleared}
 use Rattle.protocol.specs.declared.records.Request.{Request}
 use Rattle.protocol.specs.declared.setup.Setup.{Setup}
 use Rattle.protocol.specs.declared.step.Turn.{Turn}
@@ -60,6 +60,8 @@ module _ (s : Setup) (w : World) (inv : Inv s w) (requests : List Request) (move
   keeps d (Ack o e ver) z hd c = c
   keeps d (Offer v n e) z hd c = record { exists = c .exists; header = header d v n e (c .header) }
   keeps d (Dropped v n e) z hd c = record { exists = c .exists; header = header d v n e (c .header); writes = c .writes; remains = c .remains }
+  keeps d (Batch v n e m) z hd c = record { exists = c .exists; header = header d v n e (c .header) }
+  keeps d (Cleared v n e m) z hd c = record { exists = c .exists; header = header d v n e (c .header); unheld = c .unheld }
 
   -- no GRANT gets to bring what it did not before
   brought : (d o : ℕ) (g : Kind) → KindOk s w d g → Bringing requests d o g → Bringing (w .requests) d o g

@@ -9,7 +9,7 @@ use Rattle.protocol.specs.declared.message.Message.{Message}
 use Rattle.protocol.specs.declared.message.Queue.{Queue}
 use Rattle.protocol.specs.declared.message.Payload.{Payload}
 use Rattle.protocol.specs.declared.message.Kind.{Kind}
-use Rattle.protocol.specs.declared.message.Kind.the-variants.{Renew, Grant, Invalidate, Ack, Offer, Dropped}
+use Rattle.protocol.specs.declared.message.Kind.the-variants.{Renew, Grant, Invalidate, Ack, Offer, Dropped, Batch, Cleared}
 use Rattle.protocol.specs.declared.records.Request.{Request}
 use Rattle.protocol.specs.declared.setup.Setup.{Setup}
 use Rattle.protocol.specs.Messages.{messageAt, pushed, removed, doubled}
@@ -38,6 +38,8 @@ unlisted s w q d (Invalidate o e ver) c = c
 unlisted s w q d (Ack o e ver) c = c
 unlisted s w q d (Offer v n e) c = c
 unlisted s w q d (Dropped v n e) c = c
+unlisted s w q d (Batch v n e m) c = c
+unlisted s w q d (Cleared v n e m) c = c
 
 -- ---- each two messages
 
@@ -50,6 +52,8 @@ acking-case P f (Invalidate i e ver) a = absurd a
 acking-case P f (Ack i e ver) a = rw (a .0) (f e ver (rw (a .0) at (a .1)))
 acking-case P f (Offer v n e) a = absurd a
 acking-case P f (Dropped v n e) a = absurd a
+acking-case P f (Batch v n e m) a = absurd a
+acking-case P f (Cleared v n e m) a = absurd a
 
 pub bringing-case : {requests : List Request} {d o : ℕ} (P : Kind → Type 0) → ((n x e ver y : ℕ) (p : Payload) → Stands requests d n → P (Grant o n x e ver y p))
     → (g : Kind) → Bringing requests d o g → P g
@@ -59,6 +63,8 @@ bringing-case P f (Invalidate i e ver) a = absurd a
 bringing-case P f (Ack i e ver) a = absurd a
 bringing-case P f (Offer v n e) a = absurd a
 bringing-case P f (Dropped v n e) a = absurd a
+bringing-case P f (Batch v n e m) a = absurd a
+bringing-case P f (Cleared v n e m) a = absurd a
 
 -- an ACK that would be taken now would have been before
 pub acked-before : (s : Setup) (w : World) (epoch version : List ℕ) (standing : List Bool) → Inv s w

@@ -8,7 +8,7 @@ use mathlib.Core.Logic.{inl, ⊎-elim}
 use mathlib.Core.Path.{_≡_, refl}
 use lib.ListN.{getD, replicate, getD-replicate}
 use Rattle.laws.specs.Store.{always, store-hit}
-use Rattle.protocol.specs.declared.message.Kind.the-variants.{Renew, Grant, Invalidate, Ack, Offer, Dropped}
+use Rattle.protocol.specs.declared.message.Kind.the-variants.{Renew, Grant, Invalidate, Ack, Offer, Dropped, Batch, Cleared}
 use Rattle.protocol.specs.declared.setup.Setup.{Setup}
 use Rattle.protocol.specs.Setup.{volumeOf}
 use Rattle.protocol.specs.Tables.{epochAt}
@@ -96,6 +96,12 @@ module _ (s : Setup) (range : Ranges s) (w : World) (inv : Inv s w) (shape : Sha
     header = header d v n e (c .exists) (c .header);
     writes = λ a. absurd (before v e (c .exists) (c .header .reached) (a .current));
     remains = λ a. absurd (before v e (c .exists) (c .header .reached) (a .current));
+  }
+  keeps d (Batch v n e m) z hd c = record { exists = c .exists; header = header d v n e (c .exists) (c .header) }
+  keeps d (Cleared v n e m) z hd c = record {
+    exists = c .exists;
+    header = header d v n e (c .exists) (c .header);
+    unheld = λ a. absurd (before v e (c .exists) (c .header .reached) (a .current));
   }
 
   pub server-restart : Inv s (withTables w (serverRestarted s (w .tables)))

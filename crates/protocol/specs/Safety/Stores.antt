@@ -9,8 +9,8 @@ use mathlib.Core.Logic.{_⊎_, inl, inr, ⊎-elim}
 use mathlib.Core.Path.{_≡_, ap, _∙_}
 use lib.ListN.{length, getD, set, replicate, getD-replicate}
 use borrow.Author.Tests.{eq-eqb, ne-eqb}
-use Rattle.laws.specs.Choice.{not-both, same?, and-yes, and-no}
-use Rattle.laws.specs.Store.{set-at}
+use Rattle.laws.specs.Choice.{true-or-false, not-both, same?, and-yes, and-no}
+use Rattle.laws.specs.Store.{set-at, storeEach, store-hit, store-other}
 use Rattle.laws.specs.Sets.{bitAt, removed, bit-removed}
 use Rattle.protocol.specs.declared.records.Copy.{Copy}
 use Rattle.protocol.specs.declared.setup.Setup.{Setup}
@@ -21,6 +21,10 @@ use Rattle.protocol.specs.Ranges.{Ranges}
 -- what is read at row k and column u after a store at row d and column v: the new element, or the old one elsewhere
 abbrev pub After {ℓ} : {A : Type ℓ} → ℕ → ℕ → ℕ → ℕ → A → A → A → Type ℓ
 After d v k u got new old = ((k ≡ d) × (u ≡ v) × (got ≡ new)) ⊎ ((k ≡ d → u ≡ v → ⊥) × (got ≡ old))
+
+-- the same of row k and column i after a store at row d and each column that passes p
+abbrev pub AfterEach {ℓ} : {A : Type ℓ} → ℕ → (ℕ → Bool) → ℕ → ℕ → A → A → A → Type ℓ
+AfterEach d p k i got new old = ((k ≡ d) × (p i ≡ true) × (got ≡ new)) ⊎ ((k ≡ d → p i ≡ true → ⊥) × (got ≡ old))
 
 -- .. where it is known which of the two
 pub at-place {ℓ} : {A : Type ℓ} {d v k u : ℕ} {got new old : A} → After d v k u got new old → k ≡ d → u ≡ v → got ≡ new
@@ -93,6 +97,28 @@ module _ {s : Setup} (range : Ranges s) where
         let r = holder-fits hd ho in
         ⊎-elim (λ a. inl (omega (arith, a .0), omega (arith, a .0), a .1)) (λ a. inr (λ p q. a .0 (omega arith), a .1))
         (set-at l (byObject d o) x (byObject k i) y (omega arith))
+
+    -- a store at a client and each object that passes
+    objects-hit : {A : Type 0} (p : ℕ → Bool) (l : List A) (x y : A) → length l ≡ 512 → (i : ℕ) → i < s .objects → p i ≡ true
+        → getD (storeEach p (byObject d) (λ (o : ℕ). x) l (s .objects)) (byObject d i) y ≡ x
+    objects-hit p l x y n i h e =
+        let r = holder-fits hd h in
+        store-hit p (byObject d) (λ (o : ℕ). x) (λ i j z. omega arith) l (s .objects) i y h e (omega arith)
+
+    objects-off : {A : Type 0} (p : ℕ → Bool) (l : List A) (x y : A) (k i : ℕ) → i < s .objects → (k ≡ d → p i ≡ true → ⊥)
+        → getD (storeEach p (byObject d) (λ (o : ℕ). x) l (s .objects)) (byObject k i) y ≡ getD l (byObject k i) y
+    objects-off p l x y k i h ne =
+        let a = object-fits h in
+        store-other p (byObject d) (λ (o : ℕ). x) l (s .objects) (byObject k i) y
+        (λ j g c z. let b = object-fits g in let r : k ≡ d = omega arith in let q : i ≡ j = omega arith in ne r (ap p q ∙ c))
+
+    pub objects-set : {A : Type 0} (p : ℕ → Bool) (l : List A) (x y : A) → length l ≡ 512 → (k i : ℕ) → i < s .objects
+        → AfterEach d p k i (getD (storeEach p (byObject d) (λ (o : ℕ). x) l (s .objects)) (byObject k i) y) x (getD l (byObject k i) y)
+    objects-set p l x y n k i h =
+        ⊎-elim
+        (λ q. ⊎-elim (λ e. inl (q, e, rw q (objects-hit p l x y n i h e))) (λ e. inr (λ a b. not-both b e, objects-off p l x y k i h (λ a b. not-both b e))) (true-or-false (p i)))
+        (λ q. inr (λ a b. q a, objects-off p l x y k i h (λ a b. q a)))
+        (same? k d)
 
 -- ---- a client taken out of the set of one object
 pub client-removed : {s : Setup} → Ranges s → (m d k : ℕ) → k < s .clients → ((k ≡ d) × (bitAt (removed m d) k ≡ false)) ⊎ ((k ≡ d → ⊥) × (bitAt (removed m d) k ≡ bitAt m k))

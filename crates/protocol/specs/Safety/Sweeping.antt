@@ -11,7 +11,7 @@ use Rattle.laws.specs.Loop.{foldFrom}
 use Rattle.protocol.specs.declared.records.Copy.{Copy}
 use Rattle.protocol.specs.declared.setup.Setup.{Setup}
 use Rattle.protocol.specs.declared.step.Sweep.{Sweep}
-use Rattle.protocol.specs.declared.step.Sweep.the-variants.{Keep, Expire, Erase}
+use Rattle.protocol.specs.declared.step.Sweep.the-variants.{Keep, Expire, Forget, Erase}
 use Rattle.protocol.specs.Tables.{noCopy}
 use Rattle.protocol.specs.Client.{swept, sweeps, sweepAt, sweptAll}
 use Rattle.protocol.specs.Safety.View.{copyAt}
@@ -57,12 +57,14 @@ module _ (s : Setup) (copies : List Copy) (d : ℕ) (full : length copies ≡ s 
   -- one of the client's copies
   pub swept-own : (g : Sweep) (k : ℕ) → k < s .objects → copyAt s (sweptAll s g (d * s .objects) copies) d k ≡ swept s g (copyAt s copies d k) k
   swept-own (Expire v) k h = row (Expire v) refl k h
+  swept-own (Forget m) k h = row (Forget m) refl k h
   swept-own Erase k h = row Erase refl k h
   swept-own Keep k h = kept k
 
   few : (g : Sweep) → sweeps g (s .objects) ≤ s .objects
   few Keep = omega arith
   few (Expire v) = omega arith
+  few (Forget m) = omega arith
   few Erase = omega arith
 
   -- another client's

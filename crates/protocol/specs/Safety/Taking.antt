@@ -5,7 +5,7 @@ use mathlib.Core.Logic.{inr, ⊎-elim}
 use mathlib.Core.Path.{_≡_, refl, sym, _∙_}
 use lib.ListN.{getD, set}
 use Rattle.laws.specs.Choice.{same?}
-use Rattle.protocol.specs.declared.message.Kind.the-variants.{Renew, Grant, Invalidate, Ack, Offer, Dropped}
+use Rattle.protocol.specs.declared.message.Kind.the-variants.{Renew, Grant, Invalidate, Ack, Offer, Dropped, Batch, Cleared}
 use Rattle.protocol.specs.declared.message.Payload.{Payload}
 use Rattle.protocol.specs.declared.message.Payload.the-variants.{Same, Value}
 use Rattle.protocol.specs.declared.records.Copy.{Copy}
@@ -17,10 +17,10 @@ use Rattle.protocol.specs.Client.{ended, viewed}
 use Rattle.protocol.specs.Updates.{withViewEpoch, withViewExpiry}
 use Rattle.protocol.specs.World.{World}
 use Rattle.protocol.specs.Soundness.Shape.{WorldShape}
-use Rattle.protocol.specs.Safety.View.{Stands, copyAt, requestAt, viewOf, viewAt}
-use Rattle.protocol.specs.Safety.Invariant.{Inv, Sent, from, viewIn, NamesHeld, clocksOf, CoveredIn, RemainsIn, AnswersIn, AcknowledgesIn}
+use Rattle.protocol.specs.Safety.View.{Stands, Unheld, copyAt, requestAt, viewOf, viewAt}
+use Rattle.protocol.specs.Safety.Invariant.{Inv, Sent, from, viewIn, NamesHeld, clocksOf, CoveredIn, RemainsIn, AnswersIn, ClearsIn, AcknowledgesIn}
 use Rattle.protocol.specs.Safety.Stores.{After, at-place, off-place, volume-set, same-version}
-use Rattle.protocol.specs.Safety.Covering.{Less, Fewer, view-less, granted-less, covered-less, remains-less}
+use Rattle.protocol.specs.Safety.Covering.{Less, Fewer, view-less, granted-less, covered-less, remains-less, unheld-less}
 use Rattle.protocol.specs.Safety.Sending.{Keeps, each}
 use Rattle.protocol.specs.Safety.Requests.{requesting, has-record, request-ends, ended-idle}
 use Rattle.protocol.specs.Ranges.{Ranges}
@@ -49,6 +49,8 @@ pub record Own (s : Setup) (t : Tables) (d : ℕ) (known expiry : List ℕ) (cop
   pub erased : (o e ver : ℕ) → Sent (t .queue) (from d (Ack o e ver)) → AcknowledgesIn s t o e ver → copyAt s copies d o .version ≡ 0
   pub remains : (v n e : ℕ) → v < s .volumes → Sent (t .queue) (from d (Dropped v n e)) → AnswersIn t d v n e → getD known (byVolume d v) 0 ≡ epochAt t v
       → RemainsIn s t d v (viewAt s known expiry copies d v)
+  pub unheld : (v n e m : ℕ) → v < s .volumes → Sent (t .queue) (from d (Cleared v n e m)) → ClearsIn t d v n e → getD known (byVolume d v) 0 ≡ epochAt t v
+      → Unheld s (clocksOf t d) v m (viewAt s known expiry copies d v)
 
 module _ (s : Setup) (range : Ranges s) (w : World) (inv : Inv s w) (d : ℕ) (idle : (n : ℕ) → Stands (w .requests) d n → ⊥) (known expiry : List ℕ) (copies : List Copy)
     (others : Others s (w .tables) d known expiry (w .copies) copies) (own : Own s (w .tables) d known expiry copies) where
@@ -95,6 +97,14 @@ module _ (s : Setup) (range : Ranges s) (w : World) (inv : Inv s w) (d : ℕ) (i
         (λ ne. remains-less (same-view k v ne (c .exists)) (c .remains a (sym (others .known k v ne (c .exists)) ∙ b)))
         (same? k d);
   }
+  keeps k (Batch v n e m) z hk c = c
+  keeps k (Cleared v n e m) z hk c = record {
+    exists = c .exists;
+    header = c .header;
+    unheld = λ a b. ⊎-elim (λ h. let z′ = rw h at z in let a′ = rw h at a in let b′ = rw h at b in rw h (own .unheld v n e m (c .exists) z′ a′ b′))
+        (λ ne. unheld-less (same-view k v ne (c .exists)) (c .unheld a (sym (others .known k v ne (c .exists)) ∙ b)))
+        (same? k d);
+  }
 
   seen : Inv s (seeing w known expiry copies)
   seen = record {
@@ -136,6 +146,8 @@ module _ (s : Setup) (range : Ranges s) (w : World) (inv : Inv s w) (shape : Wor
       pub view : CoveredIn s (w .tables) d v (viewOf s copies d e x)
       pub erased : (o f ver : ℕ) → Sent (w .tables .queue) (from d (Ack o f ver)) → volumeOf s o ≡ v → AcknowledgesIn s (w .tables) o f ver → copyAt s copies d o .version ≡ 0
       pub remains : (n f : ℕ) → Sent (w .tables .queue) (from d (Dropped v n f)) → AnswersIn (w .tables) d v n f → e ≡ epochAt (w .tables) v → RemainsIn s (w .tables) d v (viewOf s copies d e x)
+      pub unheld : (n f m : ℕ) → Sent (w .tables .queue) (from d (Cleared v n f m)) → ClearsIn (w .tables) d v n f → e ≡ epochAt (w .tables) v
+          → Unheld s (clocksOf (w .tables) d) v m (viewOf s copies d e x)
 
     abbrev known : List ℕ
     known = viewed (w .tables .views) d v e x .epoch
@@ -177,6 +189,10 @@ module _ (s : Setup) (range : Ranges s) (w : World) (inv : Inv s w) (shape : Wor
       remains = λ u n f h z a b. ⊎-elim
           (λ q. let z′ = rw q at z in let a′ = rw q at a in let b′ = rw q at (sym (at-place (at-known d u h) refl q) ∙ b) in remains-less (here u h q) (rw q (inside .remains n f z′ a′ b′)))
           (λ ne. remains-less (outside u h ne) (inv .messages _ z .kind .remains a (sym (outside u h ne .known) ∙ b)))
+          (same? u v);
+      unheld = λ u n f m h z a b. ⊎-elim
+          (λ q. let z′ = rw q at z in let a′ = rw q at a in let b′ = rw q at (sym (at-place (at-known d u h) refl q) ∙ b) in unheld-less (here u h q) (rw q (inside .unheld n f m z′ a′ b′)))
+          (λ ne. unheld-less (outside u h ne) (inv .messages _ z .kind .unheld a (sym (outside u h ne .known) ∙ b)))
           (same? u v);
     }
 

@@ -4,12 +4,12 @@ use native.Mathlib.Omega.{arith}
 use mathlib.Core.Bool.{Bool}
 use mathlib.Core.List.{List}
 use mathlib.Core.Logic.{inl, inr, ⊎-elim}
-use Rattle.protocol.specs.declared.message.Kind.the-variants.{Renew, Grant, Invalidate, Ack, Offer, Dropped}
+use Rattle.protocol.specs.declared.message.Kind.the-variants.{Renew, Grant, Invalidate, Ack, Offer, Dropped, Batch, Cleared}
 use Rattle.protocol.specs.declared.setup.Setup.{Setup}
 use Rattle.protocol.specs.Tables.{withClock}
 use Rattle.protocol.specs.Leases.{clientClock}
 use Rattle.protocol.specs.World.{World}
-use Rattle.protocol.specs.Safety.View.{View, Held, Covered, Remains}
+use Rattle.protocol.specs.Safety.View.{View, Held, Unheld, Covered, Remains}
 use Rattle.protocol.specs.Safety.Invariant.{Inv}
 use Rattle.protocol.specs.Safety.Tools.{later-dead, earlier-alive}
 use Rattle.protocol.specs.Safety.Replaced.{withTables}
@@ -30,6 +30,9 @@ module _ {s : Setup} (clock later d : ℕ) (h : clock ≤ later) {v : ℕ} {view
 
   remains-later : {version lease : List ℕ} → Remains s (clientClock clock d) d v version lease view → Remains s (clientClock later d) d v version lease view
   remains-later c = record { volume = c .volume; objects = λ o a. c .objects o (held-before o a) }
+
+  unheld-later : {m : ℕ} → Unheld s (clientClock clock d) v m view → Unheld s (clientClock later d) v m view
+  unheld-later c = record { none = λ o b a. c .none o b (held-before o a) }
 
 -- the bounds by the larger clock; the writes' and the views' clauses by T3
 pub clock-keeps : (s : Setup) (w : World) (later : ℕ) → w .tables .clock ≤ later → Inv s w → Inv s (withTables w (withClock (w .tables) later))
@@ -69,3 +72,5 @@ clock-keeps s w later h inv = record {
       writes = c .writes;
       remains = λ a b. remains-later (w .tables .clock) later d h (c .remains a b);
     }
+    keeps d (Batch v n e m) z hd c = c
+    keeps d (Cleared v n e m) z hd c = record { exists = c .exists; header = c .header; unheld = λ a b. unheld-later (w .tables .clock) later d h (c .unheld a b) }

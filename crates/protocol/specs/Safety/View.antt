@@ -66,6 +66,10 @@ pub record Held (s : Setup) (clock v : ℕ) (view : View) (o : ℕ) : Type 0 whe
   pub copy : view .held o ≡ 0 → ⊥
   pub alive : clientAlive clock (view .until o) ≡ true
 
+-- nothing of the set m is
+pub record Unheld (s : Setup) (clock v m : ℕ) (view : View) : Type 0 where
+  pub none : (o : ℕ) → bitAt m o ≡ true → Held s clock v view o → ⊥
+
 -- it would be shown, or the server counts on it
 abbrev pub Claimed : ℕ → ℕ → (ℕ → Bool) → View → ℕ → Type 0
 Claimed clock epoch excuse view o = (clientAlive clock (view .expiry) ≡ true) ⊎ ((view .known ≡ epoch) × (excuse o ≡ false))

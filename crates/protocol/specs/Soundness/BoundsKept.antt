@@ -9,6 +9,7 @@ use lib.Dec.{eqb}
 use borrow.Author.Tests.{lt-ltb}
 use Rattle.laws.specs.Choice.{cond-keeps, true-or-false, both-true}
 use Rattle.laws.specs.Loop.{fold-keeps}
+use Rattle.laws.specs.Sets.{bitAt}
 use Rattle.laws.specs.Lists.{All, all-at}
 use Rattle.laws.specs.Each.{each-set, each-set-in, each-getD}
 use Rattle.protocol.specs.declared.records.Copy.{Copy}
@@ -17,7 +18,7 @@ use Rattle.protocol.specs.declared.setup.Setup.{Setup}
 use Rattle.protocol.specs.declared.step.Decision.{Decision}
 use Rattle.protocol.specs.declared.step.Step.{Step}
 use Rattle.protocol.specs.declared.step.Sweep.{Sweep}
-use Rattle.protocol.specs.declared.step.Sweep.the-variants.{Keep, Expire, Erase}
+use Rattle.protocol.specs.declared.step.Sweep.the-variants.{Keep, Expire, Forget, Erase}
 use Rattle.protocol.specs.declared.tables.Tables.{Tables}
 use Rattle.protocol.specs.Setup.{volumeOf}
 use Rattle.protocol.specs.Ranges.{Ranges, ranges}
@@ -82,6 +83,7 @@ swept-bounded : (s : Setup) (g : Sweep) (c : Copy) (o : ℕ) → CopyBounded c �
 unfolding swept
 swept-bounded s Keep c o h = h
 swept-bounded s (Expire v) c o h = cond-keeps CopyBounded (eqb (volumeOf s o) v) (λ _. omega arith) (λ _. h)
+swept-bounded s (Forget m) c o h = cond-keeps CopyBounded (bitAt m o) (λ _. omega arith) (λ _. h)
 swept-bounded s Erase c o h = omega arith
 
 swept-all-bounded : (s : Setup) (g : Sweep) (first : ℕ) (l : List Copy) → All CopyBounded l → All CopyBounded (sweptAll s g first l)

@@ -8,9 +8,10 @@ use mathlib.Core.Path.{_≡_, refl}
 use lib.Dec.{ltb}
 use borrow.Author.Tests.{ltb-true, leb-true, lt-ltb, le-leb}
 use Rattle.laws.specs.Choice.{cond-keeps, and-true, both-true, not-both}
+use Rattle.laws.specs.Sets.{within-less}
 use Rattle.laws.specs.Each.{each-set, each-store, replicate-at}
 use Rattle.protocol.specs.declared.message.Kind.{Kind}
-use Rattle.protocol.specs.declared.message.Kind.the-variants.{Renew, Grant, Invalidate, Ack, Offer, Dropped}
+use Rattle.protocol.specs.declared.message.Kind.the-variants.{Renew, Grant, Invalidate, Ack, Offer, Dropped, Batch, Cleared}
 use Rattle.protocol.specs.declared.message.Payload.{Payload}
 use Rattle.protocol.specs.declared.records.Copy.{Copy}
 use Rattle.protocol.specs.declared.records.Request.{Request}
@@ -23,11 +24,11 @@ use Rattle.protocol.specs.Setup.{volumeOf}
 use Rattle.protocol.specs.Ranges.{Ranges}
 use Rattle.protocol.specs.Tables.{byVolume, byObject}
 use Rattle.protocol.specs.Writes.{Staged}
-use Rattle.protocol.specs.Server.{noted, offered, volumeRenewed, objectRenewed, granting, granted, lowestWaited, mustDrop, hasNotes, renewedBy, renewed, ackTaken, acked, ackStaged, dropTaken, disowned, dropped, dropStaged, serverRestarted, stale, beingWritten}
+use Rattle.protocol.specs.Server.{noted, offered, volumeRenewed, objectRenewed, granting, granted, lowestWaited, mustDrop, hasNotes, batched, batching, renewedBy, renewed, ackTaken, acked, ackStaged, dropTaken, disowned, dropped, dropStaged, clearTaken, notesDropped, notesCleared, serverRestarted, stale, beingWritten}
 use Rattle.protocol.specs.Client.{viewed, ended, turned, changed, stands, forgotten, clientRestarted, asksFor}
 use Rattle.protocol.specs.Sound.{timeFits, kindSound}
-use Rattle.protocol.specs.Decide.{Received, kept, grantReceived, invalidateReceived, offerReceived, received}
-use Rattle.protocol.specs.Soundness.Bounds.{Timed, Started, Named, ViewsBounded, Bounded, CopyBounded, RequestBounded, epoch-bounded, volume-expiry-bounded, guard-bounded, seen-bounded, session-expiry-bounded, unreachable-bounded, offer-bounded, value-bounded, version-bounded, object-expiry-bounded, lease-bounded, waiting-bounded, view-epoch-bounded, view-expiry-bounded, volumes-bounded, sessions-bounded, objects-bounded, holders-bounded, views-bounded, sent-bounded, fresh-sessions, fresh-objects, fresh-holders}
+use Rattle.protocol.specs.Decide.{Received, kept, grantReceived, invalidateReceived, offerReceived, batchReceived, received}
+use Rattle.protocol.specs.Soundness.Bounds.{Timed, Started, Named, ViewsBounded, Bounded, CopyBounded, RequestBounded, epoch-bounded, volume-expiry-bounded, guard-bounded, seen-bounded, session-expiry-bounded, unreachable-bounded, offer-bounded, notes-bounded, batch-bounded, set-fits, value-bounded, version-bounded, object-expiry-bounded, lease-bounded, waiting-bounded, view-epoch-bounded, view-expiry-bounded, volumes-bounded, sessions-bounded, objects-bounded, holders-bounded, views-bounded, sent-bounded, fresh-sessions, fresh-objects, fresh-holders}
 use Rattle.protocol.specs.Soundness.Written.{invalidation-named, marked-bounded, settled-bounded}
 
 module _ (s : Setup) (rs : Ranges s) where
@@ -39,6 +40,15 @@ module _ (s : Setup) (rs : Ranges s) where
   offered-bounded : (t : Tables) (d v n : ℕ) → Bounded s t → Bounded s (offered t d v n)
   unfolding offered
   offered-bounded t d v n h = sessions-bounded (offer-bounded _ (marked-bounded s _ d v (h .sessions))) h
+
+  batched-bounded : (t : Tables) (d v n : ℕ) → Bounded s t → Bounded s (batched t d v n)
+  unfolding batched
+  batched-bounded t d v n h = sessions-bounded (batch-bounded _ (h .sessions)) h
+
+  -- a BATCH has the notes, which are sound
+  batching-named : (t : Tables) (d v n : ℕ) → d < s .clients → v < s .volumes → Bounded s t → Named s (batching t d v n)
+  batching-named t d v n p q h =
+      both-true (lt-ltb d (s .clients) p) (both-true (lt-ltb v (s .volumes) q) (h .sessions .notes d v (omega (arith, rs .volumes .1))))
 
   volume-renewed-bounded : (t : Tables) (d v : ℕ) → Bounded s t → Bounded s (volumeRenewed s t d v)
   unfolding volumeRenewed
@@ -73,7 +83,7 @@ module _ (s : Setup) (rs : Ranges s) where
       cond-keeps (Bounded s) (stale t d n) (λ _. h) (λ _.
       cond-keeps (Bounded s) (mustDrop t′ d v e)
       (λ _. sent-bounded _ _ (both-true (lt-ltb d (s .clients) p) (lt-ltb v (s .volumes) (rs .within o q))) (offered-bounded t′ d v n k)) (λ _.
-      cond-keeps (Bounded s) (hasNotes t′ d v) (λ _. k) (λ _.
+      cond-keeps (Bounded s) (hasNotes t′ d v) (λ _. sent-bounded _ _ (batching-named t′ d v n p (rs .within o q) k) (batched-bounded t′ d v n k)) (λ _.
       cond-keeps (Bounded s) (ltb (lowestWaited s t′ d v) (s .objects))
       (λ b. sent-bounded _ _ (invalidation-named s t′ (lowestWaited s t′ d v) d (ltb-true _ _ b) p) k) (λ _.
       cond-keeps (Bounded s) (beingWritten t′ o) (λ _. k) (λ _. granted-bounded t′ d o n w p q k)))))
@@ -100,6 +110,16 @@ dropped-bounded s t d v h =
 drop-bounded : (s : Setup) (t : Tables) (d v n e : ℕ) → Bounded s t → Bounded s (dropStaged s t d v n e .tables)
 unfolding dropStaged
 drop-bounded s t d v n e h = cond-keeps (λ (g : Staged). Bounded s (g .tables)) (dropTaken t d v n e) (λ _. dropped-bounded s t d v h) (λ _. h)
+
+-- ---- CLEARED
+cleared-bounded : (s : Setup) (t : Tables) (d v n e m : ℕ) → Bounded s t → Bounded s (notesCleared s t d v n e m)
+unfolding notesCleared notesDropped
+cleared-bounded s t d v n e m h =
+    cond-keeps (Bounded s) (clearTaken t d v n e)
+    (λ _. holders-bounded (lease-bounded _ (each-store Timed _ _ _ (t .holders .lease) (s .objects) (h .holders .lease) (λ o b. omega arith)) (h .holders))
+    (sessions-bounded
+    (batch-bounded _ (notes-bounded _ (set-fits s (t .sessions .notes) (byVolume d v) _ (h .sessions .notes) (λ k u p q. within-less _ m _ (rw (← q) (h .sessions .notes k u p)))) (h .sessions))) h))
+    (λ _. h)
 
 -- ---- the restarts
 pub server-bounded : (s : Setup) (t : Tables) → Bounded s t → Bounded s (serverRestarted s t)
@@ -173,6 +193,12 @@ module _ (s : Setup) (rs : Ranges s) (t : Tables) (c : Copy) (r : Request) (d : 
       })
       (λ _. unchanged h)
 
+  batch-received : (v n e m : ℕ) → kindSound s (Cleared v n e m) ≡ true → Receipt s c r (batchReceived t r d v n e m)
+  unfolding batchReceived
+  batch-received v n e m q =
+      cond-keeps (Receipt s c r) (stands r n)
+      (λ _. record { tables = sent-bounded _ _ (both-true (lt-ltb d (s .clients) p) q) h; copy = λ b. b; request = ended-bounded r }) (λ _. unchanged h)
+
   pub received-bounded : (kind : Kind) → kindSound s kind ≡ true → Receipt s c r (received s t c r d kind)
   unfolding received
   received-bounded (Renew o n e w) q = unchanged (renewed-bounded s rs t d o n e w p (ltb-true _ _ q) h)
@@ -184,3 +210,5 @@ module _ (s : Setup) (rs : Ranges s) (t : Tables) (c : Copy) (r : Request) (d : 
   received-bounded (Ack o e w) q = unchanged (settled-bounded s _ (ack-bounded s t d o e w h))
   received-bounded (Offer v n e) q = offer-received v n e (ltb-true _ _ q)
   received-bounded (Dropped v n e) q = unchanged (settled-bounded s _ (drop-bounded s t d v n e h))
+  received-bounded (Batch v n e m) q = batch-received v n e m q
+  received-bounded (Cleared v n e m) q = unchanged (cleared-bounded s t d v n e m h)

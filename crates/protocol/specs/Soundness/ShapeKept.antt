@@ -13,7 +13,7 @@ use Rattle.laws.specs.Choice.{cond-keeps, true-or-false}
 use Rattle.laws.specs.Loop.{fold-keeps}
 use Rattle.laws.specs.Store.{length-store}
 use Rattle.protocol.specs.declared.message.Kind.{Kind}
-use Rattle.protocol.specs.declared.message.Kind.the-variants.{Renew, Grant, Invalidate, Ack, Offer, Dropped}
+use Rattle.protocol.specs.declared.message.Kind.the-variants.{Renew, Grant, Invalidate, Ack, Offer, Dropped, Batch, Cleared}
 use Rattle.protocol.specs.declared.records.Copy.{Copy}
 use Rattle.protocol.specs.declared.records.Request.{Request}
 use Rattle.protocol.specs.declared.setup.Setup.{Setup}
@@ -26,10 +26,10 @@ use Rattle.protocol.specs.declared.tables.Tables.{Tables}
 use Rattle.protocol.specs.Setup.{volumeOf}
 use Rattle.protocol.specs.Tables.{waitingAt}
 use Rattle.protocol.specs.Writes.{Counted, Staged, opened, awaited, begun, notify, notified, deserted, marked, markIfWaiting, posted, released, completed, completeIf, settled, written}
-use Rattle.protocol.specs.Server.{noted, offered, volumeRenewed, objectRenewed, granted, lowestWaited, mustDrop, hasNotes, renewedBy, renewed, ackTaken, acked, ackStaged, dropTaken, disowned, dropped, dropStaged, serverRestarted, stale, beingWritten}
+use Rattle.protocol.specs.Server.{noted, offered, volumeRenewed, objectRenewed, granted, lowestWaited, mustDrop, hasNotes, batched, renewedBy, renewed, ackTaken, acked, ackStaged, dropTaken, disowned, dropped, dropStaged, clearTaken, notesDropped, notesCleared, serverRestarted, stale, beingWritten}
 use Rattle.protocol.specs.Client.{showable, stands, viewed, sweepAt, sweptAll, clientRestarted}
 use Rattle.protocol.specs.Gate.{usesPlace}
-use Rattle.protocol.specs.Decide.{Received, performed, readDecided, askDecided, deliverDecided, restartDecided, grantReceived, invalidateReceived, offerReceived, received}
+use Rattle.protocol.specs.Decide.{Received, performed, readDecided, askDecided, deliverDecided, restartDecided, grantReceived, invalidateReceived, offerReceived, batchReceived, received}
 use Rattle.protocol.specs.World.{World, stepped}
 use Rattle.protocol.specs.Ledger.{accepts}
 use Rattle.protocol.specs.Soundness.StepCases.{Accepted, accepted, copyOf, requestOf, tables-after, refused-keeps, by-kind, place-exists, queue-fits, clock-performed, read-performed, ask-performed, write-performed, deliver-performed, lose-performed, double-performed, server-performed, client-performed}
@@ -83,6 +83,10 @@ offered-shape : (t : Tables) (d v n : ℕ) → Shape t → Shape (offered t d v 
 unfolding offered
 offered-shape t d v n h = sessions-shape (offer-shape _ (simp length-set) (marked-shape _ d v (h .sessions))) h
 
+batched-shape : (t : Tables) (d v n : ℕ) → Shape t → Shape (batched t d v n)
+unfolding batched
+batched-shape t d v n h = sessions-shape (batch-shape _ (simp length-set) (h .sessions)) h
+
 volume-renewed-shape : (s : Setup) (t : Tables) (d v : ℕ) → Shape t → Shape (volumeRenewed s t d v)
 unfolding volumeRenewed
 volume-renewed-shape s t d v h =
@@ -101,7 +105,7 @@ renewed-shape s t d o n e w h =
     let k = noted-shape t d n h in
     cond-keeps Shape (stale t d n) (λ _. h) (λ _.
     cond-keeps Shape (mustDrop t′ d v e) (λ _. sent-shape _ _ (offered-shape t′ d v n k)) (λ _.
-    cond-keeps Shape (hasNotes t′ d v) (λ _. k) (λ _.
+    cond-keeps Shape (hasNotes t′ d v) (λ _. sent-shape _ _ (batched-shape t′ d v n k)) (λ _.
     cond-keeps Shape (ltb (lowestWaited s t′ d v) (s .objects)) (λ _. sent-shape _ _ k) (λ _.
     cond-keeps Shape (beingWritten t′ o) (λ _. k) (λ _. sent-shape _ _ (object-renewed-shape s _ d o (volume-renewed-shape s t′ d v k)))))))
 
@@ -126,6 +130,12 @@ unfolding dropStaged
 drop-shape s t d v n e h =
     cond-keeps (λ (g : Staged). Shape (g .tables)) (dropTaken t d v n e) (λ _. dropped-shape s t d v h) (λ _. h)
 
+cleared-shape : (s : Setup) (t : Tables) (d v n e m : ℕ) → Shape t → Shape (notesCleared s t d v n e m)
+unfolding notesCleared notesDropped
+cleared-shape s t d v n e m h =
+    cond-keeps Shape (clearTaken t d v n e)
+    (λ _. holders-shape (lease-shape _ (simp length-store) (h .holders)) (sessions-shape (batch-shape _ (simp length-set) (notes-shape _ (simp length-set) (h .sessions))) h)) (λ _. h)
+
 server-shape : (s : Setup) (t : Tables) → Shape t → Shape (serverRestarted s t)
 unfolding serverRestarted
 server-shape s t h =
@@ -139,7 +149,7 @@ viewed-shape : (u : Views) (d v e x : ℕ) → ViewsShape u → ViewsShape (view
 viewed-shape u d v e x h = view-expiry-shape _ (simp length-set) (view-epoch-shape _ (simp length-set) h)
 
 received-shape : (s : Setup) (t : Tables) (c : Copy) (r : Request) (d : ℕ) (kind : Kind) → Shape t → Shape (received s t c r d kind .counted .tables)
-unfolding received grantReceived invalidateReceived offerReceived
+unfolding received grantReceived invalidateReceived offerReceived batchReceived
 received-shape s t c r d (Renew o n e w) h = renewed-shape s t d o n e w h
 received-shape s t c r d (Grant o n x e w y p) h =
     cond-keeps (λ (g : Received). Shape (g .counted .tables)) (stands r n)
@@ -150,6 +160,8 @@ received-shape s t c r d (Offer v n e) h =
     cond-keeps (λ (g : Received). Shape (g .counted .tables)) (stands r n)
     (λ _. sent-shape _ _ (views-shape (viewed-shape (t .views) d v e 0 (h .views)) h)) (λ _. h)
 received-shape s t c r d (Dropped v n e) h = settled-shape s _ (drop-shape s t d v n e h)
+received-shape s t c r d (Batch v n e m) h = cond-keeps (λ (g : Received). Shape (g .counted .tables)) (stands r n) (λ _. sent-shape t _ h) (λ _. h)
+received-shape s t c r d (Cleared v n e m) h = cleared-shape s t d v n e m h
 
 client-shape : (s : Setup) (u : Views) (d : ℕ) → ViewsShape u → ViewsShape (clientRestarted s u d)
 unfolding clientRestarted

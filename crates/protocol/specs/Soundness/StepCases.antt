@@ -19,12 +19,12 @@ use Rattle.protocol.specs.declared.step.Step.{Step}
 use Rattle.protocol.specs.declared.tables.Tables.{Tables}
 use Rattle.protocol.specs.Setup.{inRange}
 use Rattle.protocol.specs.Tables.{epochAt, versionAt, standingAt, noCopy, noRequest, withQueue}
-use Rattle.protocol.specs.Messages.{doubled}
+use Rattle.protocol.specs.Messages.{messageAt, doubled}
 use Rattle.protocol.specs.Writes.{settled, writeStaged, clockStaged}
 use Rattle.protocol.specs.Server.{serverRestarted}
 use Rattle.protocol.specs.Client.{sweptAll}
-use Rattle.protocol.specs.Sound.{sound, recordsSound, tablesSound, clockLimit, canGrow}
-use Rattle.protocol.specs.SoundLaws.{sound-length}
+use Rattle.protocol.specs.Sound.{sound, recordsSound, kindSound, tablesSound, clockLimit, canGrow}
+use Rattle.protocol.specs.SoundLaws.{sound-length, sound-message}
 use Rattle.protocol.specs.Gate.{isClock, isAsk, isWrite, isRestartServer, usesClient, usesObject, usesPlace, known, exists, timely, vacant, growable, asked, refusalOfStep, refusal}
 use Rattle.protocol.specs.Decide.{kept, answered, counting, readDecided, askDecided, taken, deliverDecided, restartDecided, performed, refusedWith, decided}
 use Rattle.protocol.specs.World.{World, target, copiesAfter, requestsAfter, decision, stepped, answerOf}
@@ -239,3 +239,6 @@ module _ {s : Setup} {t : Tables} {b : Bool} {r : Request} {x : Step} (a : Accep
 
   pub queue-fits : t .queue .len ≤ 64
   queue-fits = sound-length s t tables-sound
+
+  pub message-fits : (i : ℕ) → i < t .queue .len → kindSound s (messageAt (t .queue) i .kind) ≡ true
+  message-fits i h = sound-message s t tables-sound i h .1
