@@ -19,7 +19,7 @@ use Rattle.protocol.specs.Setup.{inRange, objectsIn}
 use Rattle.protocol.specs.Messages.{message, messageAt, pushed, removed}
 use Rattle.protocol.specs.Tables.{freshTables}
 use Rattle.protocol.specs.Leases.{serverAlive, clientAlive, clientClock, guardPassed, endOver}
-use Rattle.protocol.specs.Writes.{waits, latestEnd, opened, awaited, notified, waited, ready, due, deserted, posted, released, completed, settled, settling, written}
+use Rattle.protocol.specs.Writes.{waits, latestEnd, opened, awaited, notified, waited, ready, due, agedIn, aged, clockSet, deserted, posted, released, completed, settled, settling, written}
 use Rattle.protocol.specs.Server.{noted, offered, batched, lowestWaited, volumeRenewed, objectRenewed, granted, mustDrop, renewedBy, renewed, ackTaken, acked, ackStaged, dropTaken, disowned, dropped, dropStaged, clearTaken, notesDropped, notesCleared, serverRestarted}
 use Rattle.protocol.specs.Client.{showable, stands, forgotten, swept, sweptAll}
 use Rattle.protocol.specs.Sound.{queueSound, tablesSound, copiesSound, requestsSound, sound}
@@ -86,7 +86,7 @@ answerValues =
 pub worked-through : (history tiny steps ≡ eventsTold)
     × (map answerNumber (answers tiny (freshWorld tiny) steps) ≡ answerNumbers)
     × (map answerValue (answers tiny (freshWorld tiny) steps) ≡ answerValues)
-unfolding eventsTold answerNumbers answerValues answers tiny step clock lose restart write steps told historyFrom events happening foldFrom anyFrom allFrom firstFrom removeAt storeEach greatest inRange objectsIn bitAt setOf sets.removed less allIn pushed removed freshTables serverAlive clientAlive clientClock guardPassed endOver waits latestEnd opened awaited notified waited ready due deserted posted released completed settled settling written noted offered batched lowestWaited volumeRenewed objectRenewed granted mustDrop renewedBy renewed ackTaken acked ackStaged dropTaken disowned dropped dropStaged clearTaken notesDropped notesCleared serverRestarted showable stands forgotten swept sweptAll queueSound tablesSound copiesSound requestsSound sound known exists timely vacant growable refusalOfStep refusal grantReceived invalidateReceived offerReceived batchReceived received readDecided askDecided deliverDecided performed decided target decision stepped
+unfolding eventsTold answerNumbers answerValues answers tiny step clock lose restart write steps told historyFrom events happening foldFrom anyFrom allFrom firstFrom removeAt storeEach greatest inRange objectsIn bitAt setOf sets.removed less allIn pushed removed freshTables serverAlive clientAlive clientClock guardPassed endOver waits latestEnd opened awaited notified waited ready due agedIn aged clockSet deserted posted released completed settled settling written noted offered batched lowestWaited volumeRenewed objectRenewed granted mustDrop renewedBy renewed ackTaken acked ackStaged dropTaken disowned dropped dropStaged clearTaken notesDropped notesCleared serverRestarted showable stands forgotten swept sweptAll queueSound tablesSound copiesSound requestsSound sound known exists timely vacant growable refusalOfStep refusal grantReceived invalidateReceived offerReceived batchReceived received readDecided askDecided deliverDecided performed decided target decision stepped
 worked-through = (refl, refl, refl)
 
 -- accepted = completed + cut off + open
@@ -117,7 +117,7 @@ writeUnheard = write 7 ∷ lose 0 ∷ clock 12 ∷ clock 13 ∷ []
 pub never-held : (history twoClients (takenApart ++ writeUnheard) ≡ clockStep 13 ∷ completion 0 ∷ clockStep 12 ∷ acceptance 0 7 12 ∷ clockStep 9 ∷ [])
     × (latestEnd twoClients (ran twoClients (freshWorld twoClients) takenApart .tables) 0 ≡ 12)
     × (formerEnd twoClients (ran twoClients (freshWorld twoClients) takenApart .tables) 0 ≡ 19)
-unfolding twoClients takenApart writeUnheard formerEnd ran step clock lose write told historyFrom events happening foldFrom anyFrom allFrom firstFrom removeAt storeEach greatest inRange objectsIn bitAt setOf sets.removed less allIn pushed removed freshTables serverAlive clientAlive clientClock guardPassed endOver waits latestEnd opened awaited notified waited ready due deserted posted released completed settled settling written noted offered batched lowestWaited volumeRenewed objectRenewed granted mustDrop renewedBy renewed ackTaken acked ackStaged dropTaken disowned dropped dropStaged clearTaken notesDropped notesCleared serverRestarted showable stands forgotten swept sweptAll queueSound tablesSound copiesSound requestsSound sound known exists timely vacant growable refusalOfStep refusal grantReceived invalidateReceived offerReceived batchReceived received readDecided askDecided deliverDecided performed decided target decision stepped
+unfolding twoClients takenApart writeUnheard formerEnd ran step clock lose write told historyFrom events happening foldFrom anyFrom allFrom firstFrom removeAt storeEach greatest inRange objectsIn bitAt setOf sets.removed less allIn pushed removed freshTables serverAlive clientAlive clientClock guardPassed endOver waits latestEnd opened awaited notified waited ready due agedIn aged clockSet deserted posted released completed settled settling written noted offered batched lowestWaited volumeRenewed objectRenewed granted mustDrop renewedBy renewed ackTaken acked ackStaged dropTaken disowned dropped dropStaged clearTaken notesDropped notesCleared serverRestarted showable stands forgotten swept sweptAll queueSound tablesSound copiesSound requestsSound sound known exists timely vacant growable refusalOfStep refusal grantReceived invalidateReceived offerReceived batchReceived received readDecided askDecided deliverDecided performed decided target decision stepped
 never-held = (refl, refl, refl)
 
 -- ---- 02, A4: "a matching GRANT without a value"

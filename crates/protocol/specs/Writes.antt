@@ -4,6 +4,8 @@
 use Prim.Native.Nat.{ℕ, zero, suc, _+_, min, max}
 use mathlib.Core.Bool.{Bool, true, false, cond, not, _&&_, _||_}
 use mathlib.Core.List.{List, [], _∷_}
+use lib.Dec.{leb, eqb}
+use lib.ListN.{getD}
 use Rattle.laws.specs.Loop.{foldFrom, anyFrom}
 use Rattle.laws.specs.Sets.{setOf}
 use Rattle.laws.specs.Store.{storeEach, always}
@@ -18,7 +20,7 @@ use Rattle.protocol.specs.declared.tables.Holders.{Holders}
 use Rattle.protocol.specs.declared.tables.Tables.{Tables}
 use Rattle.protocol.specs.Setup.{volumeOf}
 use Rattle.protocol.specs.Messages.{message, pushed}
-use Rattle.protocol.specs.Tables.{byObject, epochAt, guardAt, sessionExpiryAt, unreachableAt, versionAt, standingAt, pendingAt, endAt, leaseAt, waitingAt, withClock, withSessions, withObjects, withHolders, withQueue}
+use Rattle.protocol.specs.Tables.{byVolume, byObject, epochAt, guardAt, sessionExpiryAt, unreachableAt, versionAt, standingAt, pendingAt, endAt, leaseAt, waitingAt, withClock, withSessions, withObjects, withHolders, withQueue}
 use Rattle.protocol.specs.Updates.{setUnreachable, setNotes, setBatch, setValue, setVersion, setWrite, withLease, setWaiting}
 use Rattle.protocol.specs.Leases.{serverAlive, guardPassed, endOver}
 
@@ -80,6 +82,20 @@ markIfWaiting s t o x d = cond (waitingAt t d o) (marked x d (volumeOf s o)) x
 unfoldable pub deserted : Setup → Tables → ℕ → Sessions
 deserted s t o = foldFrom (markIfWaiting s t o) (t .sessions) 0 (s .clients)
 
+-- 02, A6: "A clock step to volume expiry + d or later .. marks a noted dash unreachable."
+abbrev pub ages : Setup → ℕ → Sessions → ℕ → ℕ → Bool
+ages s clock x d v = not (eqb (getD (x .notes) (byVolume d v) 0) 0) && leb (getD (x .expiry) (byVolume d v) 0 + s .delay) clock
+
+abbrev pub ageAt : Setup → ℕ → ℕ → Sessions → ℕ → Sessions
+ageAt s clock d x v = cond (ages s clock x d v) (marked x d v) x
+
+-- in each volume of a client, and of each client
+unfoldable pub agedIn : Setup → ℕ → Sessions → ℕ → Sessions
+agedIn s clock x d = foldFrom (ageAt s clock d) x 0 (s .volumes)
+
+unfoldable pub aged : Setup → ℕ → Sessions → Sessions
+aged s clock x = foldFrom (agedIn s clock) x 0 (s .clients)
+
 -- "stores the value, adds 1 to the version, .. and ends the standing write"; OE stays
 unfoldable pub posted : Tables → ℕ → Objects
 posted t o = setVersion (setValue (setWrite (t .objects) o false 0 0) o (pendingAt t o)) o (versionAt t o + 1)
@@ -130,6 +146,10 @@ written s t o x = withQueue (begun s t o x) (notified s (begun s t o x) o)
 abbrev pub writeStaged : Setup → Tables → ℕ → ℕ → Staged
 writeStaged s t o x = record { tables = written s t o x; test = ready s; from = o; many = 1 }
 
--- Step 1: "In object order, complete each standing write .."
+-- Step 1: "set the clock", and notes age
+unfoldable pub clockSet : Setup → Tables → ℕ → Tables
+clockSet s t clock = withSessions (withClock t clock) (aged s clock (t .sessions))
+
+-- "In object order, complete each standing write .."
 abbrev pub clockStaged : Setup → Tables → ℕ → Staged
-clockStaged s t clock = record { tables = withClock t clock; test = due s; from = 0; many = s .objects }
+clockStaged s t clock = record { tables = clockSet s t clock; test = due s; from = 0; many = s .objects }

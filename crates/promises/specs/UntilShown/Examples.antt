@@ -20,7 +20,7 @@ use Rattle.protocol.specs.Setup.{inRange, objectsIn}
 use Rattle.protocol.specs.Messages.{pushed, removed}
 use Rattle.protocol.specs.Tables.{notesAt, standingAt, freshTables}
 use Rattle.protocol.specs.Leases.{serverAlive, clientAlive, clientClock, guardPassed, endOver}
-use Rattle.protocol.specs.Writes.{waits, latestEnd, opened, awaited, notified, waited, ready, due, deserted, posted, released, completed, settled, written}
+use Rattle.protocol.specs.Writes.{waits, latestEnd, opened, awaited, notified, waited, ready, due, agedIn, aged, clockSet, deserted, posted, released, completed, settled, written}
 use Rattle.protocol.specs.Server.{noted, offered, batched, lowestWaited, volumeRenewed, objectRenewed, granted, mustDrop, renewedBy, renewed, ackTaken, acked, ackStaged, dropTaken, disowned, dropped, dropStaged, clearTaken, notesDropped, notesCleared, serverRestarted}
 use Rattle.protocol.specs.Client.{showable, stands, forgotten, swept, sweptAll}
 use Rattle.protocol.specs.Sound.{queueSound, tablesSound, copiesSound, requestsSound, sound}
@@ -133,5 +133,5 @@ Table =
     × Fails (resting (standing 4294967293 0)) 0 false 0 4294967294 (ask 0 0 ∷ deliver ∷ deliver ∷ deliver ∷ ask 0 0 ∷ [])
 
 pub table : Table
-unfolding Table two observed ran policy step clock foldFrom anyFrom allFrom firstFrom removeAt storeEach greatest inRange objectsIn bitAt setOf sets.removed less allIn pushed removed freshTables serverAlive clientAlive clientClock guardPassed endOver waits latestEnd opened awaited notified waited ready due deserted posted released completed settled written noted offered batched lowestWaited volumeRenewed objectRenewed granted mustDrop renewedBy renewed ackTaken acked ackStaged dropTaken disowned dropped dropStaged clearTaken notesDropped notesCleared serverRestarted showable stands forgotten swept sweptAll queueSound tablesSound copiesSound requestsSound sound known exists timely vacant growable refusalOfStep refusal grantReceived invalidateReceived offerReceived batchReceived received readDecided askDecided deliverDecided performed decided target decision stepped
+unfolding Table two observed ran policy step clock foldFrom anyFrom allFrom firstFrom removeAt storeEach greatest inRange objectsIn bitAt setOf sets.removed less allIn pushed removed freshTables serverAlive clientAlive clientClock guardPassed endOver waits latestEnd opened awaited notified waited ready due agedIn aged clockSet deserted posted released completed settled written noted offered batched lowestWaited volumeRenewed objectRenewed granted mustDrop renewedBy renewed ackTaken acked ackStaged dropTaken disowned dropped dropStaged clearTaken notesDropped notesCleared serverRestarted showable stands forgotten swept sweptAll queueSound tablesSound copiesSound requestsSound sound known exists timely vacant growable refusalOfStep refusal grantReceived invalidateReceived offerReceived batchReceived received readDecided askDecided deliverDecided performed decided target decision stepped
 table = (refl, refl, refl, refl, refl, refl, refl)

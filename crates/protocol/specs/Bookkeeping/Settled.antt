@@ -18,7 +18,7 @@ use Rattle.protocol.specs.declared.tables.Tables.{Tables}
 use Rattle.protocol.specs.Setup.{volumeOf}
 use Rattle.protocol.specs.Tables.{standingAt, endAt}
 use Rattle.protocol.specs.Leases.{guardPassed, endOver}
-use Rattle.protocol.specs.Writes.{Counted, waited, ready, due, posted, completed, Staged, completeIf, settled, settling, clockStaged}
+use Rattle.protocol.specs.Writes.{Counted, waited, ready, due, posted, completed, Staged, completeIf, settled, settling, clockSet, clockStaged}
 use Rattle.protocol.specs.Ledger.{completion, settlingOf, isOpen, Ledger, book, bookAll}
 use Rattle.protocol.specs.Soundness.Shape.{Shape}
 use Rattle.protocol.specs.Bookkeeping.Booked.{Booked, SameWrites, same-booked, standing-open, completed-booked}
@@ -129,7 +129,7 @@ module _ (s : Setup) (T : ℕ) where
 
   -- after a clock step to T no standing write is past its latest end
   pub clock-ended : (t : Tables) → Ended T (s .objects) (settled s (clockStaged s t T))
-  unfolding settled
+  unfolding settled clockSet
   clock-ended t =
       fold-carries (Ended T) (completeIf (due s) s) (s .objects) turn-ended _ 0 (s .objects) (omega arith)
       (record { clock = refl; ends = λ o p e. absurd (omega arith) })

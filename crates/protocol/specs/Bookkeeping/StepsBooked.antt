@@ -24,7 +24,7 @@ use Rattle.protocol.specs.declared.tables.Tables.{Tables}
 use Rattle.protocol.specs.Setup.{volumeOf}
 use Rattle.protocol.specs.Messages.{messageAt}
 use Rattle.protocol.specs.Tables.{standingAt}
-use Rattle.protocol.specs.Writes.{unstaged, latestEnd, begun, ready, settled, settling, written, writeStaged, clockStaged}
+use Rattle.protocol.specs.Writes.{unstaged, latestEnd, begun, ready, settled, settling, written, clockSet, writeStaged, clockStaged}
 use Rattle.protocol.specs.Server.{noted, offered, volumeRenewed, objectRenewed, granted, lowestWaited, mustDrop, hasNotes, batched, renewedBy, renewed, ackTaken, acked, ackStaged, dropTaken, dropped, ofVolume, dropStaged, clearTaken, notesDropped, notesCleared, serverRestarted, stale, beingWritten}
 use Rattle.protocol.specs.Client.{showable, stands}
 use Rattle.protocol.specs.Sound.{kindSound}
@@ -33,13 +33,13 @@ use Rattle.protocol.specs.Answers.{reported, completedAnswer}
 use Rattle.protocol.specs.Decide.{Received, uncounted, kept, answered, counting, received, grantReceived, invalidateReceived, offerReceived, batchReceived, taken, performed, readDecided, askDecided, deliverDecided, restartDecided}
 use Rattle.protocol.specs.Ledger.{Event, acceptance, serverRestart, settlingOf, completions, receiptStaged, deliveryStaged, readEvents, clockEvents, writeEvents, happening, Ledger, book, bookAll}
 use Rattle.protocol.specs.Soundness.StepCases.{Accepted, by-kind, object-exists, place-exists, queue-fits, none-stands, clock-performed, read-performed, ask-performed, write-performed, deliver-performed, lose-performed, double-performed, server-performed, client-performed}
-use Rattle.protocol.specs.Soundness.Shape.{Shape, clock-shape, taken-shape}
+use Rattle.protocol.specs.Soundness.Shape.{Shape, taken-shape}
 use Rattle.protocol.specs.Soundness.Bounds.{Bounded, named-at}
 use Rattle.protocol.specs.Bookkeeping.Happening.{clock-happening, read-happening, ask-happening, write-happening, deliver-happening, lose-happening, double-happening, server-happening, client-happening}
 use Rattle.protocol.specs.Bookkeeping.Booked.{Booked, SameWrites, same-booked, begun-booked, restarted-booked}
 use Rattle.protocol.specs.Bookkeeping.Settled.{OpenEach, Settlement, StagedOn, settle, completions-counted, ready-stands, due-stands}
 use Rattle.protocol.specs.Ranges.{Ranges}
-use Rattle.protocol.specs.Soundness.ShapeKept.{written-shape, acked-shape, dropped-shape}
+use Rattle.protocol.specs.Soundness.ShapeKept.{written-shape, clock-set-shape, acked-shape, dropped-shape}
 
 -- ---- what an answer reports
 reported-completed : (n : ℕ) → reported (completedAnswer n) ≡ n
@@ -81,7 +81,8 @@ unstaged-on : (s : Setup) (t : Tables) → Shape t → StagedOn s t (unstaged t)
 unstaged-on s t k = record { same = objects-same t t refl; shape = k; stands = λ u o e. not-both e refl; fits = omega arith }
 
 pub clock-on : (s : Setup) (t : Tables) (T : ℕ) → Shape t → StagedOn s t (clockStaged s t T)
-clock-on s t T k = record { same = objects-same t _ refl; shape = clock-shape t T k; stands = due-stands s; fits = omega arith }
+unfolding clockSet
+clock-on s t T k = record { same = objects-same t _ refl; shape = clock-set-shape s t T k; stands = due-stands s; fits = omega arith }
 
 pub write-on : (s : Setup) (t : Tables) (o y : ℕ) → o < s .objects → Shape t → StagedOn s (begun s t o y) (writeStaged s t o y)
 unfolding written

@@ -15,7 +15,7 @@ use Rattle.protocol.specs.declared.tables.Tables.{Tables}
 use Rattle.protocol.specs.Setup.{volumeOf}
 use Rattle.protocol.specs.Tables.{byVolume, waitingAt, batchAt, withSessions}
 use Rattle.protocol.specs.Updates.{withUnreachable, withNotes, withBatch}
-use Rattle.protocol.specs.Writes.{marked, markIfWaiting, deserted}
+use Rattle.protocol.specs.Writes.{marked, ages, ageAt, agedIn, aged, markIfWaiting, deserted}
 use Rattle.protocol.specs.World.{World}
 use Rattle.protocol.specs.Ranges.{Ranges}
 use Rattle.protocol.specs.Soundness.Shape.{SessionsShape}
@@ -161,6 +161,24 @@ module _ (s : Setup) (range : Ranges s) (x : Sessions) (shape : SessionsShape x)
     excuses = λ k u o hk hu ho. excused-grows _ _ k u o _ _ (λ e. marked-excused _ _ k u o (marked-stays k u hu e)) (noted-still k u o hu);
     batches = λ k u hk hu. ⊎-elim (λ a. inl (a .2)) (λ a. inr (a .1, off-place (at-notes k u hu) (a .0), off-place (at-mark k u hu) (a .0))) (at-batch k u hu);
   }
+
+-- ---- those marked whose notes have aged
+module _ (s : Setup) (range : Ranges s) (clock : ℕ) where
+  -- what is kept on the way from x
+  abbrev Doubting : Sessions → Sessions → Type 0
+  Doubting x y = SessionsShape y × Doubted s x y
+
+  age-turn : (x : Sessions) (d : ℕ) → d < s .clients → (y : Sessions) (v : ℕ) → v < s .volumes → Doubting x y → Doubting x (ageAt s clock d y v)
+  age-turn x d hd y v hv p =
+      cond-keeps (Doubting x) (ages s clock y d v) (λ e. (marked-shape y d v (p .0), doubted-on (p .1) (marked-doubts s range y (p .0) d v hd hv))) (λ e. p)
+
+  age-client : (x y : Sessions) (d : ℕ) → d < s .clients → Doubting x y → Doubting x (agedIn s clock y d)
+  unfolding agedIn
+  age-client x y d hd p = fold-keeps-in (Doubting x) (ageAt s clock d) (s .volumes) (age-turn x d hd) y 0 (s .volumes) (omega arith) p
+
+  pub aged-doubts : (x : Sessions) → SessionsShape x → Doubted s x (aged s clock x)
+  unfolding aged
+  aged-doubts x h = fold-keeps-in (Doubting x) (agedIn s clock) (s .clients) (age-client x) x 0 (s .clients) (omega arith) (h, undoubted s x) .1
 
 -- ---- those marked whom a write that completes still waits for
 module _ (s : Setup) (t : Tables) (o : ℕ) (range : Ranges s) (ho : o < s .objects) (shape : SessionsShape (t .sessions)) where

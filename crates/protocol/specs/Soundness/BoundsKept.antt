@@ -30,8 +30,8 @@ use Rattle.protocol.specs.Decide.{performed, readDecided, askDecided, de
 use Rattle.protocol.specs.World.{World, stepped}
 use Rattle.protocol.specs.Ledger.{accepts}
 use Rattle.protocol.specs.Soundness.StepCases.{Accepted, accepted, setup-in-range, copyOf, requestOf, tables-after, copies-after, requests-after, refused-keeps, by-kind, client-exists, object-exists, clock-grows, version-grows, clock-performed, read-performed, ask-performed, write-performed, deliver-performed, lose-performed, double-performed, server-performed, client-performed}
-use Rattle.protocol.specs.Soundness.Bounds.{Bounded, CopyBounded, RequestBounded, WorldBounded, clock-bounded, views-bounded, sent-bounded, taken-bounded, named-at}
-use Rattle.protocol.specs.Soundness.Written.{written-bounded, settled-bounded}
+use Rattle.protocol.specs.Soundness.Bounds.{Bounded, CopyBounded, RequestBounded, WorldBounded, views-bounded, sent-bounded, taken-bounded, named-at}
+use Rattle.protocol.specs.Soundness.Written.{written-bounded, clock-set-bounded, settled-bounded}
 use Rattle.protocol.specs.Soundness.Received.{Leaves, unchanged, received-bounded, server-bounded, client-bounded, ended-bounded}
 
 abbrev Decided : Setup → Copy → Request → Decision → Type 0
@@ -68,7 +68,7 @@ module _ (s : Setup) (rs : Ranges s) (t : Tables) (c : Copy) (r : Request) (h : 
   performed-bounded : (b : Bool) (x : Step) → Accepted s t b r x → Decided s c r (performed s t c r x)
   performed-bounded b x a =
       by-kind (Decided s c r (performed s t c r x)) x (a .passes .knows)
-      (λ e. rw (clock-performed s t c r x e) (unchanged (settled-bounded s _ (clock-bounded (x .clock) (clock-grows (a .passes) e .1) h))))
+      (λ e. rw (clock-performed s t c r x e) (unchanged (settled-bounded s _ (clock-set-bounded s t (x .clock) (clock-grows (a .passes) e .1) h))))
       (λ e. rw (read-performed s t c r x e) (read-bounded (x .client) (x .object)))
       (λ e. rw (ask-performed s t c r x e) (ask-bounded (x .client) (x .object) (client-exists (a .passes) (rw e)) (object-exists (a .passes) (rw e))))
       (λ e. rw (write-performed s t c r x e) (unchanged (settled-bounded s _ (written-bounded s t (x .object) (x .value) rs (object-exists (a .passes) (rw e)) (version-grows (a .passes) e) h))))

@@ -25,7 +25,7 @@ use Rattle.protocol.specs.declared.tables.Views.{Views}
 use Rattle.protocol.specs.declared.tables.Tables.{Tables}
 use Rattle.protocol.specs.Setup.{volumeOf}
 use Rattle.protocol.specs.Tables.{waitingAt}
-use Rattle.protocol.specs.Writes.{Counted, Staged, opened, awaited, begun, notify, notified, deserted, marked, markIfWaiting, posted, released, completed, completeIf, settled, written}
+use Rattle.protocol.specs.Writes.{Counted, Staged, opened, awaited, begun, notify, notified, deserted, marked, markIfWaiting, ages, ageAt, agedIn, aged, clockSet, posted, released, completed, completeIf, settled, written}
 use Rattle.protocol.specs.Server.{noted, offered, volumeRenewed, objectRenewed, granted, lowestWaited, mustDrop, hasNotes, batched, renewedBy, renewed, ackTaken, acked, ackStaged, dropTaken, disowned, dropped, dropStaged, clearTaken, notesDropped, notesCleared, serverRestarted, stale, beingWritten}
 use Rattle.protocol.specs.Client.{showable, stands, viewed, sweepAt, sweptAll, clientRestarted}
 use Rattle.protocol.specs.Gate.{usesPlace}
@@ -59,6 +59,16 @@ deserted-shape : (s : Setup) (t : Tables) (o : ℕ) → SessionsShape (t .sessio
 unfolding deserted
 deserted-shape s t o h =
     fold-keeps SessionsShape (markIfWaiting s t o) (λ x d k. cond-keeps SessionsShape (waitingAt t d o) (λ e. marked-shape x d (volumeOf s o) k) (λ e. k)) (t .sessions) 0 (s .clients) h
+
+aged-shape : (s : Setup) (clock : ℕ) (x : Sessions) → SessionsShape x → SessionsShape (aged s clock x)
+unfolding aged agedIn
+aged-shape s clock x h =
+    fold-keeps SessionsShape (agedIn s clock)
+    (λ y d k. fold-keeps SessionsShape (ageAt s clock d) (λ z v l. cond-keeps SessionsShape (ages s clock z d v) (λ e. marked-shape z d v l) (λ e. l)) y 0 (s .volumes) k) x 0 (s .clients) h
+
+pub clock-set-shape : (s : Setup) (t : Tables) (clock : ℕ) → Shape t → Shape (clockSet s t clock)
+unfolding clockSet
+clock-set-shape s t clock h = sessions-shape (aged-shape s clock (t .sessions) (h .sessions)) (clock-shape t clock h)
 
 pub completed-shape : (s : Setup) (t : Tables) (o : ℕ) → Shape t → Shape (completed s t o)
 unfolding completed posted released
@@ -187,7 +197,7 @@ restart-shape s t d h = views-shape (client-shape s (t .views) d (h .views)) h
 performed-shape : (s : Setup) (t : Tables) (b : Bool) (c : Copy) (r : Request) (x : Step) → Accepted s t b r x → Shape t → Shape (performed s t c r x .outcome .tables)
 performed-shape s t b c r x a h =
     by-kind (Shape (performed s t c r x .outcome .tables)) x (a .passes .knows)
-    (λ e. rw (clock-performed s t c r x e) (settled-shape s _ (clock-shape t (x .clock) h)))
+    (λ e. rw (clock-performed s t c r x e) (settled-shape s _ (clock-set-shape s t (x .clock) h)))
     (λ e. rw (read-performed s t c r x e) (read-shape s t c (x .client) (x .object) h))
     (λ e. rw (ask-performed s t c r x e) (ask-shape s t c r (x .client) (x .object) h))
     (λ e. rw (write-performed s t c r x e) (settled-shape s _ (written-shape s t (x .object) (x .value) h)))

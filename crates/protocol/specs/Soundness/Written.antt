@@ -1,6 +1,6 @@
 -- Accepting a write and completing one keep the bounds of question 1.
 -- h says that they hold; o is the object of the write, k another one, d a client; x is the value, v says that the version can grow.
-use Prim.Native.Nat.{ℕ, _+_, _<_}
+use Prim.Native.Nat.{ℕ, _+_, _<_, _≤_}
 use native.Mathlib.Omega.{arith}
 use mathlib.Core.Bool.{true, false}
 use mathlib.Core.Logic.{⊎-elim}
@@ -18,10 +18,11 @@ use Rattle.protocol.specs.declared.tables.Tables.{Tables}
 use Rattle.protocol.specs.Setup.{volumeOf, objectsIn}
 use Rattle.protocol.specs.Ranges.{Ranges}
 use Rattle.protocol.specs.Tables.{byVolume, byObject, waitingAt, versionAt}
-use Rattle.protocol.specs.Writes.{Counted, Staged, latestEnd, opened, awaited, begun, invalidation, notify, notified, marked, markIfWaiting, deserted, posted, released, completed, completeIf, settled, written}
+use Rattle.protocol.specs.Writes.{Counted, Staged, latestEnd, opened, awaited, begun, invalidation, notify, notified, marked, markIfWaiting, ages, ageAt, agedIn, aged, clockSet, deserted, posted, released, completed, completeIf, settled, written}
 use Rattle.protocol.specs.LatestEnd.{ends-by}
+use Rattle.protocol.specs.Sound.{clockLimit}
 use Rattle.protocol.specs.SoundLaws.{not-cleared}
-use Rattle.protocol.specs.Soundness.Bounds.{Timed, Started, Named, SessionsBounded, ObjectsBounded, QueueBounded, Bounded, unreachable-bounded, notes-bounded, batch-bounded, set-fits, value-bounded, version-bounded, write-bounded, lease-bounded, waiting-bounded, sessions-bounded, objects-bounded, holders-bounded, queue-bounded, pushed-bounded}
+use Rattle.protocol.specs.Soundness.Bounds.{Timed, Started, Named, SessionsBounded, ObjectsBounded, QueueBounded, Bounded, unreachable-bounded, notes-bounded, batch-bounded, set-fits, value-bounded, version-bounded, write-bounded, lease-bounded, waiting-bounded, clock-bounded, sessions-bounded, objects-bounded, holders-bounded, queue-bounded, pushed-bounded}
 
 module _ (s : Setup) where
   -- ---- a write accepted
@@ -73,6 +74,17 @@ module _ (s : Setup) where
   unfolding deserted
   deserted-bounded t o h =
       fold-keeps (SessionsBounded s) (markIfWaiting s t o) (λ x d k. cond-keeps (SessionsBounded s) (waitingAt t d o) (λ e. marked-bounded x d (volumeOf s o) k) (λ e. k)) (t .sessions) 0 (s .clients) h
+
+  aged-bounded : (clock : ℕ) (x : Sessions) → SessionsBounded s x → SessionsBounded s (aged s clock x)
+  unfolding aged agedIn
+  aged-bounded clock x h =
+      fold-keeps (SessionsBounded s) (agedIn s clock)
+      (λ y d k. fold-keeps (SessionsBounded s) (ageAt s clock d) (λ z v l. cond-keeps (SessionsBounded s) (ages s clock z d v) (λ e. marked-bounded z d v l) (λ e. l)) y 0 (s .volumes) k)
+      x 0 (s .clients) h
+
+  pub clock-set-bounded : (t : Tables) (clock : ℕ) → clock ≤ clockLimit → Bounded s t → Bounded s (clockSet s t clock)
+  unfolding clockSet
+  clock-set-bounded t clock k h = sessions-bounded (aged-bounded clock (t .sessions) (h .sessions)) (clock-bounded clock k h)
 
   completed-bounded : (t : Tables) (o : ℕ) → Bounded s t → Bounded s (completed s t o)
   unfolding completed released
