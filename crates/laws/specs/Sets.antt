@@ -3,13 +3,13 @@ use Prim.Native.Nat.{ℕ, zero, suc, _+_, _*_, _/_, _%_, _^_, _<_, _≤_}
 use native.Mathlib.Nat.{le-of-suc-le-suc, lt-of-lt-of-le}
 use native.Mathlib.Omega.{arith}
 use mathlib.Core.Bool.{Bool, true, false, cond, not, _&&_, _||_}
-use mathlib.Core.Logic.{_⊎_, inl, inr}
+use mathlib.Core.Logic.{_⊎_, inl, inr, ⊎-elim}
 use mathlib.Core.Path.{_≡_, refl, sym, ap, ap₂, _∙_}
 use lib.Dec.{eqb, ltb, lit<}
 use lib.Arith.{digits-div, digits-mod, lt-one}
 use lib.Pow.{pow-mono}
 use borrow.Author.Tests.{eq-eqb, ne-eqb, eqb-true, eqb-false, ltb-true, ltb-false}
-use Rattle.laws.specs.Choice.{cond-keeps, true-or-false, not-both, same?, and-true, and-yes, and-no}
+use Rattle.laws.specs.Choice.{cond-keeps, true-or-false, not-both, same?, and-true, or-true, and-yes, and-no}
 use Rattle.laws.specs.Loop.{allFrom, all-each, all-of}
 
 -- whether k is a member of m
@@ -108,7 +108,11 @@ set-is p (suc n) m h e =
 set-back : (m n : ℕ) → m < 2 ^ n → setOf (bitAt m) n ≡ m
 set-back m n h = sym (set-is (bitAt m) n m h (λ k i. refl))
 
--- the bits of what is left
+-- the bits of each
+pub bit-added : (m k j : ℕ) → j < 32 → bitAt (added m k) j ≡ bitAt m j || eqb j k
+unfolding added
+bit-added m k j h = set-in _ 32 j h
+
 pub bit-removed : (m k j : ℕ) → j < 32 → bitAt (removed m k) j ≡ bitAt m j && not (eqb j k)
 unfolding removed
 bit-removed m k j h = set-in _ 32 j h
@@ -131,12 +135,16 @@ in-all p m f = all-of (λ k. not (bitAt m k) || p k) 32 (λ k h. pick k (f k h) 
     pick k g (inl e) = rw e (g e)
     pick k g (inr e) = rw e
 
--- the empty set is within every set, and a part of a set within what the set is in
+-- the empty set is within every set; where a set is within c, so is a part of it, and so is it with one more member of c
 pub within-none : (b : ℕ) → within 0 b ≡ true
 within-none b = in-all (bitAt b) 0 (λ k h e. not-both e (bit-none k))
 
 pub within-less : (a b c : ℕ) → within a c ≡ true → within (less a b) c ≡ true
 within-less a b c w = in-all (bitAt c) (less a b) (λ k h e. all-in (bitAt c) a w k h (and-true _ _ (sym (bit-less a b k h) ∙ e) .0))
+
+pub within-added : (a k c : ℕ) → bitAt c k ≡ true → within a c ≡ true → within (added a k) c ≡ true
+within-added a k c m w =
+    in-all (bitAt c) (added a k) (λ j h e. ⊎-elim (all-in (bitAt c) a w j h) (λ q. rw (eqb-true j k q) m) (or-true _ _ (sym (bit-added a k j h) ∙ e)))
 
 -- ---- a set that is made member by member
 

@@ -1,4 +1,4 @@
--- Three runs worked through by computation. Every message is delivered, and lost, from place 0.
+-- Four runs worked through by computation. Every message is delivered, and lost, from place 0.
 use Prim.Native.Nat.{ℕ}
 use mathlib.Core.Bool.{Bool, true, false}
 use mathlib.Core.List.{List, [], _∷_, _++_, map}
@@ -8,18 +8,18 @@ use Rattle.laws.specs.Loop.{foldFrom, anyFrom, allFrom, firstFrom, countFrom}
 use Rattle.laws.specs.Lists.{removeAt}
 use Rattle.laws.specs.Store.{storeEach}
 use Rattle.laws.specs.Greatest.{greatest}
-use Rattle.laws.specs.Sets.{bitAt, setOf, less, allIn}
+use Rattle.laws.specs.Sets.{bitAt, setOf, added, less, allIn}
 use Rattle.laws.specs.Sets as sets
 use Rattle.protocol.specs.declared.message.Message.{Message}
-use Rattle.protocol.specs.declared.message.Kind.the-variants.{Grant}
+use Rattle.protocol.specs.declared.message.Kind.the-variants.{Grant, Batch, Cleared}
 use Rattle.protocol.specs.declared.message.Payload.the-variants.{Same}
 use Rattle.protocol.specs.declared.setup.Setup.{Setup}
 use Rattle.protocol.specs.declared.step.Step.{Step}
 use Rattle.protocol.specs.Setup.{inRange, objectsIn}
-use Rattle.protocol.specs.Messages.{message, messageAt, pushed, removed}
-use Rattle.protocol.specs.Tables.{freshTables}
+use Rattle.protocol.specs.Messages.{message, messages, messageAt, pushed, removed}
+use Rattle.protocol.specs.Tables.{unreachableAt, notesAt, batchAt, freshTables}
 use Rattle.protocol.specs.Leases.{serverAlive, clientAlive, clientClock, guardPassed, endOver}
-use Rattle.protocol.specs.Writes.{waits, latestEnd, opened, awaited, notified, waited, ready, due, agedIn, aged, clockSet, deserted, posted, released, completed, settled, settling, written}
+use Rattle.protocol.specs.Writes.{waits, delays, delayed, latestEnd, opened, awaited, notified, waited, ready, due, agedIn, aged, clockSet, deserted, posted, released, completed, settled, settling, written}
 use Rattle.protocol.specs.Server.{noted, offered, batched, lowestWaited, volumeRenewed, objectRenewed, granted, mustDrop, renewedBy, renewed, ackTaken, acked, ackStaged, dropTaken, disowned, dropped, dropStaged, clearTaken, notesDropped, notesCleared, serverRestarted}
 use Rattle.protocol.specs.Client.{showable, stands, forgotten, swept, sweptAll}
 use Rattle.protocol.specs.Sound.{queueSound, tablesSound, copiesSound, requestsSound, sound}
@@ -86,7 +86,7 @@ answerValues =
 pub worked-through : (history tiny steps ≡ eventsTold)
     × (map answerNumber (answers tiny (freshWorld tiny) steps) ≡ answerNumbers)
     × (map answerValue (answers tiny (freshWorld tiny) steps) ≡ answerValues)
-unfolding eventsTold answerNumbers answerValues answers tiny step clock lose restart write steps told historyFrom events happening foldFrom anyFrom allFrom firstFrom removeAt storeEach greatest inRange objectsIn bitAt setOf sets.removed less allIn pushed removed freshTables serverAlive clientAlive clientClock guardPassed endOver waits latestEnd opened awaited notified waited ready due agedIn aged clockSet deserted posted released completed settled settling written noted offered batched lowestWaited volumeRenewed objectRenewed granted mustDrop renewedBy renewed ackTaken acked ackStaged dropTaken disowned dropped dropStaged clearTaken notesDropped notesCleared serverRestarted showable stands forgotten swept sweptAll queueSound tablesSound copiesSound requestsSound sound known exists timely vacant growable refusalOfStep refusal grantReceived invalidateReceived offerReceived batchReceived received readDecided askDecided deliverDecided performed decided target decision stepped
+unfolding eventsTold answerNumbers answerValues answers tiny step clock lose restart write steps told historyFrom events happening foldFrom anyFrom allFrom firstFrom removeAt storeEach greatest inRange objectsIn bitAt setOf sets.removed added less allIn pushed removed freshTables serverAlive clientAlive clientClock guardPassed endOver waits delays delayed latestEnd opened awaited notified waited ready due agedIn aged clockSet deserted posted released completed settled settling written noted offered batched lowestWaited volumeRenewed objectRenewed granted mustDrop renewedBy renewed ackTaken acked ackStaged dropTaken disowned dropped dropStaged clearTaken notesDropped notesCleared serverRestarted showable stands forgotten swept sweptAll queueSound tablesSound copiesSound requestsSound sound known exists timely vacant growable refusalOfStep refusal grantReceived invalidateReceived offerReceived batchReceived received readDecided askDecided deliverDecided performed decided target decision stepped
 worked-through = (refl, refl, refl)
 
 -- accepted = completed + cut off + open
@@ -117,7 +117,7 @@ writeUnheard = write 7 ∷ lose 0 ∷ clock 12 ∷ clock 13 ∷ []
 pub never-held : (history twoClients (takenApart ++ writeUnheard) ≡ clockStep 13 ∷ completion 0 ∷ clockStep 12 ∷ acceptance 0 7 12 ∷ clockStep 9 ∷ [])
     × (latestEnd twoClients (ran twoClients (freshWorld twoClients) takenApart .tables) 0 ≡ 12)
     × (formerEnd twoClients (ran twoClients (freshWorld twoClients) takenApart .tables) 0 ≡ 19)
-unfolding twoClients takenApart writeUnheard formerEnd ran step clock lose write told historyFrom events happening foldFrom anyFrom allFrom firstFrom removeAt storeEach greatest inRange objectsIn bitAt setOf sets.removed less allIn pushed removed freshTables serverAlive clientAlive clientClock guardPassed endOver waits latestEnd opened awaited notified waited ready due agedIn aged clockSet deserted posted released completed settled settling written noted offered batched lowestWaited volumeRenewed objectRenewed granted mustDrop renewedBy renewed ackTaken acked ackStaged dropTaken disowned dropped dropStaged clearTaken notesDropped notesCleared serverRestarted showable stands forgotten swept sweptAll queueSound tablesSound copiesSound requestsSound sound known exists timely vacant growable refusalOfStep refusal grantReceived invalidateReceived offerReceived batchReceived received readDecided askDecided deliverDecided performed decided target decision stepped
+unfolding twoClients takenApart writeUnheard formerEnd ran step clock lose write told historyFrom events happening foldFrom anyFrom allFrom firstFrom removeAt storeEach greatest inRange objectsIn bitAt setOf sets.removed added less allIn pushed removed freshTables serverAlive clientAlive clientClock guardPassed endOver waits delays delayed latestEnd opened awaited notified waited ready due agedIn aged clockSet deserted posted released completed settled settling written noted offered batched lowestWaited volumeRenewed objectRenewed granted mustDrop renewedBy renewed ackTaken acked ackStaged dropTaken disowned dropped dropStaged clearTaken notesDropped notesCleared serverRestarted showable stands forgotten swept sweptAll queueSound tablesSound copiesSound requestsSound sound known exists timely vacant growable refusalOfStep refusal grantReceived invalidateReceived offerReceived batchReceived received readDecided askDecided deliverDecided performed decided target decision stepped
 never-held = (refl, refl, refl)
 
 -- ---- 02, A4: "a matching GRANT without a value"
@@ -133,5 +133,29 @@ met w = (w .tables .queue .len, messageAt (w .tables .queue) 0, copyAt tiny (w .
 -- the GRANT meets the version that it names; once the client has restarted, its number stands no more and no copy is there
 pub asked-again : (met (ran tiny (freshWorld tiny) askedAgain) ≡ (1, message 0 (Grant 0 3 10 1 1 100 Same), 1, true))
     × (met (ran tiny (freshWorld tiny) (askedAgain ++ (step 9 0 0 0 ∷ []))) ≡ (1, message 0 (Grant 0 3 10 1 1 100 Same), 0, false))
-unfolding askedAgain tiny ran step foldFrom allFrom firstFrom removeAt storeEach inRange objectsIn bitAt setOf sets.removed less allIn pushed removed freshTables ready settled noted offered batched lowestWaited volumeRenewed objectRenewed granted mustDrop renewedBy renewed dropTaken disowned dropped dropStaged stands swept sweptAll queueSound tablesSound copiesSound requestsSound sound known exists timely vacant growable refusalOfStep refusal grantReceived offerReceived received askDecided deliverDecided restartDecided performed decided target decision stepped
+unfolding askedAgain tiny ran step foldFrom allFrom firstFrom removeAt storeEach inRange objectsIn bitAt setOf sets.removed added less allIn pushed removed freshTables ready settled noted offered batched lowestWaited volumeRenewed objectRenewed granted mustDrop renewedBy renewed dropTaken disowned dropped dropStaged stands swept sweptAll queueSound tablesSound copiesSound requestsSound sound known exists timely vacant growable refusalOfStep refusal grantReceived offerReceived received askDecided deliverDecided restartDecided performed decided target decision stepped
 asked-again = (refl, refl)
+
+-- ---- 02, A6: "Delayed invalidations"
+
+-- client 0 takes the object, its volume lease runs out at 10, and a write comes: nobody is waited for
+pub parked : List Step
+parked = ask 0 0 ∷ deliver ∷ deliver ∷ deliver ∷ ask 0 0 ∷ deliver ∷ deliver ∷ clock 10 ∷ write 7 ∷ []
+
+-- what the server has of the client: its notes, the batch last sent, the mark; and what is under way
+abbrev pub kept : List Step → ℕ × ℕ × Bool × List Message
+kept xs =
+    let t = ran tiny (freshWorld tiny) xs .tables in
+    (notesAt t 0 0, batchAt t 0 0, unreachableAt t 0 0, messages (t .queue))
+
+-- the object is noted; the RENEW is answered by the BATCH, that by the CLEARED, which drops the note; then the client asks again and is shown the new value
+pub parked-client : (kept parked ≡ (1, 0, false, []))
+    × (kept (parked ++ (ask 0 0 ∷ deliver ∷ [])) ≡ (1, 3, false, message 0 (Batch 0 3 1 1) ∷ []))
+    × (kept (parked ++ (ask 0 0 ∷ deliver ∷ deliver ∷ [])) ≡ (1, 3, false, message 0 (Cleared 0 3 1 1) ∷ []))
+    × (kept (parked ++ (ask 0 0 ∷ deliver ∷ deliver ∷ deliver ∷ [])) ≡ (0, 0, false, []))
+    × (history tiny (parked ++ (ask 0 0 ∷ deliver ∷ deliver ∷ deliver ∷ ask 0 0 ∷ deliver ∷ deliver ∷ read 0 0 ∷ [])) ≡ showing 0 0 7 ∷ completion 0 ∷ acceptance 0 7 13 ∷ clockStep 10 ∷ [])
+    -- "A clock step to volume expiry + d or later .. marks a noted dash unreachable", and not an earlier one
+    × (kept (parked ++ (clock 10 ∷ [])) ≡ (1, 0, false, []))
+    × (kept (parked ++ (clock 11 ∷ [])) ≡ (0, 0, true, []))
+unfolding tiny parked ran step clock write told historyFrom events happening foldFrom anyFrom allFrom firstFrom removeAt storeEach greatest inRange objectsIn bitAt setOf sets.removed added less allIn pushed removed freshTables serverAlive clientAlive clientClock guardPassed endOver waits delays delayed latestEnd opened awaited notified waited ready due agedIn aged clockSet deserted posted released completed settled settling written noted offered batched lowestWaited volumeRenewed objectRenewed granted mustDrop renewedBy renewed ackTaken acked ackStaged dropTaken disowned dropped dropStaged clearTaken notesDropped notesCleared serverRestarted showable stands forgotten swept sweptAll queueSound tablesSound copiesSound requestsSound sound known exists timely vacant growable refusalOfStep refusal grantReceived invalidateReceived offerReceived batchReceived received readDecided askDecided deliverDecided performed decided target decision stepped
+parked-client = (refl, refl, refl, refl, refl, refl, refl)

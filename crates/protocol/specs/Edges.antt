@@ -19,7 +19,7 @@ use Rattle.protocol.specs.Messages.{message, pushed, removed}
 use Rattle.protocol.specs.Tables.{valueAt, standingAt, withClock, withVolumes, withObjects, withHolders, withQueue, freshVolumes, freshObjects, freshHolders, freshTables}
 use Rattle.protocol.specs.Updates.{withVolumeExpiry, withGuard, setWrite, setWaiting}
 use Rattle.protocol.specs.Leases.{serverAlive, clientAlive, clientClock, guardPassed, endOver}
-use Rattle.protocol.specs.Writes.{waits, latestEnd, opened, awaited, notified, waited, ready, due, aged, agedIn, clockSet, deserted, posted, released, completed, settled, written}
+use Rattle.protocol.specs.Writes.{waits, delays, delayed, latestEnd, opened, awaited, notified, waited, ready, due, aged, agedIn, clockSet, deserted, posted, released, completed, settled, written}
 use Rattle.protocol.specs.Client.{swept, sweptAll}
 use Rattle.protocol.specs.Sound.{queueSound, tablesSound, copiesSound, requestsSound, sound}
 use Rattle.protocol.specs.Answers.{answerNumber, answerValue}
@@ -104,5 +104,5 @@ Table =
     × (answer (standing-until 20 20 false) (clock 20) ≡ (3, 1)) × (stands-after (standing-until 20 20 false) (clock 20) ≡ false)
 
 pub edges : Table
-unfolding Table tiny step clock write lose double with-tables standing-until full-list full at-clock-5 answer after stands-after value-after foldFrom anyFrom allFrom firstFrom removeAt storeEach greatest inRange pushed removed freshTables serverAlive clientAlive clientClock guardPassed endOver waits latestEnd opened awaited notified waited ready due aged agedIn clockSet deserted posted released completed settled written swept sweptAll queueSound tablesSound copiesSound requestsSound sound objectsIn setOf bitAt allIn known exists timely vacant growable refusalOfStep refusal performed decided target decision stepped
+unfolding Table tiny step clock write lose double with-tables standing-until full-list full at-clock-5 answer after stands-after value-after foldFrom anyFrom allFrom firstFrom removeAt storeEach greatest inRange pushed removed freshTables serverAlive clientAlive clientClock guardPassed endOver waits delays delayed latestEnd opened awaited notified waited ready due aged agedIn clockSet deserted posted released completed settled written swept sweptAll queueSound tablesSound copiesSound requestsSound sound objectsIn setOf bitAt allIn known exists timely vacant growable refusalOfStep refusal performed decided target decision stepped
 edges = (refl, refl, refl, refl, refl, refl, refl, refl, refl, refl, refl, refl, refl, refl, refl, refl, refl, refl, refl, refl, refl, refl, refl)

@@ -20,7 +20,7 @@ use Rattle.protocol.specs.LatestEnd.{ends-by}
 use Rattle.protocol.specs.World.{World, freshWorld, ran}
 use Rattle.protocol.specs.Safety.Invariant.{Inv}
 use Rattle.protocol.specs.Safety.Tools.{dead-ended}
-use Rattle.protocol.specs.Safety.Beginning.{unwaited}
+use Rattle.protocol.specs.Safety.Beginning.{unwaited-dead}
 use Rattle.protocol.specs.Reached.{run-safe}
 
 -- The old rule, 01, Step 4: "latest end is the greatest of clock + m, the lesser of VE and OE, and guard"
@@ -38,9 +38,9 @@ pub never-later : (s : Setup) → inRange s ≡ true → (xs : List Step) (o : �
     → latestEnd s (ran s (freshWorld s) xs .tables) o ≤ formerEnd s (ran s (freshWorld s) xs .tables) o
 never-later s i xs o ho = safe-never-later s (ran s (freshWorld s) xs) o (ranges s i) (run-safe s i xs) ho
 
--- who is not waited for has a dead lease
+-- who is not waited for has a lease that has ended
 unwaited-lapsed : (s : Setup) (t : Tables) (o d : ℕ) → waits s t o d ≡ false → leasedUntil s t o d ≤ t .clock
-unwaited-lapsed s t o d e = ⊎-elim (λ p. omega (arith, dead-ended _ _ p)) (λ p. omega (arith, dead-ended _ _ (p .0))) (unwaited s t o d e)
+unwaited-lapsed s t o d e = ⊎-elim (λ p. omega (arith, dead-ended _ _ p)) (λ p. omega (arith, dead-ended _ _ p)) (unwaited-dead s t o d e)
 
 pub end-over-all : (s : Setup) (t : Tables) (o : ℕ) → latestEnd s t o ≡ greatest always (leasedUntil s t o) (max (t .clock + s .m) (guardAt t (volumeOf s o))) (s .clients)
 unfolding latestEnd

@@ -10,6 +10,7 @@ pub mod Time
 pub mod Marks
 pub mod Completing
 pub mod Settling
+pub mod Delaying
 pub mod Beginning
 pub mod ClockAndWrite
 pub mod Requests

@@ -7,7 +7,7 @@ use mathlib.Core.List.{List, [], _∷_}
 use lib.Dec.{leb, eqb}
 use lib.ListN.{getD}
 use Rattle.laws.specs.Loop.{foldFrom, anyFrom}
-use Rattle.laws.specs.Sets.{setOf}
+use Rattle.laws.specs.Sets.{added, setOf}
 use Rattle.laws.specs.Store.{storeEach, always}
 use Rattle.laws.specs.Greatest.{greatest}
 use Rattle.protocol.specs.declared.message.Message.{Message}
@@ -24,11 +24,16 @@ use Rattle.protocol.specs.Tables.{byVolume, byObject, epochAt, guardAt, 
 use Rattle.protocol.specs.Updates.{setUnreachable, setNotes, setBatch, setValue, setVersion, setWrite, withLease, setWaiting}
 use Rattle.protocol.specs.Leases.{serverAlive, guardPassed, endOver}
 
--- Step 4: "Waiting are the dashes whose object lease is alive and which either are not marked unreachable or have a live volume lease."
+-- Step 4: "Waiting are the dashes whose object lease is alive and which either are not marked unreachable or have a live volume lease." 02, A6: "a reachable
+-- dash with a live object lease and a dead volume lease is no longer waited for", so both leases are alive, and the mark plays no part
 unfoldable pub waits : Setup → Tables → ℕ → ℕ → Bool
-waits s t o d =
+waits s t o d = serverAlive (t .clock) (leaseAt t d o) && serverAlive (t .clock) (sessionExpiryAt t d (volumeOf s o))
+
+-- ".. a reachable dash with a live object lease and a dead volume lease": whose invalidation is put off
+unfoldable pub delays : Setup → Tables → ℕ → ℕ → Bool
+delays s t o d =
     serverAlive (t .clock) (leaseAt t d o)
-    && (not (unreachableAt t d (volumeOf s o)) || serverAlive (t .clock) (sessionExpiryAt t d (volumeOf s o)))
+    && (not (serverAlive (t .clock) (sessionExpiryAt t d (volumeOf s o))) && not (unreachableAt t d (volumeOf s o)))
 
 -- until when a client may show its copy, as far as the server knows
 abbrev pub leasedUntil : Setup → Tables → ℕ → ℕ → ℕ
@@ -45,8 +50,19 @@ opened s t o x = setWrite (t .objects) o true x (latestEnd s t o)
 unfoldable pub awaited : Setup → Tables → ℕ → Holders
 awaited s t o = setWaiting (t .holders) o (setOf (waits s t o) (s .clients))
 
+-- "the object goes on its list of notes for that volume"; "a later note voids that batch"
+abbrev pub putOff : Sessions → ℕ → ℕ → ℕ → Sessions
+putOff x d v o = setBatch (setNotes x d v (added (getD (x .notes) (byVolume d v) 0) o)) d v 0
+
+-- for one client, and for all in their order: a note changes nothing that decides about the next
+abbrev pub delayIf : Setup → Tables → ℕ → Sessions → ℕ → Sessions
+delayIf s t o x d = cond (delays s (withSessions t x) o d) (putOff x d (volumeOf s o) o) x
+
+unfoldable pub delayed : Setup → Tables → ℕ → Sessions
+delayed s t o = foldFrom (delayIf s t o) (t .sessions) 0 (s .clients)
+
 abbrev pub begun : Setup → Tables → ℕ → ℕ → Tables
-begun s t o x = withHolders (withObjects t (opened s t o x)) (awaited s t o)
+begun s t o x = withHolders (withObjects (withSessions t (delayed s t o)) (opened s t o x)) (awaited s t o)
 
 -- an INVALIDATE carries the epoch and the new version
 abbrev pub invalidation : Setup → Tables → ℕ → ℕ → Message

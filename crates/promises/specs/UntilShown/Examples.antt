@@ -9,7 +9,7 @@ use Rattle.laws.specs.Loop.{foldFrom, anyFrom, allFrom, firstFrom}
 use Rattle.laws.specs.Lists.{removeAt}
 use Rattle.laws.specs.Store.{storeEach}
 use Rattle.laws.specs.Greatest.{greatest}
-use Rattle.laws.specs.Sets.{bitAt, setOf, less, allIn}
+use Rattle.laws.specs.Sets.{bitAt, setOf, added, less, allIn}
 use Rattle.laws.specs.Sets as sets
 use Rattle.protocol.specs.declared.records.Request.{Request}
 use Rattle.protocol.specs.declared.setup.Setup.{Setup}
@@ -20,7 +20,7 @@ use Rattle.protocol.specs.Setup.{inRange, objectsIn}
 use Rattle.protocol.specs.Messages.{pushed, removed}
 use Rattle.protocol.specs.Tables.{notesAt, standingAt, freshTables}
 use Rattle.protocol.specs.Leases.{serverAlive, clientAlive, clientClock, guardPassed, endOver}
-use Rattle.protocol.specs.Writes.{waits, latestEnd, opened, awaited, notified, waited, ready, due, agedIn, aged, clockSet, deserted, posted, released, completed, settled, written}
+use Rattle.protocol.specs.Writes.{waits, delays, delayed, latestEnd, opened, awaited, notified, waited, ready, due, agedIn, aged, clockSet, deserted, posted, released, completed, settled, written}
 use Rattle.protocol.specs.Server.{noted, offered, batched, lowestWaited, volumeRenewed, objectRenewed, granted, mustDrop, renewedBy, renewed, ackTaken, acked, ackStaged, dropTaken, disowned, dropped, dropStaged, clearTaken, notesDropped, notesCleared, serverRestarted}
 use Rattle.protocol.specs.Client.{showable, stands, forgotten, swept, sweptAll}
 use Rattle.protocol.specs.Sound.{queueSound, tablesSound, copiesSound, requestsSound, sound}
@@ -106,6 +106,10 @@ marked = long 0 ++ (write 0 7 ∷ lose ∷ clock 11 ∷ [])
 abbrev pub expired : List Step
 expired = long 0 ++ (clock 10 ∷ [])
 
+-- the volume lease has run out, and a write to object 0 is noted
+abbrev pub parked : List Step
+parked = long 0 ++ (clock 10 ∷ write 0 7 ∷ [])
+
 -- client 0 was granted object 1, a write to it waits, and the INVALIDATE is lost
 abbrev pub writtenBeside : List Step
 writtenBeside = long 1 ++ (write 1 7 ∷ lose ∷ [])
@@ -131,7 +135,9 @@ Table =
     × Fails (after invalidatedTwice) 1 false 0 3 (ask 0 0 ∷ deliver ∷ deliver ∷ deliver ∷ deliver ∷ [])
     -- one number is left: the second ask is refused
     × Fails (resting (standing 4294967293 0)) 0 false 0 4294967294 (ask 0 0 ∷ deliver ∷ deliver ∷ deliver ∷ ask 0 0 ∷ [])
+    -- the RENEW is answered by the BATCH, and no DROPPED comes
+    × Fails (after parked) 0 false 1 3 (ask 0 0 ∷ deliver ∷ deliver ∷ deliver ∷ [])
 
 pub table : Table
-unfolding Table two observed ran policy step clock foldFrom anyFrom allFrom firstFrom removeAt storeEach greatest inRange objectsIn bitAt setOf sets.removed less allIn pushed removed freshTables serverAlive clientAlive clientClock guardPassed endOver waits latestEnd opened awaited notified waited ready due agedIn aged clockSet deserted posted released completed settled written noted offered batched lowestWaited volumeRenewed objectRenewed granted mustDrop renewedBy renewed ackTaken acked ackStaged dropTaken disowned dropped dropStaged clearTaken notesDropped notesCleared serverRestarted showable stands forgotten swept sweptAll queueSound tablesSound copiesSound requestsSound sound known exists timely vacant growable refusalOfStep refusal grantReceived invalidateReceived offerReceived batchReceived received readDecided askDecided deliverDecided performed decided target decision stepped
-table = (refl, refl, refl, refl, refl, refl, refl)
+unfolding Table two observed ran policy step clock foldFrom anyFrom allFrom firstFrom removeAt storeEach greatest inRange objectsIn bitAt setOf sets.removed added less allIn pushed removed freshTables serverAlive clientAlive clientClock guardPassed endOver waits delays delayed latestEnd opened awaited notified waited ready due agedIn aged clockSet deserted posted released completed settled written noted offered batched lowestWaited volumeRenewed objectRenewed granted mustDrop renewedBy renewed ackTaken acked ackStaged dropTaken disowned dropped dropStaged clearTaken notesDropped notesCleared serverRestarted showable stands forgotten swept sweptAll queueSound tablesSound copiesSound requestsSound sound known exists timely vacant growable refusalOfStep refusal grantReceived invalidateReceived offerReceived batchReceived received readDecided askDecided deliverDecided performed decided target decision stepped
+table = (refl, refl, refl, refl, refl, refl, refl, refl)

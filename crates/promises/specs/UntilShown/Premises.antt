@@ -32,7 +32,7 @@ use Rattle.protocol.specs.Reached.{ran-on, run-sound}
 use Rattle.promises.specs.UntilShown.Policy.{read, ask, policy, Quiet, ShownInTime}
 use Rattle.promises.specs.UntilShown.Steps.{asking, ask-accepted, ask-leaves}
 use Rattle.promises.specs.UntilShown.Phases.{standing}
-use Rattle.promises.specs.UntilShown.Examples.{two, after, lose, Observed, observed, Works, Fails, restarted, marked, expired, writtenBeside, invalidatedTwice, resting, Table, table}
+use Rattle.promises.specs.UntilShown.Examples.{two, after, lose, Observed, observed, Works, Fails, restarted, marked, expired, parked, writtenBeside, invalidatedTwice, resting, Table, table}
 
 -- ---- the computed runs: what is seen of them, said of the tables
 holds : (ys xs : List Step) (n y : ℕ) → Works ys n xs y → n + 1 < 4294967295 → Quiet two (after ys) 0 0
@@ -93,6 +93,11 @@ write-matters = late-by writtenBeside _ _ 0 0 3 true refl (table .4)
 pub message-matters : Late invalidatedTwice 1 false 0 3
 unfolding Table
 message-matters = late-by invalidatedTwice _ _ 1 0 3 false refl (table .5)
+
+-- ---- no notes in the volume
+pub notes-matter : Late parked 0 false 1 3
+unfolding Table
+notes-matter = late-by parked _ _ 0 1 3 false refl (table .7)
 
 -- ---- "two request numbers left": the client asks again and again, and each RENEW is lost
 unfoldable pub askedInVain : ℕ → List Step

@@ -24,8 +24,8 @@ use Rattle.protocol.specs.declared.tables.Sessions.{Sessions}
 use Rattle.protocol.specs.declared.tables.Views.{Views}
 use Rattle.protocol.specs.declared.tables.Tables.{Tables}
 use Rattle.protocol.specs.Setup.{volumeOf}
-use Rattle.protocol.specs.Tables.{waitingAt}
-use Rattle.protocol.specs.Writes.{Counted, Staged, opened, awaited, begun, notify, notified, deserted, marked, markIfWaiting, ages, ageAt, agedIn, aged, clockSet, posted, released, completed, completeIf, settled, written}
+use Rattle.protocol.specs.Tables.{waitingAt, withSessions}
+use Rattle.protocol.specs.Writes.{Counted, Staged, delays, putOff, delayIf, delayed, opened, awaited, begun, notify, notified, deserted, marked, markIfWaiting, ages, ageAt, agedIn, aged, clockSet, posted, released, completed, completeIf, settled, written}
 use Rattle.protocol.specs.Server.{noted, offered, volumeRenewed, objectRenewed, granted, lowestWaited, mustDrop, hasNotes, batched, renewedBy, renewed, ackTaken, acked, ackStaged, dropTaken, disowned, dropped, dropStaged, clearTaken, notesDropped, notesCleared, serverRestarted, stale, beingWritten}
 use Rattle.protocol.specs.Client.{showable, stands, viewed, sweepAt, sweptAll, clientRestarted}
 use Rattle.protocol.specs.Gate.{usesPlace}
@@ -36,10 +36,19 @@ use Rattle.protocol.specs.Soundness.StepCases.{Accepted, accepted, copyO
 use Rattle.protocol.specs.Soundness.Shape.{SessionsShape, ViewsShape, QueueShape, Shape, WorldShape, epoch-shape, volume-expiry-shape, guard-shape, seen-shape, session-expiry-shape, unreachable-shape, offer-shape, notes-shape, batch-shape, value-shape, version-shape, object-expiry-shape, write-shape, lease-shape, waiting-shape, view-epoch-shape, view-expiry-shape, clock-shape, volumes-shape, sessions-shape, objects-shape, holders-shape, views-shape, queue-shape, pushed-shape, sent-shape, taken-shape, fresh-sessions, fresh-objects, fresh-holders}
 
 -- ---- writes
+pub put-off-shape : (x : Sessions) (d v o : ℕ) → SessionsShape x → SessionsShape (putOff x d v o)
+put-off-shape x d v o h = batch-shape _ (simp length-set) (notes-shape _ (simp length-set) h)
+
+pub delayed-shape : (s : Setup) (t : Tables) (o : ℕ) → SessionsShape (t .sessions) → SessionsShape (delayed s t o)
+unfolding delayed
+delayed-shape s t o h =
+    fold-keeps SessionsShape (delayIf s t o) (λ x d k. cond-keeps SessionsShape (delays s (withSessions t x) o d) (λ e. put-off-shape x d (volumeOf s o) o k) (λ e. k)) (t .sessions) 0 (s .clients) h
+
 pub begun-shape : (s : Setup) (t : Tables) (o x : ℕ) → Shape t → Shape (begun s t o x)
 unfolding opened awaited
 begun-shape s t o x h =
-    holders-shape (waiting-shape _ (simp length-set) (h .holders)) (objects-shape (write-shape o true x _ (h .objects)) h)
+    holders-shape (waiting-shape _ (simp length-set) (h .holders))
+    (objects-shape (write-shape o true x _ (h .objects)) (sessions-shape (delayed-shape s t o (h .sessions)) h))
 
 notified-shape : (s : Setup) (t : Tables) (o : ℕ) → QueueShape (t .queue) → QueueShape (notified s t o)
 unfolding notified

@@ -10,18 +10,18 @@ use lib.Seq.{getD-set-other}
 use borrow.Author.Tests.{lt-ltb}
 use Rattle.laws.specs.Choice.{cond-keeps, same?, both-true}
 use Rattle.laws.specs.Loop.{fold-keeps, fold-keeps-in}
-use Rattle.laws.specs.Sets.{within-none}
+use Rattle.laws.specs.Sets.{within-none, within-added}
 use Rattle.laws.specs.Each.{each-set, each-getD, each-store}
 use Rattle.protocol.specs.declared.setup.Setup.{Setup}
 use Rattle.protocol.specs.declared.tables.Sessions.{Sessions}
 use Rattle.protocol.specs.declared.tables.Tables.{Tables}
 use Rattle.protocol.specs.Setup.{volumeOf, objectsIn}
 use Rattle.protocol.specs.Ranges.{Ranges}
-use Rattle.protocol.specs.Tables.{byVolume, byObject, waitingAt, versionAt}
-use Rattle.protocol.specs.Writes.{Counted, Staged, latestEnd, opened, awaited, begun, invalidation, notify, notified, marked, markIfWaiting, ages, ageAt, agedIn, aged, clockSet, deserted, posted, released, completed, completeIf, settled, written}
+use Rattle.protocol.specs.Tables.{byVolume, byObject, waitingAt, versionAt, withSessions}
+use Rattle.protocol.specs.Writes.{Counted, Staged, latestEnd, delays, putOff, delayIf, delayed, opened, awaited, begun, invalidation, notify, notified, marked, markIfWaiting, ages, ageAt, agedIn, aged, clockSet, deserted, posted, released, completed, completeIf, settled, written}
 use Rattle.protocol.specs.LatestEnd.{ends-by}
 use Rattle.protocol.specs.Sound.{clockLimit}
-use Rattle.protocol.specs.SoundLaws.{not-cleared}
+use Rattle.protocol.specs.SoundLaws.{not-cleared, member-fits}
 use Rattle.protocol.specs.Soundness.Bounds.{Timed, Started, Named, SessionsBounded, ObjectsBounded, QueueBounded, Bounded, unreachable-bounded, notes-bounded, batch-bounded, set-fits, value-bounded, version-bounded, write-bounded, lease-bounded, waiting-bounded, clock-bounded, sessions-bounded, objects-bounded, holders-bounded, queue-bounded, pushed-bounded}
 
 module _ (s : Setup) where
@@ -36,11 +36,28 @@ module _ (s : Setup) where
   opened-standing t o v h k e =
       ⊎-elim (λ p. rw p v) (λ p. h .standing k (sym (getD-set-other (t .objects .standing) o k true false p) ∙ e)) (same? k o)
 
-  begun-bounded : (t : Tables) (o x : ℕ) → Ranges s → versionAt t o < 4294967295 → Bounded s t → Bounded s (begun s t o x)
+  -- a note of an object of the volume
+  put-off-bounded : (x : Sessions) (d o : ℕ) → Ranges s → o < s .objects → SessionsBounded s x → SessionsBounded s (putOff x d (volumeOf s o) o)
+  put-off-bounded x d o rs p h =
+      let f : o < 32 = omega (arith, rs .objects .1) in
+      let g : volumeOf s o < 8 = omega (arith, rs .within o p, rs .volumes .1) in
+      batch-bounded _
+      (notes-bounded _
+      (set-fits s (x .notes) (byVolume d (volumeOf s o)) _ (h .notes)
+      (λ k u l q. within-added _ o _ (member-fits s u o f p (omega arith)) (rw (← q) (h .notes k u l)))) h)
+
+  delayed-bounded : (t : Tables) (o : ℕ) → Ranges s → o < s .objects → SessionsBounded s (t .sessions) → SessionsBounded s (delayed s t o)
+  unfolding delayed
+  delayed-bounded t o rs p h =
+      fold-keeps (SessionsBounded s) (delayIf s t o)
+      (λ x d k. cond-keeps (SessionsBounded s) (delays s (withSessions t x) o d) (λ e. put-off-bounded x d o rs p k) (λ e. k)) (t .sessions) 0 (s .clients) h
+
+  begun-bounded : (t : Tables) (o x : ℕ) → Ranges s → o < s .objects → versionAt t o < 4294967295 → Bounded s t → Bounded s (begun s t o x)
   unfolding opened awaited
-  begun-bounded t o x rs v h =
+  begun-bounded t o x rs p v h =
       holders-bounded (waiting-bounded _ (h .holders))
-      (objects-bounded (write-bounded o true x _ (opened-standing t o v (h .objects)) (latest-end-timed t o rs h) (h .objects)) h)
+      (objects-bounded (write-bounded o true x _ (opened-standing t o v (h .objects)) (latest-end-timed t o rs h) (h .objects))
+      (sessions-bounded (delayed-bounded t o rs p (h .sessions)) h))
 
   pub invalidation-named : (t : Tables) (o d : ℕ) → o < s .objects → d < s .clients → Named s (invalidation s t o d)
   invalidation-named t o d p q = both-true (lt-ltb d (s .clients) q) (lt-ltb o (s .objects) p)
@@ -55,7 +72,7 @@ module _ (s : Setup) where
   pub written-bounded : (t : Tables) (o x : ℕ) → Ranges s → o < s .objects → versionAt t o < 4294967295 → Bounded s t → Bounded s (written s t o x)
   unfolding written
   written-bounded t o x rs p v h =
-      let b = begun-bounded t o x rs v h in
+      let b = begun-bounded t o x rs p v h in
       queue-bounded (notified-bounded (begun s t o x) o p (b .queue)) b
 
   -- ---- a write completed
