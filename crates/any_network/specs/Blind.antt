@@ -1,6 +1,6 @@
 -- The server's rules read nothing of what the clients know: it is the same before and after, and all else is the same whatever it is.
 -- Letters: s setup, t tables, u what the clients know, A what a rule leaves, put how what they know is put into it, f a rule as a function of it; d client, o
--- object, v volume, T clock, a a value; of a message n number, e epoch, w version.
+-- object, v volume, T clock, a a value; of a message n number, e epoch, w version, m set.
 use Prim.Native.Nat.{ℕ}
 use native.Mathlib.Omega.{arith}
 use mathlib.Core.Bool.{false}
@@ -13,10 +13,10 @@ use Rattle.protocol.specs.declared.setup.Setup.{Setup}
 use Rattle.protocol.specs.declared.tables.Tables.{Tables}
 use Rattle.protocol.specs.declared.tables.Views.{Views}
 use Rattle.protocol.specs.Setup.{volumeOf}
-use Rattle.protocol.specs.Tables.{withViews, withClock}
+use Rattle.protocol.specs.Tables.{withViews}
 use Rattle.protocol.specs.Leases.{guardPassed}
-use Rattle.protocol.specs.Writes.{Counted, Staged, waits, latestEnd, opened, awaited, notified, completeIf, settled, completed, posted, released, deserted, written, writeStaged, clockStaged, ready, due, waited, invalidation}
-use Rattle.protocol.specs.Server.{sent, noted, offered, offering, lowestWaited, volumeRenewed, objectRenewed, granted, mustDrop, beingWritten, renewedBy, stale, renewed, ackTaken, acked, ackStaged, dropTaken, dropped, disowned, readyIn, dropStaged, serverRestarted}
+use Rattle.protocol.specs.Writes.{Counted, Staged, waits, delays, delayed, latestEnd, opened, awaited, notified, completeIf, settled, completed, posted, released, deserted, written, writeStaged, clockSet, clockStaged, ready, due, waited, invalidation}
+use Rattle.protocol.specs.Server.{sent, noted, offered, offering, hasNotes, batched, batching, lowestWaited, volumeRenewed, objectRenewed, granted, mustDrop, beingWritten, renewedBy, stale, renewed, ackTaken, acked, ackStaged, dropTaken, dropped, disowned, readyIn, dropStaged, clearTaken, notesDropped, notesCleared, serverRestarted}
 use Rattle.any_network.specs.Framing.{Frames, Unread, recounted, either, choice, settling}
 
 abbrev pub Blind : {A : Type 0} → (A → Views → A) → (Views → A) → Type 0
@@ -57,12 +57,13 @@ settled-clock s g =
 
 module _ (s : Setup) (t : Tables) where
   pub renewed-blind : (d o n e w : ℕ) → Blind withViews (λ u. renewed s (withViews t u) d o n e w)
-  unfolding renewed renewedBy noted offered lowestWaited volumeRenewed objectRenewed granted mustDrop
+  unfolding renewed renewedBy noted offered batched lowestWaited volumeRenewed objectRenewed granted mustDrop
   renewed-blind d o n e w =
       choice (stale t d n) _ _ (plain t)
       (choice (mustDrop (noted t d n) d (volumeOf s o) e) _ _ (plain (sent (offered (noted t d n) d (volumeOf s o) n) (offering t d (volumeOf s o) n)))
+      (choice (hasNotes t d (volumeOf s o)) _ _ (plain (sent (batched (noted t d n) d (volumeOf s o) n) (batching t d (volumeOf s o) n)))
       (choice (ltb (lowestWaited s (noted t d n) d (volumeOf s o)) (s .objects)) _ _ (plain (sent (noted t d n) (invalidation s (noted t d n) (lowestWaited s (noted t d n) d (volumeOf s o)) d)))
-      (choice (beingWritten t o) _ _ (plain (noted t d n)) (plain (granted s (noted t d n) d o n w)))))
+      (choice (beingWritten t o) _ _ (plain (noted t d n)) (plain (granted s (noted t d n) d o n w))))))
 
   pub ack-blind : (d o e w : ℕ) → Blind reviewed (λ u. settled s (ackStaged s (withViews t u) d o e w))
   unfolding ackStaged ackTaken acked
@@ -78,11 +79,16 @@ module _ (s : Setup) (t : Tables) where
       (settling (ready-in-unseen s v) 0 (s .objects) _ (plain (dropped s t d v)))
       (settling (none-unseen s) 0 0 _ (plain t))
 
+  pub clear-blind : (d v n e m : ℕ) → Blind withViews (λ u. notesCleared s (withViews t u) d v n e m)
+  unfolding notesCleared clearTaken notesDropped
+  clear-blind d v n e m = choice (clearTaken t d v n e) _ _ (plain (notesDropped s t d v m)) (plain t)
+
   pub clock-blind : (T : ℕ) → Blind reviewed (λ u. settled s (clockStaged s (withViews t u) T))
-  clock-blind T = settling (due-unseen s) 0 (s .objects) _ (plain (withClock t T))
+  unfolding clockSet
+  clock-blind T = settling (due-unseen s) 0 (s .objects) _ (plain (clockSet s t T))
 
   written-blind : (o a : ℕ) → Blind withViews (λ u. written s (withViews t u) o a)
-  unfolding written notified opened awaited waits latestEnd
+  unfolding written notified opened awaited delayed delays waits latestEnd
   written-blind o a = plain (written s t o a)
 
   pub write-blind : (o a : ℕ) → Blind reviewed (λ u. settled s (writeStaged s (withViews t u) o a))

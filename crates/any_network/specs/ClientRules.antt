@@ -1,5 +1,5 @@
--- A client's rules, in a net and in a fleet that represents it: ask, GRANT, INVALIDATE, OFFER, restart. Each leaves a net and a fleet that represents it.
--- Letters: those of Represents; d is the client, k another, q a request, z a copy, g a sweep, l a list.
+-- A client's rules, in a net and in a fleet that represents it: ask, GRANT, INVALIDATE, OFFER, BATCH, restart. Each leaves a net and a fleet that represents it.
+-- Letters: those of Represents; d is the client, k another, q a request, z a copy, g a sweep, a the set of a BATCH, l a list.
 use Prim.Native.Nat.{ℕ, zero, suc, _+_, _*_, _<_}
 use native.Mathlib.Omega.{arith}
 use mathlib.Core.Bool.{true}
@@ -10,7 +10,7 @@ use lib.ListN.{getD, set, length, length-set, length-replicate}
 use lib.Seq.{getD-set-same, getD-set-other}
 use Rattle.laws.specs.Each.{replicate-at}
 use Rattle.laws.specs.Store.{storeEach, always, store-hit, store-other}
-use Rattle.protocol.specs.declared.message.Kind.the-variants.{Renew, Ack, Dropped}
+use Rattle.protocol.specs.declared.message.Kind.the-variants.{Renew, Ack, Dropped, Cleared}
 use Rattle.protocol.specs.declared.records.Copy.{Copy}
 use Rattle.protocol.specs.declared.records.Request.{Request}
 use Rattle.protocol.specs.declared.setup.Setup.{Setup}
@@ -30,7 +30,7 @@ use Rattle.protocol.specs.Safety.Stores.{After, off-place, volume-fits, volume-
 use Rattle.protocol.specs.Safety.Sweeping.{swept-own, swept-other}
 use Rattle.protocol.specs.Safety.Requests.{has-record}
 use Rattle.any_network.specs.Network.{Net, listing, after}
-use Rattle.any_network.specs.Halves.{ClientHalf, copyIn, sweptFrom, clientAsk, clientRestart, clientGranted, clientInvalidated, clientOffered, quietly}
+use Rattle.any_network.specs.Halves.{ClientHalf, copyIn, sweptFrom, clientAsk, clientRestart, clientGranted, clientInvalidated, clientOffered, clientForgets, quietly}
 use Rattle.any_network.specs.Fleet.{Fleet, byClient}
 use Rattle.any_network.specs.Represents.{IsClient, ClientShape, Represents}
 use Rattle.any_network.specs.ClientMoves.{client-moves}
@@ -206,6 +206,31 @@ module _ (s : Setup) (i : inRange s ≡ true) (n : Net) (f : Fleet) (r : Represe
         epoch = λ k u h ne. off-place (at-epoch e hv k u h) (λ a b. ne a);
         expiry = λ k u h ne. off-place (at-expiry 0 hv k u h) (λ a b. ne a);
         copy = λ k j h ne. swept-other s (w .copies) d (shape .copies) hd (sweep.Expire v) k j ne h;
+        request = other-request (ended request);
+      })
+
+  -- BATCH taken
+  abbrev batched : ℕ → ℕ → ℕ → ℕ → World
+  batched v m e a = record { tables = sent t (message d (Cleared v m e a)); copies = sweptAll s (sweep.Forget a) (d * s .objects) (w .copies); requests = set (w .requests) d (ended request) }
+
+  pub batch-moves : (v m e a : ℕ) → Represents s
+      (after n (batched v m e a))
+      (byClient f d (record { half = clientForgets s c a; out = message d (Cleared v m e a) ∷ [] }))
+  unfolding pushed
+  batch-moves v m e a =
+      client-moves s n f r d (batched v m e a) (record { half = clientForgets s c a; out = message d (Cleared v m e a) ∷ [] }) refl refl
+      (record {
+        clock = mine .clock;
+        epoch = mine .epoch;
+        expiry = mine .expiry;
+        copy = own-swept (sweep.Forget a);
+        request = ends;
+        shape = record { epoch = lists .epoch; expiry = lists .expiry; copies = swept-length s (sweep.Forget a) (c .copies) 0 ∙ lists .copies };
+      })
+      (record {
+        epoch = λ k u h ne. refl;
+        expiry = λ k u h ne. refl;
+        copy = λ k j h ne. swept-other s (w .copies) d (shape .copies) hd (sweep.Forget a) k j ne h;
         request = other-request (ended request);
       })
 

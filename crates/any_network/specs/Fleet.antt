@@ -8,7 +8,7 @@ use lib.Dec.{eqb}
 use Rattle.laws.specs.Updated.{updated}
 use Rattle.protocol.specs.declared.message.Message.{Message}
 use Rattle.protocol.specs.declared.message.Kind.{Kind}
-use Rattle.protocol.specs.declared.message.Kind.the-variants.{Renew, Grant, Invalidate, Ack, Offer, Dropped}
+use Rattle.protocol.specs.declared.message.Kind.the-variants.{Renew, Grant, Invalidate, Ack, Offer, Dropped, Batch, Cleared}
 use Rattle.protocol.specs.declared.setup.Setup.{Setup}
 use Rattle.protocol.specs.declared.step.Answer.{Answer}
 use Rattle.protocol.specs.declared.step.Answer.the-variants as answer
@@ -80,6 +80,8 @@ receives s f d (Invalidate o e w) = byClient f d (clientReceive s (f .clients d)
 receives s f d (Ack o e w) = byServer f (serverReceive s (f .server) d (Ack o e w))
 receives s f d (Offer v n e) = byClient f d (clientReceive s (f .clients d) d (Offer v n e))
 receives s f d (Dropped v n e) = byServer f (serverReceive s (f .server) d (Dropped v n e))
+receives s f d (Batch v n e m) = byClient f d (clientReceive s (f .clients d) d (Batch v n e m))
+receives s f d (Cleared v n e m) = byServer f (serverReceive s (f .server) d (Cleared v n e m))
 
 abbrev pub arrives : Setup → Fleet → Arrived → Fleet
 arrives s f nothing = f

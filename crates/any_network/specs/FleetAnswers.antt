@@ -1,5 +1,5 @@
 -- A fleet answers every move as the net that it represents does.
--- Letters: those of FleetRuns; c is a copy, q a request, d client, k a message's kind, m a message, j its place.
+-- Letters: those of FleetRuns; c is a copy, q a request, d client, k a message's kind, b its set, m a message, j its place.
 use Prim.Native.Nat.{ℕ}
 use mathlib.Core.Bool.{Bool, true, false, cond}
 use mathlib.Core.List.{List}
@@ -14,7 +14,7 @@ use Rattle.protocol.specs.declared.step.Answer.the-variants as answer
 use Rattle.protocol.specs.declared.step.Step.{Step}
 use Rattle.protocol.specs.declared.tables.Tables.{Tables}
 use Rattle.protocol.specs.declared.message.Kind.{Kind}
-use Rattle.protocol.specs.declared.message.Kind.the-variants.{Renew, Grant, Invalidate, Ack, Offer, Dropped}
+use Rattle.protocol.specs.declared.message.Kind.the-variants.{Renew, Grant, Invalidate, Ack, Offer, Dropped, Batch, Cleared}
 use Rattle.protocol.specs.declared.records.Request.{Request}
 use Rattle.protocol.specs.Setup.{inRange, volumeOf}
 use Rattle.protocol.specs.Ranges.{ranges}
@@ -25,7 +25,7 @@ use Rattle.protocol.specs.Server.{ackStaged, dropStaged}
 use Rattle.protocol.specs.Client.{showable, stands}
 use Rattle.protocol.specs.Answers.{completedAnswer}
 use Rattle.protocol.specs.Gate.{known, exists, refusalOfStep, refusal}
-use Rattle.protocol.specs.Decide.{kept, answered, readDecided, askDecided, restartDecided, Received, received, grantReceived, invalidateReceived, offerReceived, deliverDecided}
+use Rattle.protocol.specs.Decide.{kept, answered, readDecided, askDecided, restartDecided, Received, received, grantReceived, invalidateReceived, offerReceived, batchReceived, deliverDecided}
 use Rattle.protocol.specs.World.{World, target, answerOf}
 use Rattle.protocol.specs.Ledger.{accepts}
 use Rattle.protocol.specs.Soundness.StepCases.{by-kind, copyOf, requestOf, performedOf, accepted-answer, refused-answer, client-exists, object-exists, clock-performed, read-performed, ask-performed, write-performed, server-performed, client-performed, deliver-performed}
@@ -104,13 +104,15 @@ module _ (s : Setup) (i : inRange s ≡ true) (n : Net) (f : Fleet) (ok : NetOk 
   counted rule b = ap (λ (g : ServerReply). g .count) (blind-reply rule (w .tables) b (f .server) (r .server) .0)
 
   received-count : (c : Copy) (q : Request) (d : ℕ) (k : Kind) → received s t c q d k .counted .count ≡ serverReceive s (f .server) d k .count
-  unfolding received grantReceived invalidateReceived offerReceived
+  unfolding received grantReceived invalidateReceived offerReceived batchReceived
   received-count c q d (Renew o m e v) = refl
   received-count c q d (Grant o m x e v y p) = cond-keeps (λ (g : Received). g .counted .count ≡ 0) (stands q m) (λ a. refl) (λ a. refl)
   received-count c q d (Invalidate o e v) = refl
   received-count c q d (Ack o e v) = counted (λ (u : Tables). settled s (ackStaged s u d o e v)) (ack-blind s t d o e v)
   received-count c q d (Offer v m e) = cond-keeps (λ (g : Received). g .counted .count ≡ 0) (stands q m) (λ a. refl) (λ a. refl)
   received-count c q d (Dropped v m e) = counted (λ (u : Tables). settled s (dropStaged s u d v m e)) (drop-blind s t d v m e)
+  received-count c q d (Batch v m e b) = cond-keeps (λ (g : Received). g .counted .count ≡ 0) (stands q m) (λ a. refl) (λ a. refl)
+  received-count c q d (Cleared v m e b) = refl
 
   arrival-answers : (m : Message) → In m (n .sent) → answerOf s (listing w (one m)) receive ≡ answer.Delivered m (serverReceive s (f .server) (m .client) (m .kind) .count)
   unfolding deliverDecided pushed removed removeAt target

@@ -9,7 +9,7 @@ use Rattle.laws.specs.Choice.{true-or-false}
 use Rattle.laws.specs.Lists.{removeAt}
 use Rattle.protocol.specs.declared.message.Message.{Message}
 use Rattle.protocol.specs.declared.message.Kind.{Kind}
-use Rattle.protocol.specs.declared.message.Kind.the-variants.{Renew, Grant, Invalidate, Ack, Offer, Dropped}
+use Rattle.protocol.specs.declared.message.Kind.the-variants.{Renew, Grant, Invalidate, Ack, Offer, Dropped, Batch, Cleared}
 use Rattle.protocol.specs.declared.records.Copy.{Copy}
 use Rattle.protocol.specs.declared.setup.Setup.{Setup}
 use Rattle.protocol.specs.declared.step.Answer.{Answer}
@@ -20,7 +20,7 @@ use Rattle.protocol.specs.Setup.{inRange, volumeOf}
 use Rattle.protocol.specs.Ranges.{ranges}
 use Rattle.protocol.specs.Messages.{pushed, removed, emptyQueue}
 use Rattle.protocol.specs.Tables.{withQueue, withViews, freshViews}
-use Rattle.protocol.specs.Writes.{Staged, waits, latestEnd, opened, awaited, notified, written, settling, completed, clockStaged, writeStaged}
+use Rattle.protocol.specs.Writes.{Staged, waits, delays, delayed, latestEnd, opened, awaited, notified, written, settling, completed, clockSet, clockStaged, writeStaged}
 use Rattle.protocol.specs.Server.{ackTaken, acked, ackStaged, dropTaken, dropped, disowned, dropStaged}
 use Rattle.protocol.specs.Client.{showable}
 use Rattle.protocol.specs.World.{World}
@@ -52,10 +52,11 @@ module _ (s : Setup) (t : Tables) (u : Views) where
   v = withViews t u
 
   clock-settles : (T : ℕ) → completions s (clockStaged s v T) ≡ completions s (clockStaged s t T)
-  clock-settles T = ap (map completion) (settling-unseen (due-unseen s) _ u 0 (s .objects))
+  unfolding clockSet
+  clock-settles T = ap (map completion) (settling-unseen (due-unseen s) (clockSet s t T) u 0 (s .objects))
 
   write-settles : (o a : ℕ) → completions s (writeStaged s v o a) ≡ completions s (writeStaged s t o a)
-  unfolding written notified opened awaited waits latestEnd
+  unfolding written notified opened awaited delayed delays waits latestEnd
   write-settles o a = ap (map completion) (settling-unseen (ready-unseen s) (written s t o a) u o 1)
 
   write-ends : (o : ℕ) → latestEnd s v o ≡ latestEnd s t o
@@ -74,6 +75,8 @@ module _ (s : Setup) (t : Tables) (u : Views) where
   receipt-settles d (Ack o e w) = staged-either (ackTaken s t o e w) _ _ _ _ (ap (map completion) (settling-unseen (ready-unseen s) (acked t d o) u o 1)) refl
   receipt-settles d (Offer x n e) = refl
   receipt-settles d (Dropped x n e) = staged-either (dropTaken t d x n e) _ _ _ _ (ap (map completion) (settling-unseen (ready-in-unseen s x) (dropped s t d x) u 0 (s .objects))) refl
+  receipt-settles d (Batch x n e m) = refl
+  receipt-settles d (Cleared x n e m) = refl
 
 events-accepted : (s : Setup) (w : World) (x : Step) → accepts s w x ≡ true → events s w x ≡ happening s (w .tables) (copyOf s w x) x
 unfolding events

@@ -23,7 +23,7 @@ use Rattle.protocol.specs.Setup.{inRange}
 use Rattle.protocol.specs.Messages.{emptyQueue}
 use Rattle.protocol.specs.Tables.{byVolume, withQueue, withViews, noCopy, noRequest, freshRequest, freshTables}
 use Rattle.protocol.specs.Leases.{clientClock}
-use Rattle.protocol.specs.Writes.{settled, clockStaged, writeStaged, written}
+use Rattle.protocol.specs.Writes.{settled, clockSet, clockStaged, writeStaged, written}
 use Rattle.protocol.specs.Server.{serverRestarted}
 use Rattle.protocol.specs.Client.{showable, sweptAll}
 use Rattle.protocol.specs.Gate.{usesPlace}
@@ -82,6 +82,7 @@ module _ (s : Setup) (i : inRange s ≡ true) (n : Net) (f : Fleet) (ok : NetOk 
     Does = Represents s (after n (stepped s bare x)) (does s f x)
 
     by-clock : x .kind ≡ 1 → Does
+    unfolding clockSet
     by-clock e =
         let g = blind-reply (λ (u : Tables). settled s (clockStaged s u (x .clock))) (w .tables) (clock-blind s t (x .clock)) (f .server) (r .server) in
         rw (kept-leaves (settled s (clockStaged s t (x .clock)) .tables) _ (clock-performed s t (copyOf s bare x) (requestOf s bare x) x e), e)

@@ -1,6 +1,6 @@
 -- No rule reads the message list: each rule, and each step by its kind, leaves the same whatever list it finds, and what it sends goes to the list's end.
 -- Letters: s setup, t tables, q a message list, c a copy, r a request, d client, o object, v volume, T clock, a a value; of a message n number, e epoch, w
--- version, x and y volume and object expiry, p payload; of a step, x is the step.
+-- version, x and y volume and object expiry, p payload, m set; of a step, x is the step.
 use Prim.Native.Nat.{ℕ, _≤_, zero, suc, _+_}
 use native.Mathlib.Omega.{arith}
 use mathlib.Core.Bool.{false, Bool, true, cond}
@@ -10,7 +10,7 @@ use lib.Dec.{ltb}
 use lib.ListN.{length}
 use Rattle.laws.specs.Loop.{foldFrom}
 use Rattle.protocol.specs.declared.message.Kind.{Kind}
-use Rattle.protocol.specs.declared.message.Kind.the-variants.{Renew, Grant, Invalidate, Ack, Offer, Dropped}
+use Rattle.protocol.specs.declared.message.Kind.the-variants.{Renew, Grant, Invalidate, Ack, Offer, Dropped, Batch, Cleared}
 use Rattle.protocol.specs.declared.records.Copy.{Copy}
 use Rattle.protocol.specs.declared.records.Request.{Request}
 use Rattle.protocol.specs.declared.setup.Setup.{Setup}
@@ -24,11 +24,11 @@ use Rattle.protocol.specs.declared.message.Queue.{Queue}
 use Rattle.protocol.specs.declared.step.Decision.{Decision}
 use Rattle.protocol.specs.Setup.{volumeOf}
 use Rattle.protocol.specs.Messages.{message, pushed}
-use Rattle.protocol.specs.Tables.{withQueue, withViews, withClock, waitingAt}
-use Rattle.protocol.specs.Writes.{waits, latestEnd, opened, awaited, begun, notified, settled, written, writeStaged, clockStaged, ready, due, invalidation, Counted, completed, posted, released, deserted, waited, notify}
-use Rattle.protocol.specs.Server.{noted, offered, offering, lowestWaited, volumeRenewed, objectRenewed, granting, granted, mustDrop, beingWritten, renewedBy, stale, renewed, ackTaken, acked, ackStaged, dropTaken, dropped, disowned, readyIn, dropStaged, serverRestarted}
+use Rattle.protocol.specs.Tables.{withQueue, withViews, waitingAt}
+use Rattle.protocol.specs.Writes.{waits, delays, delayed, latestEnd, opened, awaited, begun, notified, settled, written, writeStaged, clockSet, clockStaged, ready, due, invalidation, Counted, completed, posted, released, deserted, waited, notify}
+use Rattle.protocol.specs.Server.{noted, offered, offering, hasNotes, batched, batching, lowestWaited, volumeRenewed, objectRenewed, granting, granted, mustDrop, beingWritten, renewedBy, stale, renewed, ackTaken, acked, ackStaged, dropTaken, dropped, disowned, readyIn, dropStaged, clearTaken, notesDropped, notesCleared, serverRestarted}
 use Rattle.protocol.specs.Client.{showable, stands, viewed, grantStored, renewal}
-use Rattle.protocol.specs.Decide.{kept, uncounted, byServer, byClient, answered, counting, grantReceived, invalidateReceived, offerReceived, received, readDecided, askDecided, restartDecided, Received}
+use Rattle.protocol.specs.Decide.{kept, uncounted, byServer, byClient, answered, counting, grantReceived, invalidateReceived, offerReceived, batchReceived, received, readDecided, askDecided, restartDecided, Received}
 use Rattle.protocol.specs.Leases.{guardPassed}
 use Rattle.any_network.specs.Framing.{Frames, Unread, recounted, quiet, single, either, choice, then, settling}
 use Rattle.any_network.specs.Lists.{pushAll}
@@ -91,13 +91,14 @@ module _ (s : Setup) (t : Tables) (o : ℕ) where
 module _ (s : Setup) (t : Tables) where
   -- ---- the server receives
   renewed-frames : (d o n e w : ℕ) → Sends withQueue (λ q. renewed s (withQueue t q) d o n e w)
-  unfolding renewed renewedBy noted offered lowestWaited volumeRenewed objectRenewed granted mustDrop
+  unfolding renewed renewedBy noted offered batched lowestWaited volumeRenewed objectRenewed granted mustDrop
   renewed-frames d o n e w =
       choice (stale t d n) _ _ (quiet t)
       (choice (mustDrop (noted t d n) d (volumeOf s o) e) _ _ (single (offered (noted t d n) d (volumeOf s o) n) (offering t d (volumeOf s o) n))
+      (choice (hasNotes t d (volumeOf s o)) _ _ (single (batched (noted t d n) d (volumeOf s o) n) (batching t d (volumeOf s o) n))
       (choice (ltb (lowestWaited s (noted t d n) d (volumeOf s o)) (s .objects)) _ _ (single (noted t d n) (invalidation s (noted t d n) (lowestWaited s (noted t d n) d (volumeOf s o)) d))
       (choice (beingWritten t o) _ _ (quiet (noted t d n))
-      (single (objectRenewed s (volumeRenewed s (noted t d n) d (volumeOf s o)) d o) (granting s (noted t d n) d o n w)))))
+      (single (objectRenewed s (volumeRenewed s (noted t d n) d (volumeOf s o)) d o) (granting s (noted t d n) d o n w))))))
 
   ack-frames : (d o e w : ℕ) → Sends recount (λ q. settled s (ackStaged s (withQueue t q) d o e w))
   unfolding ackStaged ackTaken acked
@@ -113,9 +114,13 @@ module _ (s : Setup) (t : Tables) where
       (settling (ready-in-unlisted s v) 0 (s .objects) _ (quiet (dropped s t d v)))
       (settling (none-unlisted s) 0 0 _ (quiet t))
 
+  clear-frames : (d v n e m : ℕ) → Sends withQueue (λ q. notesCleared s (withQueue t q) d v n e m)
+  unfolding notesCleared clearTaken notesDropped
+  clear-frames d v n e m = choice (clearTaken t d v n e) _ _ (quiet (notesDropped s t d v m)) (quiet t)
+
   -- ---- any message received, by the server or by its client
   pub received-frames : (c : Copy) (r : Request) (d : ℕ) (k : Kind) → Sends rereceive (λ q. received s (withQueue t q) c r d k)
-  unfolding received grantReceived invalidateReceived offerReceived
+  unfolding received grantReceived invalidateReceived offerReceived batchReceived
   received-frames c r d (Renew o n e w) = then (λ (u : Tables). byServer (uncounted u)) (λ u q. refl) _ (renewed-frames d o n e w)
   received-frames c r d (Grant o n x e w y p) =
       choice (stands r n) _ _ (quiet (byClient (grantStored c w y p) (withViews t (viewed (t .views) d (volumeOf s o) e x)))) (quiet (byClient kept t))
@@ -124,10 +129,14 @@ module _ (s : Setup) (t : Tables) where
   received-frames c r d (Offer v n e) =
       choice (stands r n) _ _ (single (byClient (record { copy = copy.Keep; request = request.End; sweep = sweep.Expire v }) (withViews t (viewed (t .views) d v e 0))) (message d (Dropped v n e))) (quiet (byClient kept t))
   received-frames c r d (Dropped v n e) = then byServer (λ u q. refl) _ (drop-frames d v n e)
+  received-frames c r d (Batch v n e m) =
+      choice (stands r n) _ _ (single (byClient (record { copy = copy.Keep; request = request.End; sweep = sweep.Forget m }) t) (message d (Cleared v n e m))) (quiet (byClient kept t))
+  received-frames c r d (Cleared v n e m) = then (λ (u : Tables). byServer (uncounted u)) (λ u q. refl) _ (clear-frames d v n e m)
 
   -- ---- the steps of one's own
   pub clock-frames : (T : ℕ) → Sends redecide (λ q. counting (settled s (clockStaged s (withQueue t q) T)))
-  clock-frames T = then {put = recount} counting (λ c q. refl) _ (settling (due-unlisted s) 0 (s .objects) _ (quiet (withClock t T)))
+  unfolding clockSet
+  clock-frames T = then {put = recount} counting (λ c q. refl) _ (settling (due-unlisted s) 0 (s .objects) _ (quiet (clockSet s t T)))
 
   pub read-frames : (c : Copy) (d o : ℕ) → Sends redecide (λ q. readDecided s (withQueue t q) c d o)
   unfolding readDecided showable
@@ -138,7 +147,7 @@ module _ (s : Setup) (t : Tables) where
   ask-frames c r d o = single (askDecided s t c r d o) (renewal s t c r d o)
 
   written-frames : (o a : ℕ) → s .clients ≤ 16 → Sends withQueue (λ q. written s (withQueue t q) o a)
-  unfolding written notified opened awaited waits latestEnd
+  unfolding written notified opened awaited delayed delays waits latestEnd
   written-frames o a h = record {
     rest = begun s t o a;
     out = invalidations s (begun s t o a) o 0 (s .clients);

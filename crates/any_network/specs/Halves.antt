@@ -1,7 +1,7 @@
 -- The two halves of the system. The server's half owns the server's tables; a client's half owns what that client knows and holds. Each call takes what its
 -- owner does or what arrives, and returns the half that is left and what is sent. No call of one half reads anything of another.
 -- Letters: s setup, h the server's half, c a client's half, d its number, o object, v volume, T clock, a value, x a step, t tables; of a message n number,
--- e epoch, w version, x and y volume and object expiry, p payload; z a copy, g a sweep or what a rule counted, l copies.
+-- e epoch, w version, x and y volume and object expiry, p payload, m set; z a copy, g a sweep or what a rule counted, l copies.
 use Prim.Native.Nat.{ℕ, suc}
 use mathlib.Core.Bool.{Bool, cond, not, _&&_}
 use mathlib.Core.List.{List, [], _∷_}
@@ -9,7 +9,7 @@ use lib.Dec.{eqb}
 use lib.ListN.{getD, set, replicate}
 use Rattle.protocol.specs.declared.message.Message.{Message}
 use Rattle.protocol.specs.declared.message.Kind.{Kind}
-use Rattle.protocol.specs.declared.message.Kind.the-variants.{Renew, Grant, Invalidate, Ack, Offer, Dropped}
+use Rattle.protocol.specs.declared.message.Kind.the-variants.{Renew, Grant, Invalidate, Ack, Offer, Dropped, Batch, Cleared}
 use Rattle.protocol.specs.declared.records.Copy.{Copy}
 use Rattle.protocol.specs.declared.records.Request.{Request}
 use Rattle.protocol.specs.declared.setup.Setup.{Setup}
@@ -26,7 +26,7 @@ use Rattle.protocol.specs.Messages.{message, messages, emptyQueue}
 use Rattle.protocol.specs.Tables.{noCopy, noRequest, freshRequest, freshVolumes, freshSessions, freshObjects, freshHolders, freshViews, freshTables}
 use Rattle.protocol.specs.Leases.{clientAlive}
 use Rattle.protocol.specs.Writes.{Counted, settled, writeStaged, clockStaged}
-use Rattle.protocol.specs.Server.{renewed, ackStaged, dropStaged, serverRestarted}
+use Rattle.protocol.specs.Server.{renewed, ackStaged, dropStaged, notesCleared, serverRestarted}
 use Rattle.protocol.specs.Client.{numbered, ended, turned, stands, filled, forgotten, swept}
 use Rattle.protocol.specs.Gate.{refusalOfStep}
 use Rattle.protocol.specs.Decide.{uncounted}
@@ -67,7 +67,7 @@ serverWrite s h o a = replyIn (settled s (writeStaged s (tablesFor h) o a))
 abbrev pub serverRestart : Setup → ServerHalf → ServerReply
 serverRestart s h = replyIn (uncounted (serverRestarted s (tablesFor h)))
 
--- RENEW, ACK and DROPPED are for the server; the others leave it as it is
+-- RENEW, ACK, DROPPED and CLEARED are for the server; the others leave it as it is
 abbrev pub serverReceive : Setup → ServerHalf → ℕ → Kind → ServerReply
 serverReceive s h d (Renew o n e w) = replyIn (uncounted (renewed s (tablesFor h) d o n e w))
 serverReceive s h d (Grant o n x e w y p) = replyIn (uncounted (tablesFor h))
@@ -75,6 +75,8 @@ serverReceive s h d (Invalidate o e w) = replyIn (uncounted (tablesFor h))
 serverReceive s h d (Ack o e w) = replyIn (settled s (ackStaged s (tablesFor h) d o e w))
 serverReceive s h d (Offer v n e) = replyIn (uncounted (tablesFor h))
 serverReceive s h d (Dropped v n e) = replyIn (settled s (dropStaged s (tablesFor h) d v n e))
+serverReceive s h d (Batch v n e m) = replyIn (uncounted (tablesFor h))
+serverReceive s h d (Cleared v n e m) = replyIn (uncounted (notesCleared s (tablesFor h) d v n e m))
 
 -- questions 2 to 6 about a step of the server's, which ask nothing of a client
 abbrev pub serverRefusal : Setup → ServerHalf → Step → ℕ
@@ -162,7 +164,17 @@ clientOffered s c v e = record {
   request = ended (c .request);
 }
 
--- GRANT, INVALIDATE and OFFER are for a client; the others leave it as it is
+-- 02, A6, BATCH of the set m: "the dash erases those copies, ends the request"
+abbrev pub clientForgets : Setup → ClientHalf → ℕ → ClientHalf
+clientForgets s c m = record {
+  clock = c .clock;
+  epoch = c .epoch;
+  expiry = c .expiry;
+  copies = sweptFrom s (sweep.Forget m) (c .copies) 0;
+  request = ended (c .request);
+}
+
+-- GRANT, INVALIDATE, OFFER and BATCH are for a client; the others leave it as it is
 abbrev pub clientReceive : Setup → ClientHalf → ℕ → Kind → ClientReply
 clientReceive s c d (Renew o n e w) = quietly c
 clientReceive s c d (Grant o n x e w y p) = cond (stands (c .request) n) (quietly (clientGranted s c o x e (filled (copyIn c o) w y p))) (quietly c)
@@ -170,6 +182,8 @@ clientReceive s c d (Invalidate o e w) = record { half = clientInvalidated c o; 
 clientReceive s c d (Ack o e w) = quietly c
 clientReceive s c d (Offer v n e) = cond (stands (c .request) n) (record { half = clientOffered s c v e; out = message d (Dropped v n e) ∷ [] }) (quietly c)
 clientReceive s c d (Dropped v n e) = quietly c
+clientReceive s c d (Batch v n e m) = cond (stands (c .request) n) (record { half = clientForgets s c m; out = message d (Cleared v n e m) ∷ [] }) (quietly c)
+clientReceive s c d (Cleared v n e m) = quietly c
 
 -- questions 2 to 6 about a step of a client's, which ask nothing of the server
 abbrev pub clientRefusal : Setup → ClientHalf → Step → ℕ

@@ -11,7 +11,7 @@ use Rattle.laws.specs.Lists.{all-at}
 use Rattle.protocol.specs.declared.message.Message.{Message}
 use Rattle.protocol.specs.declared.message.Queue.{Queue}
 use Rattle.protocol.specs.declared.message.Kind.{Kind}
-use Rattle.protocol.specs.declared.message.Kind.the-variants.{Renew, Grant, Invalidate, Ack, Offer, Dropped}
+use Rattle.protocol.specs.declared.message.Kind.the-variants.{Renew, Grant, Invalidate, Ack, Offer, Dropped, Batch, Cleared}
 use Rattle.protocol.specs.declared.setup.Setup.{Setup}
 use Rattle.protocol.specs.Messages.{blank, messages, pushed, emptyQueue}
 use Rattle.protocol.specs.World.{World}
@@ -39,6 +39,8 @@ relisted s w q d (Invalidate o e ver) c = c
 relisted s w q d (Ack o e ver) c = c
 relisted s w q d (Offer v n e) c = c
 relisted s w q d (Dropped v n e) c = c
+relisted s w q d (Batch v n e m) c = c
+relisted s w q d (Cleared v n e m) c = c
 
 message-relisted : (s : Setup) (w : World) (q : Queue) (m : Message) → MessageOk s w m → MessageOk s (listing w q) m
 message-relisted s w q m c = record { client = c .client; kind = relisted s w q (m .client) (m .kind) (c .kind) }
@@ -51,6 +53,7 @@ inv-relisted s w q inv messages pairs = record {
   numbers = inv .numbers;
   versions = inv .versions;
   offers = inv .offers;
+  batches = inv .batches;
   writes = inv .writes;
   views = inv .views;
   messages = λ m z. message-relisted s w q m (messages m z);

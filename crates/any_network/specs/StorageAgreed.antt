@@ -12,7 +12,7 @@ use Rattle.laws.specs.Choice.{same?, not-both}
 use Rattle.laws.specs.Each.{each-set}
 use Rattle.laws.specs.Lists.{all-at}
 use Rattle.protocol.specs.declared.message.Queue.{Queue}
-use Rattle.protocol.specs.declared.message.Kind.the-variants.{Renew, Grant, Invalidate, Ack, Offer, Dropped}
+use Rattle.protocol.specs.declared.message.Kind.the-variants.{Renew, Grant, Invalidate, Ack, Offer, Dropped, Batch, Cleared}
 use Rattle.protocol.specs.declared.setup.Setup.{Setup}
 use Rattle.protocol.specs.Setup.{inRange}
 use Rattle.protocol.specs.Ranges.{Ranges, ranges}
@@ -61,6 +61,8 @@ module _ (s : Setup) (range : Ranges s) (w : World) (v x : ℕ) (hv : v < s .vol
   later-message d (Ack o e ver) z hd c = c
   later-message d (Offer u n e) z hd c = c
   later-message d (Dropped u n e) z hd c = c
+  later-message d (Batch u n e m) z hd c = c
+  later-message d (Cleared u n e m) z hd c = c
 
   module _ (k : SoundWorld s w) where
     held : v < length (w .tables .volumes .expiry)
@@ -94,6 +96,7 @@ module _ (s : Setup) (range : Ranges s) (w : World) (v x : ℕ) (hv : v < s .vol
       numbers = inv .numbers;
       versions = inv .versions;
       offers = inv .offers;
+      batches = inv .batches;
       writes = inv .writes;
       views = inv .views;
       messages = each inv later-message;

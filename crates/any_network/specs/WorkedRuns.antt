@@ -1,4 +1,4 @@
--- Two runs of halves, worked through by computation. The setup is 01's own: one client, one volume, one object, tv 10, t 100, m 3.
+-- Two runs of halves, worked through by computation. The setup is 01's own: one client, one volume, one object, tv 10, t 100, m 3, d 1.
 -- Letters: a a value, T a time, y a move, n a number.
 use Prim.Native.Nat.{ℕ, zero, suc}
 use mathlib.Core.List.{List, [], _∷_, _++_, map}
@@ -11,7 +11,7 @@ use Rattle.laws.specs.Sets.{bitAt, setOf, removed}
 use Rattle.protocol.specs.Messages.{pushed}
 use Rattle.protocol.specs.Tables.{freshTables}
 use Rattle.protocol.specs.Leases.{serverAlive, clientAlive, guardPassed, endOver}
-use Rattle.protocol.specs.Writes.{waits, latestEnd, opened, awaited, notified, waited, ready, due, deserted, posted, released, completed, settled, settling, written}
+use Rattle.protocol.specs.Writes.{waits, delays, delayed, latestEnd, opened, awaited, notified, waited, ready, due, clockSet, deserted, posted, released, completed, settled, settling, written}
 use Rattle.protocol.specs.Server.{noted, offered, lowestWaited, volumeRenewed, objectRenewed, granted, mustDrop, renewedBy, renewed, ackTaken, acked, ackStaged, dropTaken, disowned, dropped, dropStaged, serverRestarted}
 use Rattle.protocol.specs.Client.{stands, forgotten, swept}
 use Rattle.protocol.specs.Answers.{answerNumber, answerValue}
@@ -58,14 +58,14 @@ pub troubled-answers : (map answerNumber (fleetAnswers tiny (freshFleet tiny) tr
     ≡ 3 ∷ 0 ∷ 0 ∷ 0 ∷ 0 ∷ 0 ∷ 0 ∷ 0 ∷ 0 ∷ 1 ∷ 0 ∷ 0 ∷ 1 ∷ 0 ∷ 0 ∷ 2 ∷ 3 ∷ 0 ∷ 0 ∷ 0 ∷ 0 ∷ 0 ∷ 1 ∷ 0 ∷ 2 ∷ 4 ∷ 0 ∷ 0 ∷ 0 ∷ 3 ∷ [])
     × (map answerValue (fleetAnswers tiny (freshFleet tiny) troubled)
     ≡ 1 ∷ 0 ∷ 0 ∷ 0 ∷ 0 ∷ 0 ∷ 0 ∷ 0 ∷ 0 ∷ 7 ∷ 0 ∷ 0 ∷ 7 ∷ 0 ∷ 0 ∷ 0 ∷ 1 ∷ 0 ∷ 0 ∷ 0 ∷ 0 ∷ 0 ∷ 8 ∷ 0 ∷ 0 ∷ 3 ∷ 0 ∷ 0 ∷ 0 ∷ 1 ∷ [])
-unfolding troubled tiny fleetAnswers sentAt foldFrom anyFrom allFrom firstFrom storeEach greatest bitAt setOf removed pushed freshTables serverAlive clientAlive guardPassed endOver waits latestEnd opened awaited notified waited ready due deserted posted released completed settled written noted offered lowestWaited volumeRenewed objectRenewed granted mustDrop renewedBy renewed ackTaken acked ackStaged dropTaken disowned dropped dropStaged serverRestarted stands forgotten swept sweptFrom known exists timely vacant growable refusalOfStep
+unfolding troubled tiny fleetAnswers sentAt foldFrom anyFrom allFrom firstFrom storeEach greatest bitAt setOf removed pushed freshTables serverAlive clientAlive guardPassed endOver waits delays delayed latestEnd opened awaited notified waited ready due clockSet deserted posted released completed settled written noted offered lowestWaited volumeRenewed objectRenewed granted mustDrop renewedBy renewed ackTaken acked ackStaged dropTaken disowned dropped dropStaged serverRestarted stands forgotten swept sweptFrom known exists timely vacant growable refusalOfStep
 troubled-answers = (refl, refl)
 
 -- its history, newest first
 pub troubled-history : fleetHistory tiny troubled
     ≡ clockStep 10 ∷ completion 0 ∷ acceptance 0 9 10 ∷ serverRestart ∷ clockStep 2 ∷ showing 0 0 8 ∷ completion 0 ∷ showing 0 0 7 ∷ acceptance 0 8 10
     ∷ showing 0 0 7 ∷ completion 0 ∷ acceptance 0 7 3 ∷ []
-unfolding troubled tiny fleetAnswers sentAt foldFrom anyFrom allFrom firstFrom storeEach greatest bitAt setOf removed pushed freshTables serverAlive clientAlive guardPassed endOver waits latestEnd opened awaited notified waited ready due deserted posted released completed settled written noted offered lowestWaited volumeRenewed objectRenewed granted mustDrop renewedBy renewed ackTaken acked ackStaged dropTaken disowned dropped dropStaged serverRestarted stands forgotten swept sweptFrom known exists timely vacant growable refusalOfStep fleetHistoryFrom told settling
+unfolding troubled tiny fleetAnswers sentAt foldFrom anyFrom allFrom firstFrom storeEach greatest bitAt setOf removed pushed freshTables serverAlive clientAlive guardPassed endOver waits delays delayed latestEnd opened awaited notified waited ready due clockSet deserted posted released completed settled written noted offered lowestWaited volumeRenewed objectRenewed granted mustDrop renewedBy renewed ackTaken acked ackStaged dropTaken disowned dropped dropStaged serverRestarted stands forgotten swept sweptFrom known exists timely vacant growable refusalOfStep fleetHistoryFrom told settling
 troubled-history = refl
 
 -- 70 messages are under way, and all of them arrive after the last was sent, the last one first: no run over a list of 64 has this
@@ -81,5 +81,5 @@ unfoldable pub crowded : List Move
 crowded = times 70 ask ++ (arrivalsBelow 70 ++ (arrival 70 ∷ arrival 71 ∷ ask ∷ arrival 72 ∷ arrival 73 ∷ read ∷ []))
 
 pub crowded-shows : (length (fleetMovedAll tiny (freshFleet tiny) crowded .sent) ≡ 74) × (getD (map answerNumber (fleetAnswers tiny (freshFleet tiny) crowded)) 145 9 ≡ 1)
-unfolding crowded times arrivalsBelow tiny fleetMovedAll fleetAnswers sentAt foldFrom anyFrom allFrom firstFrom storeEach greatest bitAt setOf removed pushed freshTables serverAlive clientAlive guardPassed endOver waits latestEnd opened awaited notified waited ready due deserted posted released completed settled written noted offered lowestWaited volumeRenewed objectRenewed granted mustDrop renewedBy renewed ackTaken acked ackStaged dropTaken disowned dropped dropStaged serverRestarted stands forgotten swept sweptFrom known exists timely vacant growable refusalOfStep
+unfolding crowded times arrivalsBelow tiny fleetMovedAll fleetAnswers sentAt foldFrom anyFrom allFrom firstFrom storeEach greatest bitAt setOf removed pushed freshTables serverAlive clientAlive guardPassed endOver waits delays delayed latestEnd opened awaited notified waited ready due clockSet deserted posted released completed settled written noted offered lowestWaited volumeRenewed objectRenewed granted mustDrop renewedBy renewed ackTaken acked ackStaged dropTaken disowned dropped dropStaged serverRestarted stands forgotten swept sweptFrom known exists timely vacant growable refusalOfStep
 crowded-shows = (refl, refl)
