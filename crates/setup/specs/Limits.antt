@@ -9,7 +9,11 @@ abbrev pub VOLUMES : ℕ
 VOLUMES = 8
 
 abbrev pub OBJECTS : ℕ
-OBJECTS = 32
+OBJECTS = 28
+
+-- the places that the tables have for the objects, and for the objects of each client
+abbrev pub SLOTS : ℕ
+SLOTS = 32
 
 abbrev pub PLACES : ℕ
 PLACES = 64

@@ -40,8 +40,8 @@ fn volumes_fit(setup: Setup) -> bool
     ok
 }
 
-// Answers "setup in range?": "1 to 16 dashes, 1 to 8 volumes, 1 to 32 objects", their volumes, "volume lease tv 1 to 3,600; object lease t 1
-// to 1,000,000; message timeout m 1 to 60". Accepts any input.
+// Answers "setup in range?": "1 to 16 dashes, 1 to 8 volumes", the objects, which "now end at 28" (02, A6), their volumes, "volume lease tv 1 to 3,600;
+// object lease t 1 to 1,000,000; message timeout m 1 to 60", and the delay: "d in setup, 1 to 65,535". Accepts any input.
 pub fn in_range(setup: Setup) -> bool
     ensures { λ r. ⌜ r ≡ inRange setup ⌝ }
 {
@@ -52,5 +52,5 @@ pub fn in_range(setup: Setup) -> bool
         & between(1, 3600, setup.tv)
         & between(1, 1000000, setup.t)
         & between(1, 60, setup.m);
-    ticks & volumes_fit(setup)
+    ticks & volumes_fit(setup) & between(1, 65535, setup.delay)
 }

@@ -1,11 +1,14 @@
 // The limits that 01 names ("Tables", "Questions at the gate").
 
-// the most clients, volumes and objects that a setup has
+// the most clients, volumes and objects that a setup has; of objects, 02, A6: "objects now end at 28"
 pub const CLIENTS: usize = 16;
 
 pub const VOLUMES: usize = 8;
 
-pub const OBJECTS: usize = 32;
+pub const OBJECTS: usize = 28;
+
+// the places that the tables have for the objects, and for the objects of each client
+pub const SLOTS: usize = 32;
 
 // the places of the message list: "at most 64"
 pub const PLACES: usize = 64;

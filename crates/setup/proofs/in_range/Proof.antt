@@ -33,18 +33,22 @@ between-requires-6 c κs = search needs
 volumes-fit-requires : tie.Need-volumes-fit-requires
 volumes-fit-requires c κs = search needs
 
+between-requires-7 : tie.Need-between-requires-7
+between-requires-7 c κs = search needs
+
 returns : tie.Need-returns
 unfolding inRange
 returns c =
-    let a = c .before .before .before in
+    let a = c .before .before .before .before in
     rw (
       a .before .before .before .between .ensures,
       a .before .before .between2 .ensures,
       a .before .between3 .ensures,
       a .between4 .ensures,
-      c .before .before .between5 .ensures,
-      c .before .between6 .ensures,
-      c .volumes-fit .ensures,
+      c .before .before .before .between5 .ensures,
+      c .before .before .between6 .ensures,
+      c .before .volumes-fit .ensures,
+      c .between7 .ensures,
     )
 
 pub in-range-spec : {M : Type 1} → statement M
@@ -61,4 +65,5 @@ in-range-spec =
     between-requires-5
     between-requires-6
     volumes-fit-requires
+    between-requires-7
     returns)

@@ -7,10 +7,10 @@ use Rattle.setup.proofs.volumes_fit.Statement.{statement}
 use Rattle.setup.proofs.volumes_fit.Tie as tie
 
 abbrev Inv-loop : tie.InvT-loop
-Inv-loop s ok₀ o₀ ok o = Scanning (volumeFits s) 32 ok o
+Inv-loop s ok₀ o₀ ok o = Scanning (volumeFits s) 28 ok o
 
 abbrev μ-loop : tie.MeasureT-loop
-μ-loop s ok₀ o₀ ok o = 32 - o
+μ-loop s ok₀ o₀ ok o = 28 - o
 
 loop-holds : tie.Need-loop-holds Inv-loop μ-loop
 loop-holds c = (search needs, refl)
