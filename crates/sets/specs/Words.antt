@@ -6,12 +6,15 @@ use native.Mathlib.Omega.{arith}
 use mathlib.Core.Bool.{Bool, true, false, cond, not, _&&_, _||_}
 use mathlib.Core.Logic.{_⊎_, inl, inr}
 use mathlib.Core.Path.{_≡_, refl, sym, ap, ap₂, _∙_}
+use lib.Arith.{lt-one}
 use lib.Dec.{eqb, eqb·suc-zero, eqb·zero-suc, eqb·suc-suc, lit<}
 use lib.Pow.{pow-pos, pow-mono, shl-exact, shl-lt, shr-shr, shr-le}
 use lib.Bits.{bitAnd, bitOr, and-step, or-step, and-le-l, or-lt, shifted-half, shifted-even}
 use lib.Count.{trailingZeros, under}
+use borrow.Author.Tests.{eq-eqb, eqb-true}
 use Rattle.laws.specs.Choice.{true-or-false}
-use Rattle.laws.specs.Sets.{bitAt, added, removed, low-bit, join-bit, join-rest, half-below, set-is, bit-none}
+use Rattle.laws.specs.Loop.{all-of}
+use Rattle.laws.specs.Sets.{bitAt, added, removed, less, allIn, within, all-in, low-bit, join-bit, join-rest, half-below, set-is, bit-none, bit-less}
 use Rattle.laws.specs.First.{first-known, first-nothing}
 use Rattle.laws.specs.Skip.{Found}
 
@@ -103,6 +106,44 @@ module _ (m k : ℕ) (h : m < 2 ^ 32) (i : k < 32) where
   removes =
       rw (one-shifted k i)
       (set-is _ 32 _ (and-below m _ h) (λ j b. bit-and m ((2 ^ 32 - 1) - 1 * 2 ^ k) j ∙ ap (λ (x : Bool). bitAt m j && x) (bit-not 32 (1 * 2 ^ k) j (one-below k i) b ∙ ap not (bit-one k j))))
+
+pub lessens : (a b : ℕ) → a < 2 ^ 32 → b < 2 ^ 32 → bitAnd a ((2 ^ 32 - 1) - b) ≡ less a b
+unfolding less
+lessens a b g h = set-is _ 32 _ (and-below a _ g) (λ j i. bit-and a ((2 ^ 32 - 1) - b) j ∙ ap (λ (x : Bool). bitAt a j && x) (bit-not 32 b j h i))
+
+-- a is within b where nothing is left of a without b
+module _ (a b : ℕ) where
+  nothing-left : eqb (less a b) 0 ≡ true → within a b ≡ true
+  unfolding allIn
+  nothing-left e = all-of _ 32 (λ k h. member (bitAt a k) (bitAt b k) (sym (bit-less a b k h) ∙ ap (λ (x : ℕ). bitAt x k) (eqb-true _ 0 e) ∙ bit-none k))
+    where
+      member : (x y : Bool) → x && not y ≡ false → not x || y ≡ true
+      member true true e = refl
+      member true false e = sym e
+      member false y e = refl
+
+  none-left : within a b ≡ true → eqb (less a b) 0 ≡ true
+  unfolding less
+  none-left e = eq-eqb _ 0 (sym (set-is _ 32 0 (pow-pos 32) (λ k h. bit-none k ∙ sym (gone (bitAt a k) (bitAt b k) (all-in (bitAt b) a e k h)))))
+    where
+      gone : (x y : Bool) → (x ≡ true → y ≡ true) → x && not y ≡ false
+      gone true y f = rw (f refl)
+      gone false y f = refl
+
+  pub within-is : eqb (less a b) 0 ≡ within a b
+  within-is = pick (eqb (less a b) 0) (within a b) nothing-left none-left
+    where
+      pick : (x y : Bool) → (x ≡ true → y ≡ true) → (y ≡ true → x ≡ true) → x ≡ y
+      pick true y f g = sym (f refl)
+      pick false true f g = g refl
+      pick false false f g = refl
+
+-- no number past a word's bits is a member
+pub bit-past : (m n k : ℕ) → m < 2 ^ n → n ≤ k → bitAt m k ≡ false
+unfolding bitAt
+bit-past m zero k h l = rw (lt-one h) (bit-none k)
+bit-past m (suc n) zero h l = absurd (omega arith)
+bit-past m (suc n) (suc k) h l = bit-past (m / 2) n k (half-below m n h) (le-of-suc-le-suc l)
 
 -- ---- the next member
 
