@@ -5,11 +5,11 @@ use mathlib.Core.Path.{_≡_}
 use lib.Dec.{eqb}
 use borrow.Author.Tests.{ne-eqb}
 use Rattle.protocol.specs.declared.message.Kind.{Kind}
-use Rattle.protocol.specs.declared.message.Kind.the-variants.{Renew, Grant, Invalidate, Ack, Offer, Dropped}
+use Rattle.protocol.specs.declared.message.Kind.the-variants.{Renew, Grant, Invalidate, Ack, Offer, Dropped, Batch, Cleared}
 use Rattle.protocol.specs.declared.message.Payload.{Payload}
 use Rattle.protocol.specs.declared.message.Payload.the-variants.{Same, Value}
 use Rattle.message_fields.specs.declared.Fields.{Fields}
-use Rattle.message_fields.specs.Fields.{row, kindFields, payloadIn, kindIn, sound}
+use Rattle.message_fields.specs.Fields.{row, kindFields, payloadIn, setKindIn, kindIn, sound}
 use Rattle.message_fields.specs.Questions.{none, payloadRight, noLease, right, asked}
 
 module _ (d : ℕ) (k : Kind) (r : Fields) where
@@ -36,6 +36,14 @@ module _ (d : ℕ) (k : Kind) (r : Fields) where
   pub by-dropped : (v n e : ℕ) → k ≡ Dropped v n e → r ≡ row 6 d v 0 n 0 e 0 0 0 → r ≡ kindFields d k
   unfolding kindFields
   by-dropped v n e h g = rw h g
+
+  pub by-batch : (v n e m : ℕ) → k ≡ Batch v n e m → r ≡ row 7 d v 0 n 0 e m 0 0 → r ≡ kindFields d k
+  unfolding kindFields
+  by-batch v n e m h g = rw h g
+
+  pub by-cleared : (v n e m : ℕ) → k ≡ Cleared v n e m → r ≡ row 8 d v 0 n 0 e m 0 0 → r ≡ kindFields d k
+  unfolding kindFields
+  by-cleared v n e m h g = rw h g
 
 module _ (f : Fields) (x y : ℕ) (p : Payload) where
   pub with-value : (v : ℕ) → p ≡ Value v
@@ -76,10 +84,22 @@ module _ (f : Fields) where
   unfolding kindIn
   kind-6 e = rw e
 
-  pub kind-else : (f .kind ≡ 2 → ⊥) → (f .kind ≡ 3 → ⊥) → (f .kind ≡ 4 → ⊥) → (f .kind ≡ 5 → ⊥) → (f .kind ≡ 6 → ⊥)
-      → Renew (f .object) (f .number) (f .epoch) (f .version) ≡ kindIn f
+  pub kind-7 : f .kind ≡ 7 → Batch (f .object) (f .number) (f .epoch) (f .version) ≡ setKindIn f
+  unfolding setKindIn
+  kind-7 e = rw e
+
+  pub kind-8 : f .kind ≡ 8 → Cleared (f .object) (f .number) (f .epoch) (f .version) ≡ setKindIn f
+  unfolding setKindIn
+  kind-8 e = rw e
+
+  pub kind-1 : (f .kind ≡ 7 → ⊥) → (f .kind ≡ 8 → ⊥) → Renew (f .object) (f .number) (f .epoch) (f .version) ≡ setKindIn f
+  unfolding setKindIn
+  kind-1 a b = rw (ne-eqb _ _ a, ne-eqb _ _ b)
+
+  pub kind-else : (k : Kind) → (f .kind ≡ 2 → ⊥) → (f .kind ≡ 3 → ⊥) → (f .kind ≡ 4 → ⊥) → (f .kind ≡ 5 → ⊥) → (f .kind ≡ 6 → ⊥)
+      → k ≡ setKindIn f → k ≡ kindIn f
   unfolding kindIn
-  kind-else a b c d e = rw (ne-eqb _ _ a, ne-eqb _ _ b, ne-eqb _ _ c, ne-eqb _ _ d, ne-eqb _ _ e)
+  kind-else k a b c d e g = rw (ne-eqb _ _ a, ne-eqb _ _ b, ne-eqb _ _ c, ne-eqb _ _ d, ne-eqb _ _ e) g
 
 -- ---- the test of fields, kind by kind
 module _ (f : Fields) (r : Bool) where
@@ -89,11 +109,11 @@ module _ (f : Fields) (r : Bool) where
   pub payload-value : (f .present ≡ 0 → ⊥) → r ≡ eqb 1 (f .present) → r ≡ payloadRight f
   payload-value h e = rw (ne-eqb (f .present) 0 h) e
 
-  pub renew-right : f .kind ≡ 1 → r ≡ noLease f → r ≡ sound f
+  pub renew-right : (eqb (f .kind) 1 || eqb (f .kind) 7 || eqb (f .kind) 8) ≡ true → r ≡ noLease f → r ≡ sound f
   unfolding right
   renew-right h e = rw (asked f, h) e
 
-  module _ (a : f .kind ≡ 1 → ⊥) where
+  module _ (a : (eqb (f .kind) 1 || eqb (f .kind) 7 || eqb (f .kind) 8) ≡ false) where
     pub grant-right : f .kind ≡ 2 → r ≡ payloadRight f → r ≡ sound f
     unfolding right
     grant-right h e = rw (asked f, h) e
@@ -101,13 +121,13 @@ module _ (f : Fields) (r : Bool) where
     module _ (b : f .kind ≡ 2 → ⊥) where
       pub object-right : (q : Bool) → (eqb (f .kind) 3 || eqb (f .kind) 4) ≡ true → q ≡ noLease f → r ≡ (q && none (f .number)) → r ≡ sound f
       unfolding right
-      object-right q h g e = rw (asked f, ne-eqb (f .kind) 1 a, ne-eqb (f .kind) 2 b, h, ← g) e
+      object-right q h g e = rw (asked f, a, ne-eqb (f .kind) 2 b, h, ← g) e
 
       module _ (c : (eqb (f .kind) 3 || eqb (f .kind) 4) ≡ false) where
         pub volume-right : (q : Bool) → (eqb (f .kind) 5 || eqb (f .kind) 6) ≡ true → q ≡ noLease f → r ≡ (q && none (f .version)) → r ≡ sound f
         unfolding right
-        volume-right q h g e = rw (asked f, ne-eqb (f .kind) 1 a, ne-eqb (f .kind) 2 b, c, h, ← g) e
+        volume-right q h g e = rw (asked f, a, ne-eqb (f .kind) 2 b, c, h, ← g) e
 
         pub none-right : (eqb (f .kind) 5 || eqb (f .kind) 6) ≡ false → r ≡ false → r ≡ sound f
         unfolding right
-        none-right h e = rw (asked f, ne-eqb (f .kind) 1 a, ne-eqb (f .kind) 2 b, c, h) e
+        none-right h e = rw (asked f, a, ne-eqb (f .kind) 2 b, c, h) e

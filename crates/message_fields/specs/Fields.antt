@@ -4,7 +4,7 @@ use mathlib.Core.Bool.{Bool, cond, _&&_}
 use lib.Dec.{eqb}
 use Rattle.protocol.specs.declared.message.Message.{Message}
 use Rattle.protocol.specs.declared.message.Kind.{Kind}
-use Rattle.protocol.specs.declared.message.Kind.the-variants.{Renew, Grant, Invalidate, Ack, Offer, Dropped}
+use Rattle.protocol.specs.declared.message.Kind.the-variants.{Renew, Grant, Invalidate, Ack, Offer, Dropped, Batch, Cleared}
 use Rattle.protocol.specs.declared.message.Payload.{Payload}
 use Rattle.protocol.specs.declared.message.Payload.the-variants.{Same, Value}
 use Rattle.message_fields.specs.declared.Fields.{Fields}
@@ -15,6 +15,8 @@ row k d o p n x e w y v = record { kind = k; client = d; object = o; present = p
 
 -- "RENEW has object, number, epoch and version; GRANT every field; INVALIDATE and ACK object, epoch and version; OFFER and DROPPED volume, number and
 -- epoch." "kind (1 to 6 in the order RENEW, GRANT, INVALIDATE, ACK, OFFER, DROPPED)". "Fields a kind lacks are 0". "A GRANT without value has value 0."
+-- 02, A6: "BATCH (kind 7) with number, epoch and the noted set, bit k for object k, in the version field", "CLEARED (kind 8) with number, epoch and set; in
+-- both the object byte names the volume"
 --   kind client object present number volume-expiry epoch version object-expiry value
 unfoldable pub kindFields : ℕ → Kind → Fields
 kindFields d (Renew o n e w) = row 1 d o 0 n 0 e w 0 0
@@ -24,6 +26,8 @@ kindFields d (Invalidate o e w) = row 3 d o 0 0 0 e w 0 0
 kindFields d (Ack o e w) = row 4 d o 0 0 0 e w 0 0
 kindFields d (Offer v n e) = row 5 d v 0 n 0 e 0 0 0
 kindFields d (Dropped v n e) = row 6 d v 0 n 0 e 0 0 0
+kindFields d (Batch v n e m) = row 7 d v 0 n 0 e m 0 0
+kindFields d (Cleared v n e m) = row 8 d v 0 n 0 e m 0 0
 
 abbrev pub fieldsOf : Message → Fields
 fieldsOf m = kindFields (m .client) (m .kind)
@@ -32,6 +36,12 @@ fieldsOf m = kindFields (m .client) (m .kind)
 abbrev pub payloadIn : Fields → Payload
 payloadIn f = cond (eqb (f .present) 0) Same (Value (f .value))
 
+-- "BATCH (kind 7)", "CLEARED (kind 8)"
+unfoldable pub setKindIn : Fields → Kind
+setKindIn f =
+    cond (eqb (f .kind) 7) (Batch (f .object) (f .number) (f .epoch) (f .version))
+    (cond (eqb (f .kind) 8) (Cleared (f .object) (f .number) (f .epoch) (f .version)) (Renew (f .object) (f .number) (f .epoch) (f .version)))
+
 -- "kind (1 to 6 in the order RENEW, GRANT, INVALIDATE, ACK, OFFER, DROPPED)"
 unfoldable pub kindIn : Fields → Kind
 kindIn f =
@@ -39,7 +49,7 @@ kindIn f =
     (cond (eqb (f .kind) 3) (Invalidate (f .object) (f .epoch) (f .version))
     (cond (eqb (f .kind) 4) (Ack (f .object) (f .epoch) (f .version))
     (cond (eqb (f .kind) 5) (Offer (f .object) (f .number) (f .epoch))
-    (cond (eqb (f .kind) 6) (Dropped (f .object) (f .number) (f .epoch)) (Renew (f .object) (f .number) (f .epoch) (f .version))))))
+    (cond (eqb (f .kind) 6) (Dropped (f .object) (f .number) (f .epoch)) (setKindIn f)))))
 
 abbrev pub messageIn : Fields → Message
 messageIn f = record { client = f .client; kind = kindIn f }

@@ -6,13 +6,13 @@ use borrow.Author.Tests.{eq-eqb, eqb-true}
 use Rattle.laws.specs.Choice.{and-true}
 use Rattle.protocol.specs.declared.message.Message.{Message}
 use Rattle.protocol.specs.declared.message.Kind.{Kind}
-use Rattle.protocol.specs.declared.message.Kind.the-variants.{Renew, Grant, Invalidate, Ack, Offer, Dropped}
+use Rattle.protocol.specs.declared.message.Kind.the-variants.{Renew, Grant, Invalidate, Ack, Offer, Dropped, Batch, Cleared}
 use Rattle.protocol.specs.declared.message.Payload.the-variants.{Same, Value}
 use Rattle.message_fields.specs.declared.Fields.{Fields}
-use Rattle.message_fields.specs.Fields.{row, kindFields, fieldsOf, kindIn, messageIn, same, sound}
+use Rattle.message_fields.specs.Fields.{row, kindFields, fieldsOf, setKindIn, kindIn, messageIn, same, sound}
 
 kind-back : (d : ℕ) (k : Kind) → kindIn (kindFields d k) ≡ k
-unfolding kindFields kindIn
+unfolding kindFields setKindIn kindIn
 kind-back d (Renew o n e w) = refl
 kind-back d (Grant o n x e w y (Value v)) = refl
 kind-back d (Grant o n x e w y Same) = refl
@@ -20,6 +20,8 @@ kind-back d (Invalidate o e w) = refl
 kind-back d (Ack o e w) = refl
 kind-back d (Offer v n e) = refl
 kind-back d (Dropped v n e) = refl
+kind-back d (Batch v n e m) = refl
+kind-back d (Cleared v n e m) = refl
 
 client-back : (d : ℕ) (k : Kind) → kindFields d k .client ≡ d
 unfolding kindFields
@@ -30,6 +32,8 @@ client-back d (Invalidate o e w) = refl
 client-back d (Ack o e w) = refl
 client-back d (Offer v n e) = refl
 client-back d (Dropped v n e) = refl
+client-back d (Batch v n e m) = refl
+client-back d (Cleared v n e m) = refl
 
 pub message-back : (m : Message) → messageIn (fieldsOf m) ≡ m
 message-back m = rw (kind-back, client-back)

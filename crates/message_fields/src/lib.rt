@@ -1,7 +1,7 @@
 // Converts a message to its fields as numbers, by its kind, and back.
 ghost use mathlib.Core.Path.{_≡_};
 ghost use Rattle.protocol.specs.declared.message.Kind.the-variants.{Grant};
-ghost use Rattle.message_fields.specs.Fields.{row, kindFields, fieldsOf, payloadIn, kindIn, messageIn, sound};
+ghost use Rattle.message_fields.specs.Fields.{row, kindFields, fieldsOf, payloadIn, setKindIn, kindIn, messageIn, sound};
 ghost use Rattle.message_fields.specs.Questions.{payloadRight, noLease};
 use protocol::message::Kind;
 use protocol::message::Message;
@@ -11,13 +11,14 @@ use protocol::message::Payload;
 pub struct Fields {
     pub kind: u8,
     pub client: u8,
-    // the volume in an OFFER or a DROPPED
+    // the volume in an OFFER, a DROPPED, a BATCH or a CLEARED
     pub object: u8,
     // 1 if a GRANT has a value, else 0
     pub present: u8,
     pub number: u32,
     pub volume_expiry: u32,
     pub epoch: u32,
+    // the set in a BATCH or a CLEARED
     pub version: u32,
     pub object_expiry: u32,
     pub value: u64,
@@ -74,7 +75,8 @@ fn with_lease(f: Fields, volume_expiry: u32, object_expiry: u32, payload: Payloa
 }
 
 // Returns the fields of a message by its kind, "1 to 6 in the order RENEW, GRANT, INVALIDATE, ACK, OFFER, DROPPED": "RENEW has object, number, epoch and
-// version; GRANT every field; INVALIDATE and ACK object, epoch and version; OFFER and DROPPED volume, number and epoch."
+// version; GRANT every field; INVALIDATE and ACK object, epoch and version; OFFER and DROPPED volume, number and epoch." 02, A6: "BATCH (kind 7) with number,
+// epoch and the noted set, bit k for object k, in the version field", "CLEARED (kind 8) with number, epoch and set; in both the object byte names the volume".
 fn kind_fields(client: u8, kind: Kind) -> Fields
     ensures { λ r. ⌜ r ≡ kindFields client kind ⌝ }
 {
@@ -117,6 +119,18 @@ fn kind_fields(client: u8, kind: Kind) -> Fields
             number,
             epoch,
         } => without_lease(6, client, volume, number, epoch, 0),
+        Kind::Batch {
+            volume,
+            number,
+            epoch,
+            set,
+        } => without_lease(7, client, volume, number, epoch, set),
+        Kind::Cleared {
+            volume,
+            number,
+            epoch,
+            set,
+        } => without_lease(8, client, volume, number, epoch, set),
     }
 }
 
@@ -151,8 +165,36 @@ fn grant_in(f: Fields) -> Kind
     }
 }
 
-// Returns the kind with these fields, "1 to 6 in the order RENEW, GRANT, INVALIDATE, ACK, OFFER, DROPPED". Unknown kind numbers read as RENEW; `sound`
-// rejects them.
+// Returns a kind with a set, "BATCH (kind 7)" or "CLEARED (kind 8)" (02, A6). Other kind numbers read as RENEW.
+fn set_kind_in(f: Fields) -> Kind
+    ensures { λ r. ⌜ r ≡ setKindIn f ⌝ }
+{
+    if f.kind == 7 {
+        return Kind::Batch {
+            volume: f.object,
+            number: f.number,
+            epoch: f.epoch,
+            set: f.version,
+        };
+    }
+    if f.kind == 8 {
+        return Kind::Cleared {
+            volume: f.object,
+            number: f.number,
+            epoch: f.epoch,
+            set: f.version,
+        };
+    }
+    Kind::Renew {
+        object: f.object,
+        number: f.number,
+        epoch: f.epoch,
+        version: f.version,
+    }
+}
+
+// Returns the kind with these fields, "1 to 6 in the order RENEW, GRANT, INVALIDATE, ACK, OFFER, DROPPED", or 7 and 8 (02, A6). Unknown kind numbers read as
+// RENEW; `sound` rejects them.
 fn kind_in(f: Fields) -> Kind
     ensures { λ r. ⌜ r ≡ kindIn f ⌝ }
 {
@@ -187,12 +229,7 @@ fn kind_in(f: Fields) -> Kind
             epoch: f.epoch,
         };
     }
-    Kind::Renew {
-        object: f.object,
-        number: f.number,
-        epoch: f.epoch,
-        version: f.version,
-    }
+    set_kind_in(f)
 }
 
 // Returns the message with these fields, ignoring those that its kind lacks.
@@ -222,11 +259,12 @@ fn no_lease(f: Fields) -> bool
     (0 == f.present) & (0 == f.volume_expiry) & (0 == f.object_expiry) & (0 == f.value)
 }
 
-// Returns whether these are the fields of a message: the kind is known, "Fields a kind lacks are 0", and a GRANT's value flag is right.
+// Returns whether these are the fields of a message: the kind is known, "Fields a kind lacks are 0", and a GRANT's value flag is right. Any version is
+// a set of a BATCH or a CLEARED here.
 pub fn sound(f: Fields) -> bool
     ensures { λ r. ⌜ r ≡ sound f ⌝ }
 {
-    if f.kind == 1 {
+    if (f.kind == 1) | (f.kind == 7) | (f.kind == 8) {
         return no_lease(f);
     }
     if f.kind == 2 {

@@ -1,5 +1,5 @@
 use borrow.Author.Needs.{needs}
-use Rattle.message_fields.proofs.Laws.{by-renew, by-grant, by-invalidate, by-ack, by-offer, by-dropped}
+use Rattle.message_fields.proofs.Laws.{by-renew, by-grant, by-invalidate, by-ack, by-offer, by-dropped, by-batch, by-cleared}
 use Rattle.message_fields.proofs.kind_fields.Statement.{statement}
 use Rattle.message_fields.proofs.kind_fields.Tie as tie
 
@@ -42,6 +42,18 @@ enum-known-kind-6 c = search needs
 without-lease-requires-6 : tie.Need-without-lease-requires-6
 without-lease-requires-6 c κs = search needs
 
+enum-known-kind-7 : tie.Need-enum-known-kind-7
+enum-known-kind-7 c = search needs
+
+without-lease-requires-7 : tie.Need-without-lease-requires-7
+without-lease-requires-7 c κs = search needs
+
+enum-known-kind-8 : tie.Need-enum-known-kind-8
+enum-known-kind-8 c = search needs
+
+without-lease-requires-8 : tie.Need-without-lease-requires-8
+without-lease-requires-8 c κs = search needs
+
 returns : tie.Need-returns
 returns c = search by-renew
 
@@ -60,6 +72,12 @@ returns-5 c = search by-offer
 returns-6 : tie.Need-returns-6
 returns-6 c = search by-dropped
 
+returns-7 : tie.Need-returns-7
+returns-7 c = search by-batch
+
+returns-8 : tie.Need-returns-8
+returns-8 c = search by-cleared
+
 pub kind-fields-spec : {M : Type 1} → statement M
 kind-fields-spec =
     tie.close
@@ -77,9 +95,15 @@ kind-fields-spec =
     without-lease-requires-5
     enum-known-kind-6
     without-lease-requires-6
+    enum-known-kind-7
+    without-lease-requires-7
+    enum-known-kind-8
+    without-lease-requires-8
     returns
     returns-2
     returns-3
     returns-4
     returns-5
-    returns-6)
+    returns-6
+    returns-7
+    returns-8)

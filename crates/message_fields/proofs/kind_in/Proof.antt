@@ -21,10 +21,13 @@ returns-4 c = search kind-5
 returns-5 : tie.Need-returns-5
 returns-5 c = search kind-6
 
+set-kind-in-requires : tie.Need-set-kind-in-requires
+set-kind-in-requires c κs = search needs
+
 returns-6 : tie.Need-returns-6
 returns-6 c = search kind-else
 
 pub kind-in-spec : {M : Type 1} → statement M
 kind-in-spec =
     tie.close
-    (tie.spec grant-in-requires returns returns-2 returns-3 returns-4 returns-5 returns-6)
+    (tie.spec grant-in-requires returns returns-2 returns-3 returns-4 returns-5 set-kind-in-requires returns-6)
