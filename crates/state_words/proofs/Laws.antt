@@ -16,7 +16,7 @@ use Rattle.protocol.specs.Setup.{inRange}
 use Rattle.protocol.specs.Messages.{blank}
 use Rattle.protocol.specs.Tables.{freshTables, noCopy, freshRequest}
 use Rattle.state_words.specs.Fields.{wordLengths, valueLengths, at, WORDS, VALUES, CLOCK, LENGTH, VOLUME-EPOCH, VOLUME-EXPIRY, GUARD}
-use Rattle.state_words.specs.Fields.{SEEN, SESSION-EXPIRY, UNREACHABLE, OFFER, VERSION, OBJECT-EXPIRY, STANDING, END, LEASE, WAITING}
+use Rattle.state_words.specs.Fields.{SEEN, SESSION-EXPIRY, UNREACHABLE, OFFER, VERSION, OBJECT-EXPIRY, STANDING, END, LEASE, WAITING, NOTES, BATCH}
 use Rattle.state_words.specs.Fields.{VIEW-EPOCH, VIEW-EXPIRY, COPY-VERSION, COPY-EXPIRY, REQUEST-NEXT, REQUEST-STANDING}
 use Rattle.state_words.specs.Fields.{REQUEST-NUMBER, REQUEST-OBJECT, VALUE, PENDING, COPY-VALUE}
 use Rattle.state_words.specs.Rows.{messageFrom}
@@ -61,6 +61,8 @@ module _ (w x a b c : List ℕ) (l : length w ≡ WORDS)
         none END (omega arith),
         none LEASE (omega arith),
         none WAITING (omega arith),
+        none NOTES (omega arith),
+        none BATCH (omega arith),
         none VIEW-EPOCH (omega arith),
         none VIEW-EXPIRY (omega arith),
         empty VALUE (omega arith),

@@ -7,7 +7,7 @@ use Rattle.laws.specs.Parts.{start}
 abbrev pub wordLengths : List ℕ
 wordLengths =
     1 ∷ 1 ∷ 576
-    ∷ 8 ∷ 8 ∷ 8 ∷ 16 ∷ 128 ∷ 128 ∷ 128 ∷ 32 ∷ 32 ∷ 32 ∷ 32 ∷ 512 ∷ 32
+    ∷ 8 ∷ 8 ∷ 8 ∷ 16 ∷ 128 ∷ 128 ∷ 128 ∷ 32 ∷ 32 ∷ 32 ∷ 32 ∷ 512 ∷ 32 ∷ 128 ∷ 128
     ∷ 128 ∷ 128 ∷ 512 ∷ 512 ∷ 16 ∷ 16 ∷ 16 ∷ 16 ∷ []
 
 abbrev pub valueLengths : List ℕ
@@ -63,30 +63,36 @@ LEASE = 14
 abbrev pub WAITING : ℕ
 WAITING = 15
 
+abbrev pub NOTES : ℕ
+NOTES = 16
+
+abbrev pub BATCH : ℕ
+BATCH = 17
+
 -- the clients' words
 abbrev pub VIEW-EPOCH : ℕ
-VIEW-EPOCH = 16
+VIEW-EPOCH = 18
 
 abbrev pub VIEW-EXPIRY : ℕ
-VIEW-EXPIRY = 17
+VIEW-EXPIRY = 19
 
 abbrev pub COPY-VERSION : ℕ
-COPY-VERSION = 18
+COPY-VERSION = 20
 
 abbrev pub COPY-EXPIRY : ℕ
-COPY-EXPIRY = 19
+COPY-EXPIRY = 21
 
 abbrev pub REQUEST-NEXT : ℕ
-REQUEST-NEXT = 20
+REQUEST-NEXT = 22
 
 abbrev pub REQUEST-STANDING : ℕ
-REQUEST-STANDING = 21
+REQUEST-STANDING = 23
 
 abbrev pub REQUEST-NUMBER : ℕ
-REQUEST-NUMBER = 22
+REQUEST-NUMBER = 24
 
 abbrev pub REQUEST-OBJECT : ℕ
-REQUEST-OBJECT = 23
+REQUEST-OBJECT = 25
 
 -- the values: the network's, the server's two, the clients'
 abbrev pub MESSAGE-VALUE : ℕ
@@ -103,7 +109,7 @@ COPY-VALUE = 3
 
 -- the number of words, and of values
 abbrev pub WORDS : ℕ
-WORDS = 3018
+WORDS = 3274
 
 abbrev pub VALUES : ℕ
 VALUES = 640

@@ -12,7 +12,7 @@ use Rattle.protocol.specs.declared.tables.Tables.{Tables}
 use Rattle.protocol.specs.Tables.{noCopy, freshRequest}
 use Rattle.protocol.specs.World.{World}
 use Rattle.state_words.specs.Fields.{wordLengths, valueLengths, CLOCK, VOLUME-EPOCH, VOLUME-EXPIRY, GUARD, SEEN, SESSION-EXPIRY}
-use Rattle.state_words.specs.Fields.{UNREACHABLE, OFFER, VERSION, OBJECT-EXPIRY, STANDING, END, LEASE, WAITING, VIEW-EPOCH}
+use Rattle.state_words.specs.Fields.{UNREACHABLE, OFFER, VERSION, OBJECT-EXPIRY, STANDING, END, LEASE, WAITING, NOTES, BATCH, VIEW-EPOCH}
 use Rattle.state_words.specs.Fields.{VIEW-EXPIRY, COPY-VERSION, COPY-EXPIRY, REQUEST-NEXT, REQUEST-STANDING, REQUEST-NUMBER}
 use Rattle.state_words.specs.Fields.{REQUEST-OBJECT, VALUE, PENDING, COPY-VALUE}
 use Rattle.state_words.specs.Rows.{queueIn}
@@ -22,7 +22,14 @@ abbrev pub tablesIn : (ℕ → List ℕ) → (ℕ → List ℕ) → Tables
 tablesIn words values = record {
   clock = getD (words CLOCK) 0 0;
   volumes = record { epoch = words VOLUME-EPOCH; expiry = words VOLUME-EXPIRY; guard = words GUARD };
-  sessions = record { seen = words SEEN; expiry = words SESSION-EXPIRY; unreachable = flags (words UNREACHABLE); offer = words OFFER };
+  sessions = record {
+    seen = words SEEN;
+    expiry = words SESSION-EXPIRY;
+    unreachable = flags (words UNREACHABLE);
+    offer = words OFFER;
+    notes = words NOTES;
+    batch = words BATCH;
+  };
   objects = record {
     value = values VALUE;
     version = words VERSION;

@@ -8,13 +8,16 @@ use mathlib.Core.Path.{_≡_, refl, ap}
 use lib.ListN.{take, replicate}
 use Rattle.protocol.specs.declared.setup.Setup.{Setup}
 use Rattle.protocol.specs.Setup.{inRange}
-use Rattle.protocol.specs.Ranges.{ranges}
+use Rattle.protocol.specs.Ranges.{Ranges, ranges}
 use Rattle.protocol.specs.Tables.{noCopy, freshRequest, freshTables}
 use Rattle.protocol.specs.World.{freshWorld}
 use Rattle.state_words.specs.View.{tablesOf, recordsOf, freshRecords, worldOf}
 
+few : {s : Setup} → Ranges s → s .objects ≤ 32
+few r = omega arith
+
 pub few-copies : (s : Setup) → inRange s ≡ true → s .clients * s .objects ≤ 512
-few-copies s i = mul-le-mul (ranges s i .clients .1) (ranges s i .objects .1)
+few-copies s i = mul-le-mul (ranges s i .clients .1) (few (ranges s i))
 
 take-same {ℓ} : {A : Type ℓ} (n k : ℕ) (a : A) → n ≤ k → take n (replicate k a) ≡ replicate n a
 take-same zero k a h = refl

@@ -22,7 +22,7 @@ pub fn fresh(words: &mut Words, values: &mut Values)
     *words = [0; WORDS];
     *values = [0; VALUES];
     pass::fill(&mut *words, server::VOLUME_EPOCH, limits::VOLUMES, 1);
-    pass::fill(&mut *words, server::VERSION, limits::OBJECTS, 1);
+    pass::fill(&mut *words, server::VERSION, limits::SLOTS, 1);
     pass::fill(&mut *words, client::REQUEST_NEXT, limits::CLIENTS, 1);
 }
 

@@ -6,17 +6,17 @@ pub mod pass;
 pub mod server;
 
 use setup::limits::CLIENTS;
-use setup::limits::OBJECTS;
+use setup::limits::SLOTS;
 use setup::limits::VOLUMES;
 
 // the length of a field with one word for each client and volume
 pub const CLIENT_VOLUMES: usize = CLIENTS * VOLUMES;
 
 // the length of a field with one word for each client and object
-pub const CLIENT_OBJECTS: usize = CLIENTS * OBJECTS;
+pub const CLIENT_OBJECTS: usize = CLIENTS * SLOTS;
 
 // the words hold all 32-bit numbers, flags and sets
-pub const WORDS: usize = 3018;
+pub const WORDS: usize = 3274;
 
 pub type Words = [u32; WORDS];
 

@@ -1,4 +1,5 @@
-// Offsets of the server's fields: per volume, per client, per client and volume, per object, per client and object; last, a set of clients per object.
+// Offsets of the server's fields: per volume, per client, per client and volume, per object, per client and object; then a set of clients per object; last,
+// per client and volume, a set of objects and a number.
 
 // "Server, per volume: epoch (fresh 1), largest volume expiry VE, guard."
 pub const VOLUME_EPOCH: usize = 578;
@@ -32,6 +33,12 @@ pub const LEASE: usize = 1130;
 
 // "perhaps a standing write: .. waiting dashes"
 pub const WAITING: usize = 1642;
+
+// 02, A6: "its list of notes for that volume"
+pub const NOTES: usize = 1674;
+
+// the number of "the batch last sent"
+pub const BATCH: usize = 1802;
 
 // in the values: "Per object: value (64 bits)"
 pub const VALUE: usize = 64;
