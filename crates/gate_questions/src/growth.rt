@@ -22,7 +22,7 @@ fn version_grows(words: &Words, step: Step) -> bool
     ensures { λ r. ⌜ r ≡ (not (isWrite step) || canGrow (versionAt (numbersOf (now (words .entry))) (step .object))) ⌝ }
 {
     let object = step.object as usize;
-    if object < limits::OBJECTS {
+    if object < limits::SLOTS {
         return (step.kind != known_kinds::WRITE)
             | (words[server::VERSION + object] < limits::LARGEST);
     }

@@ -33,7 +33,7 @@ pub fn vacant(words: &Words, step: Step) -> bool
     ensures { λ r. ⌜ r ≡ vacant (numbersOf (now (words .entry))) step ⌝ }
 {
     let object = step.object as usize;
-    if object < limits::OBJECTS {
+    if object < limits::SLOTS {
         return (step.kind != known_kinds::WRITE) | (words[server::STANDING + object] == 0);
     }
     true
