@@ -39,6 +39,30 @@ enum-known-kind-6 c = search needs
 cast-result-6 : tie.Need-cast-result-6
 cast-result-6 c = search needs
 
+enum-known-kind-7 : tie.Need-enum-known-kind-7
+enum-known-kind-7 c = search needs
+
+cast-result-7 : tie.Need-cast-result-7
+cast-result-7 c = search needs
+
+cast-set-sound : tie.Need-cast-set-sound
+cast-set-sound c = search needs
+
+set-sound-requires : tie.Need-set-sound-requires
+set-sound-requires c κs = search needs
+
+enum-known-kind-8 : tie.Need-enum-known-kind-8
+enum-known-kind-8 c = search needs
+
+cast-result-8 : tie.Need-cast-result-8
+cast-result-8 c = search needs
+
+cast-set-sound-2 : tie.Need-cast-set-sound-2
+cast-set-sound-2 c = search needs
+
+set-sound-requires-2 : tie.Need-set-sound-requires-2
+set-sound-requires-2 c κs = search needs
+
 returns : tie.Need-returns
 returns c = search kinds
 
@@ -57,6 +81,12 @@ returns-5 c = search kinds
 returns-6 : tie.Need-returns-6
 returns-6 c = search kinds
 
+returns-7 : tie.Need-returns-7
+returns-7 c = search kinds
+
+returns-8 : tie.Need-returns-8
+returns-8 c = search kinds
+
 pub kind-sound-spec : {M : Type 1} → statement M
 kind-sound-spec =
     tie.close
@@ -73,9 +103,19 @@ kind-sound-spec =
     cast-result-5
     enum-known-kind-6
     cast-result-6
+    enum-known-kind-7
+    cast-result-7
+    cast-set-sound
+    set-sound-requires
+    enum-known-kind-8
+    cast-result-8
+    cast-set-sound-2
+    set-sound-requires-2
     returns
     returns-2
     returns-3
     returns-4
     returns-5
-    returns-6)
+    returns-6
+    returns-7
+    returns-8)
