@@ -1,7 +1,7 @@
 -- Question 1 about the words w and values x: what each loop reads of an item is what the tables hold.
 use Prim.Native.Nat.{ℕ, _+_, _-_, _<_, _≤_}
 use native.Mathlib.Omega.{arith}
-use mathlib.Core.Bool.{Bool, false, _&&_, _||_}
+use mathlib.Core.Bool.{Bool, true, false, _&&_, _||_}
 use mathlib.Core.List.{List}
 use mathlib.Core.Path.{_≡_, ap, _∙_}
 use lib.Dec.{eqb, leb}
@@ -13,10 +13,12 @@ use Rattle.laws.specs.Loop.{allFrom, all-by}
 use Rattle.laws.specs.Parts.{part-at}
 use Rattle.protocol.specs.declared.message.Message.{Message}
 use Rattle.protocol.specs.declared.setup.Setup.{Setup}
+use Rattle.protocol.specs.Setup.{inRange}
+use Rattle.protocol.specs.Ranges.{ranges}
 use Rattle.protocol.specs.Messages.{messageAt}
 use Rattle.protocol.specs.Tables.{byVolume, byObject}
-use Rattle.protocol.specs.Sound.{timeFits, canGrow, clockLimit, volumeSound, objectSound, sessionSound, sessionsSound, holderSound, holdersSound, messageSound, queueSound, tablesSound}
-use Rattle.state_words.specs.Fields.{wordLengths, at, CLOCK, VOLUME-EPOCH, VOLUME-EXPIRY, GUARD, SESSION-EXPIRY, VERSION, OBJECT-EXPIRY, STANDING, END, LEASE, VIEW-EXPIRY}
+use Rattle.protocol.specs.Sound.{timeFits, canGrow, clockLimit, setSound, volumeSound, objectSound, sessionSound, sessionsSound, holderSound, holdersSound, messageSound, queueSound, tablesSound}
+use Rattle.state_words.specs.Fields.{wordLengths, at, CLOCK, VOLUME-EPOCH, VOLUME-EXPIRY, GUARD, SESSION-EXPIRY, VERSION, OBJECT-EXPIRY, STANDING, END, LEASE, NOTES, VIEW-EXPIRY}
 use Rattle.state_words.specs.Reads.{length-word}
 use Rattle.state_words.specs.View.{tablesOf, numbersOf}
 
@@ -26,7 +28,7 @@ module _ (w : List ℕ) where
   unfolding tablesOf
   volume-fits v n h k = rw (part-at wordLengths w VOLUME-EPOCH v (omega arith), part-at wordLengths w VOLUME-EXPIRY v (omega arith), part-at wordLengths w GUARD v (omega arith))
 
-  pub object-fits : (o n : ℕ) → o < n → n ≤ 32
+  pub object-fits : (o n : ℕ) → o < n → n ≤ 28
       → ((leb 1 (getD w (at VERSION + o) 0) && timeFits (getD w (at OBJECT-EXPIRY + o) 0))
       && (eqb (getD w (at STANDING + o) 0) 0
       || (timeFits (getD w (at END + o) 0) && canGrow (getD w (at VERSION + o) 0)))) ≡ objectSound (numbersOf w) o
@@ -41,13 +43,19 @@ module _ (w : List ℕ) where
         part-at wordLengths w END o l,
       )
 
-  pub session-fits : (d v n : ℕ) → d < 16 → v < n → n ≤ 8
-      → (timeFits (getD w (at SESSION-EXPIRY + byVolume d v) 0) && timeFits (getD w (at VIEW-EXPIRY + byVolume d v) 0))
-      ≡ sessionSound (numbersOf w) d v
+  pub session-fits : (s : Setup) (d v : ℕ) (r : Bool) → inRange s ≡ true → d < 16 → v < s .volumes → r ≡ setSound s v (getD w (at NOTES + byVolume d v) 0)
+      → (timeFits (getD w (at SESSION-EXPIRY + byVolume d v) 0) && timeFits (getD w (at VIEW-EXPIRY + byVolume d v) 0) && r) ≡ sessionSound s (numbersOf w) d v
   unfolding tablesOf
-  session-fits d v n g h k = rw (part-at wordLengths w SESSION-EXPIRY (byVolume d v) (omega arith), part-at wordLengths w VIEW-EXPIRY (byVolume d v) (omega arith))
+  session-fits s d v r i g h e =
+      let l : byVolume d v < 128 = omega (arith, ranges s i .volumes .1) in
+      rw (
+        e,
+        part-at wordLengths w SESSION-EXPIRY (byVolume d v) l,
+        part-at wordLengths w VIEW-EXPIRY (byVolume d v) l,
+        part-at wordLengths w NOTES (byVolume d v) l,
+      )
 
-  pub holder-fits : (d o n : ℕ) → d < 16 → o < n → n ≤ 32 → timeFits (getD w (at LEASE + byObject d o) 0) ≡ holderSound (numbersOf w) d o
+  pub holder-fits : (d o n : ℕ) → d < 16 → o < n → n ≤ 28 → timeFits (getD w (at LEASE + byObject d o) 0) ≡ holderSound (numbersOf w) d o
   unfolding tablesOf
   holder-fits d o n g h k = rw (part-at wordLengths w LEASE (byObject d o) (omega arith))
 

@@ -1,4 +1,6 @@
+ghost use mathlib.Core.Bool.{true};
 ghost use mathlib.Core.Path.{_≡_};
+ghost use Rattle.protocol.specs.Setup.{inRange};
 ghost use Rattle.protocol.specs.Sound.{queueSound};
 ghost use Rattle.state_words.specs.View.{tablesOf};
 use gate_message::messages::message_sound;
@@ -11,6 +13,7 @@ use state_words::network;
 
 // Returns whether the message list is sound: "at most 64 messages", each of them sound.
 pub fn queue_sound(setup: Setup, words: &Words, values: &Values) -> bool
+    requires { ⌜ inRange setup ≡ true ⌝ }
     ensures { λ r. ⌜ r ≡ queueSound setup (tablesOf (now (words .entry)) (now (values .entry)) .queue) ⌝ }
 {
     let length = words[network::LENGTH];

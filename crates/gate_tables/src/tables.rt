@@ -4,13 +4,14 @@ ghost use mathlib.Core.Path.{_≡_};
 ghost use Prim.Native.Nat.{_<_, _≤_};
 ghost use Rattle.laws.specs.Loop.{allFrom};
 ghost use Rattle.protocol.specs.Setup.{inRange};
-ghost use Rattle.protocol.specs.Sound.{volumeSound, objectSound, sessionSound, sessionsSound, holderSound, holdersSound, tablesSound};
+ghost use Rattle.protocol.specs.Sound.{volumeSound, objectSound, sessionsSound, holderSound, holdersSound, tablesSound};
 ghost use Rattle.state_words.specs.View.{tablesOf, numbersOf};
 ghost use Rattle.setup.specs.Limits.{CLIENTS, OBJECTS, VOLUMES};
 use crate::messages;
+use gate_message::volumes::set_sound;
 use protocol::setup::Setup;
 use setup::limits;
-use setup::limits::OBJECTS;
+use setup::limits::SLOTS;
 use setup::limits::VOLUMES;
 use state_words::Values;
 use state_words::Words;
@@ -55,18 +56,25 @@ fn objects_fit(words: &Words, n: usize) -> bool
     ok
 }
 
-// Returns whether the expiries of one client's volume leases are in range, both at the server and at the client: "expiries .. at most 2,148,483,647".
-fn sessions_fit(words: &Words, client: usize, n: usize) -> bool
+// Returns whether the expiries of one client's volume leases are in range, both at the server and at the client ("expiries .. at most 2,148,483,647"), and
+// its notes are objects of their volumes. 02, A6: "A set bit that is no object of its volume makes tables unsound".
+fn sessions_fit(setup: Setup, words: &Words, client: usize) -> bool
+    requires { ⌜ inRange setup ≡ true ⌝ }
     requires { ⌜ client < CLIENTS ⌝ }
-    requires { ⌜ n ≤ VOLUMES ⌝ }
-    ensures { λ r. ⌜ r ≡ allFrom (sessionSound (numbersOf (now (words .entry))) client) 0 n ⌝ }
+    ensures { λ r. ⌜ r ≡ sessionsSound setup (numbersOf (now (words .entry))) client ⌝ }
 {
+    let volumes = setup.volumes as usize;
     let mut ok = true;
     let mut volume = 0;
-    while volume < n {
+    while volume < volumes {
         let granted = words[server::SESSION_EXPIRY + (client * VOLUMES + volume)];
         let known = words[client::VIEW_EXPIRY + (client * VOLUMES + volume)];
-        ok = ok & ((granted <= limits::LAST_END) & (known <= limits::LAST_END));
+        let notes = set_sound(
+            setup,
+            volume,
+            words[server::NOTES + (client * VOLUMES + volume)],
+        );
+        ok = ok & ((granted <= limits::LAST_END) & (known <= limits::LAST_END) & notes);
         volume += 1;
     }
     ok
@@ -81,13 +89,13 @@ fn holders_fit(words: &Words, client: usize, n: usize) -> bool
     let mut ok = true;
     let mut object = 0;
     while object < n {
-        ok = ok & (words[server::LEASE + (client * OBJECTS + object)] <= limits::LAST_END);
+        ok = ok & (words[server::LEASE + (client * SLOTS + object)] <= limits::LAST_END);
         object += 1;
     }
     ok
 }
 
-// Returns whether the volume leases of all clients are in range.
+// Returns whether the volume leases and the notes of all clients are sound.
 fn all_sessions_fit(setup: Setup, words: &Words) -> bool
     requires { ⌜ inRange setup ≡ true ⌝ }
     ensures { λ r. ⌜ r ≡ allFrom (sessionsSound setup (numbersOf (now (words .entry)))) 0 (setup .clients) ⌝ }
@@ -96,7 +104,7 @@ fn all_sessions_fit(setup: Setup, words: &Words) -> bool
     let mut ok = true;
     let mut client = 0;
     while client < clients {
-        ok = ok & sessions_fit(words, client, setup.volumes as usize);
+        ok = ok & sessions_fit(setup, words, client);
         client += 1;
     }
     ok

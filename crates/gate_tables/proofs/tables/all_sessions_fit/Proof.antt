@@ -20,11 +20,8 @@ cast-clients c = search needs
 loop-holds : tie.Need-loop-holds Inv-loop μ-loop
 loop-holds c = (search needs, rw sub-zero)
 
-cast-sessions-fit : tie.Need-cast-sessions-fit Inv-loop μ-loop
-cast-sessions-fit c = search needs
-
 sessions-fit-requires : tie.Need-sessions-fit-requires Inv-loop μ-loop
-sessions-fit-requires c κs = let k = ranges _ (c .before .before .before .before .pre) in search needs
+sessions-fit-requires c κs = let k = ranges _ (c .before .before .before .pre) in search needs
 
 add-client : tie.Need-add-client Inv-loop μ-loop
 add-client c = search needs
@@ -46,7 +43,6 @@ all-sessions-fit-spec =
     μ-loop
     cast-clients
     loop-holds
-    cast-sessions-fit
     sessions-fit-requires
     add-client
     loop-less

@@ -1,7 +1,8 @@
 use borrow.Author.Needs.{needs}
-use Prim.Native.Nat.{_-_}
+use Prim.Native.Nat.{_-_, _≤_}
 use native.Mathlib.Nat.{sub-zero}
 use Rattle.laws.specs.Loop.{Scanning, all-by, all-end}
+use Rattle.protocol.specs.Ranges.{ranges}
 use Rattle.protocol.specs.Sound.{sessionSound}
 use Rattle.state_words.specs.View.{numbersOf}
 use Rattle.gate_tables.proofs.Scans.{session-fits}
@@ -9,13 +10,16 @@ use Rattle.gate_tables.proofs.tables.sessions_fit.Statement.{statement}
 use Rattle.gate_tables.proofs.tables.sessions_fit.Tie as tie
 
 abbrev Inv-loop : tie.InvT-loop
-Inv-loop words d n ok₀ v₀ ok v = Scanning (sessionSound (numbersOf words) d) n ok v
+Inv-loop s words d volumes ok₀ v₀ ok v = (s .volumes ≤ 8) × Scanning (sessionSound s (numbersOf words) d) (s .volumes) ok v
 
 abbrev μ-loop : tie.MeasureT-loop
-μ-loop words d n ok₀ v₀ ok v = n - v
+μ-loop s words d volumes ok₀ v₀ ok v = s .volumes - v
+
+cast-volumes : tie.Need-cast-volumes Inv-loop μ-loop
+cast-volumes c = search needs
 
 loop-holds : tie.Need-loop-holds Inv-loop μ-loop
-loop-holds c = (search needs, rw sub-zero)
+loop-holds c = (ranges _ (c .before .pre .0) .volumes .1, (search needs, rw sub-zero))
 
 mul-granted : tie.Need-mul-granted Inv-loop μ-loop
 mul-granted c = search needs
@@ -47,6 +51,24 @@ mul-known-2 c = search needs
 element-copy-out-known : tie.Need-element-copy-out-known Inv-loop μ-loop
 element-copy-out-known c = search needs
 
+mul-set-sound : tie.Need-mul-set-sound Inv-loop μ-loop
+mul-set-sound c = search needs
+
+add-set-sound : tie.Need-add-set-sound Inv-loop μ-loop
+add-set-sound c = search needs
+
+add-set-sound-2 : tie.Need-add-set-sound-2 Inv-loop μ-loop
+add-set-sound-2 c = search needs
+
+mul-set-sound-2 : tie.Need-mul-set-sound-2 Inv-loop μ-loop
+mul-set-sound-2 c = search needs
+
+element-copy-out-set-sound : tie.Need-element-copy-out-set-sound Inv-loop μ-loop
+element-copy-out-set-sound c = search needs
+
+set-sound-requires : tie.Need-set-sound-requires Inv-loop μ-loop
+set-sound-requires c κs = search needs
+
 add-volume : tie.Need-add-volume Inv-loop μ-loop
 add-volume c = search needs
 
@@ -54,7 +76,7 @@ loop-less : tie.Need-loop-less Inv-loop μ-loop
 loop-less c = search needs
 
 loop-again : tie.Need-loop-again Inv-loop μ-loop
-loop-again c = (search needs, search (all-by, session-fits))
+loop-again c = (search needs, (search needs, search (all-by, session-fits)))
 
 returns : tie.Need-returns Inv-loop μ-loop
 returns c = search all-end
@@ -65,6 +87,7 @@ sessions-fit-spec =
     (tie.spec
     Inv-loop
     μ-loop
+    cast-volumes
     loop-holds
     mul-granted
     add-granted
@@ -76,6 +99,12 @@ sessions-fit-spec =
     add-known-2
     mul-known-2
     element-copy-out-known
+    mul-set-sound
+    add-set-sound
+    add-set-sound-2
+    mul-set-sound-2
+    element-copy-out-set-sound
+    set-sound-requires
     add-volume
     loop-less
     loop-again
