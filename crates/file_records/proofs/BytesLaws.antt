@@ -31,13 +31,11 @@ module _ (p : ℕ) where
       stored-then l a r p (p + 4) _ _ e (number-stored a b r (p + 4) 4 _ _ f (number-stored b c r (p + 4 + 4) 4 _ _ (rw (← i) g) (rw (← j) h))) refl
 
   -- The volume bytes fit after the first 16 bytes of the setup.
-  pub volumes-fit : (v l m b : List ℕ) → 32 ≡ length v → p + 48 ≤ length l → Stored l m p b → p + 16 + length v ≤ length m
+  pub volumes-fit : (v l m b : List ℕ) → 28 ≡ length v → p + 48 ≤ length l → Stored l m p b → p + 16 + length v ≤ length m
   volumes-fit v l m b e h a = omega (arith, e, h, a .long)
 
-  module _ (s : Setup) (l m r : List ℕ) (q : ℕ) (e : 32 ≡ length (s .volume)) (a : Stored l m p (setupFront s)) (w : Written m r (p + 16) (s .volume) q) where
-    setup-next : q ≡ p + 48
-    setup-next = omega (arith, w .next, e)
-
-    pub setup-stored : (Written l r p (setupBytes s) q) × ((q ≡ p + 48) × (length (s .volume) ≡ 32))
-    setup-stored =
-        (record { next = rw (length-setup s (sym e)) setup-next; bytes = stored-then l m r p (p + 16) _ _ a (w .bytes) (rw (length-front s)) }, (setup-next, sym e))
+  pub setup-stored : (s : Setup) (l m n r : List ℕ) (q : ℕ) → 28 ≡ length (s .volume) → Stored l m p (setupFront s) → Written m n (p + 16) (s .volume) q
+      → Stored n r (p + 44) (bytesOf 4 (s .delay)) → (Written l r p (setupBytes s) (p + 48)) × ((p + 48 ≡ p + 48) × (length (s .volume) ≡ 28))
+  setup-stored s l m n r q e a w d =
+      let both = stored-then m n r (p + 16) (p + 44) _ _ (w .bytes) d (omega (arith, e)) in
+      (record { next = rw (length-setup s (sym e)); bytes = stored-then l m r p (p + 16) _ _ a both (rw (length-front s)) }, (refl, sym e))

@@ -4,16 +4,17 @@ use native.Mathlib.Omega.{arith}
 use mathlib.Core.List.{List, [], _∷_, _++_, append-assoc, append-nil}
 use mathlib.Core.Path.{_≡_, refl, sym}
 use lib.ListN.{length, length-append}
-use Rattle.bytes_layout.specs.Number.{bytesOf, fourBytes}
+use Rattle.bytes_layout.specs.Number.{bytesOf, fourBytes, length-bytes}
 use Rattle.protocol.specs.declared.setup.Setup.{Setup}
 use Rattle.protocol.specs.declared.step.Step.{Step}
 
--- "setup (48 bytes: dash, volume and object counts, a 0, tv, t, m, 32 volume bytes, unused ones 0)"
+-- "setup (48 bytes: dash, volume and object counts, a 0, tv, t, m, 32 volume bytes, unused ones 0)". 02, A6: "d in setup, 1 to 65,535, in the last four
+-- volume bytes"
 unfoldable pub setupFront : Setup → List ℕ
 setupFront s = fourBytes (s .clients) (s .volumes) (s .objects) 0 ++ (bytesOf 4 (s .tv) ++ (bytesOf 4 (s .t) ++ bytesOf 4 (s .m)))
 
 abbrev pub setupBytes : Setup → List ℕ
-setupBytes s = setupFront s ++ s .volume
+setupBytes s = setupFront s ++ (s .volume ++ bytesOf 4 (s .delay))
 
 -- "steps of 16 bytes (kind, dash, object, place; clock in 4; value in 8; unused fields 0)"
 unfoldable pub stepBytes : Step → List ℕ
@@ -45,8 +46,16 @@ pub length-front : (s : Setup) → length (setupFront s) ≡ 16
 unfolding setupFront bytesOf
 length-front s = refl
 
-pub length-setup : (s : Setup) → length (s .volume) ≡ 32 → length (setupBytes s) ≡ 48
-length-setup s h = omega (arith, length-append (setupFront s) (s .volume), length-front s, h)
+pub length-setup : (s : Setup) → length (s .volume) ≡ 28 → length (setupBytes s) ≡ 48
+length-setup s h =
+    omega (
+      arith,
+      length-append (setupFront s) (s .volume ++ bytesOf 4 (s .delay)),
+      length-append (s .volume) (bytesOf 4 (s .delay)),
+      length-front s,
+      length-bytes 4 (s .delay),
+      h,
+    )
 
 pub length-step : (x : Step) → length (stepBytes x) ≡ 16
 unfolding stepBytes bytesOf
@@ -61,7 +70,7 @@ pub length-trailer : (n : ℕ) → length (trailerBytes n) ≡ 8
 unfolding trailerBytes bytesOf
 length-trailer n = refl
 
-pub length-file : (note : List ℕ) (s : Setup) (xs : List Step) → length (s .volume) ≡ 32 → length (fileBytes note s xs) ≡ fileLength (length note) (length xs)
+pub length-file : (note : List ℕ) (s : Setup) (xs : List Step) → length (s .volume) ≡ 28 → length (fileBytes note s xs) ≡ fileLength (length note) (length xs)
 unfolding fileBytes
 length-file note s xs h =
     omega (

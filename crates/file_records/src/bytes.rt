@@ -34,7 +34,7 @@ fn write_front(out: &mut [u8], at: usize, setup: Setup)
     bytes_layout::write_u32(out, at + 12, setup.m);
 }
 
-// Writes a setup. The last two clauses are for callers, which cannot see that a setup has a volume byte for each object that there can be.
+// Writes a setup, the delay "in the last four volume bytes" (02, A6). The last two clauses are for callers, which cannot see that a setup has a volume byte for each object that there can be.
 pub fn write_setup(out: &mut [u8], at: usize, setup: Setup) -> usize
     requires { ⌜ at + SETUP ≤ length (now out) ⌝ }
     requires { ⌜ inRange setup ≡ true ⌝ }
@@ -44,7 +44,9 @@ pub fn write_setup(out: &mut [u8], at: usize, setup: Setup) -> usize
 {
     write_front(out, at, setup);
     let volume = setup.volume;
-    bytes_layout::output::write_bytes(out, at + 16, &volume)
+    bytes_layout::output::write_bytes(out, at + 16, &volume);
+    bytes_layout::write_u32(out, at + 44, setup.delay);
+    at + sizes::SETUP
 }
 
 // Writes a step. The second clause tells callers that the numbers of a step fit their widths.

@@ -34,8 +34,8 @@ fn volumes_in(file: &[u8], at: usize) -> [u8; limits::OBJECTS]
     volumes
 }
 
-// Returns the "setup (48 bytes: dash, volume and object counts, a 0, tv, t, m, 32 volume bytes ..)" that begins at `at`. Callers check the byte after the
-// counts, which must be 0.
+// Returns the "setup (48 bytes: dash, volume and object counts, a 0, tv, t, m, 32 volume bytes ..)" that begins at `at`, with d "in the last four volume
+// bytes" (02, A6). Callers check the byte after the counts, which must be 0.
 pub fn setup_in(file: &[u8], at: usize) -> Setup
     requires { ⌜ at + SETUP ≤ length (now file) ⌝ }
     ensures { λ r. ⌜ r ≡ setupIn (now (file .entry)) at ⌝ }
@@ -48,6 +48,7 @@ pub fn setup_in(file: &[u8], at: usize) -> Setup
         t: bytes_layout::read_u32(file, at + 8),
         m: bytes_layout::read_u32(file, at + 12),
         volume: volumes_in(file, at + 16),
+        delay: bytes_layout::read_u32(file, at + 44),
     }
 }
 
@@ -79,6 +80,7 @@ pub fn no_setup() -> Setup
         t: 0,
         m: 0,
         volume,
+        delay: 0,
     }
 }
 

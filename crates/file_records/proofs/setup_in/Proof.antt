@@ -51,6 +51,12 @@ add-volumes-in c = search needs
 volumes-in-requires : tie.Need-volumes-in-requires
 volumes-in-requires c κs = search needs
 
+add-read-u32-4 : tie.Need-add-read-u32-4
+add-read-u32-4 c = search needs
+
+read-u32-requires-4 : tie.Need-read-u32-requires-4
+read-u32-requires-4 c κs = search needs
+
 returns : tie.Need-returns
 returns c = search setup-by
 
@@ -74,4 +80,6 @@ setup-in-spec =
     read-u32-requires-3
     add-volumes-in
     volumes-in-requires
+    add-read-u32-4
+    read-u32-requires-4
     returns)

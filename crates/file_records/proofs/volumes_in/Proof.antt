@@ -8,10 +8,10 @@ use Rattle.file_records.proofs.volumes_in.Statement.{statement}
 use Rattle.file_records.proofs.volumes_in.Tie as tie
 
 abbrev Inv-loop : tie.InvT-loop
-Inv-loop file at v₀ o₀ v o = (o ≤ 32) × ((length v ≡ 32) × (take o v ≡ bytesAt file at o))
+Inv-loop file at v₀ o₀ v o = (o ≤ 28) × ((length v ≡ 28) × (take o v ≡ bytesAt file at o))
 
 abbrev μ-loop : tie.MeasureT-loop
-μ-loop file at v₀ o₀ v o = 32 - o
+μ-loop file at v₀ o₀ v o = 28 - o
 
 loop-holds : tie.Need-loop-holds Inv-loop μ-loop
 unfolding bytesAt

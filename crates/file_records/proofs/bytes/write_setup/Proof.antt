@@ -17,14 +17,25 @@ write-bytes-requires c κs =
     let entry = c .before .before .before .before .before .before .before .before in
     volumes-fit _ (entry .args .setup .volume) _ _ _ (slice-aggregate-write-bytes c) (entry .pre .0) (c .before .before .before .before .before .write-front .ensures)
 
+add-write-u32 : tie.Need-add-write-u32
+add-write-u32 c = search needs
+
+write-u32-requires : tie.Need-write-u32-requires
+write-u32-requires c κs = search needs
+
+add-result : tie.Need-add-result
+add-result c = search needs
+
 same-length : tie.Need-same-length
 same-length c = search needs
 
 returns : tie.Need-returns
 returns c =
-    let call = c .before .before .before in
-    let entry = call .before .before .before .before .before .before .before .before in
-    setup-stored _ (entry .args .setup) _ _ _ _ (slice-aggregate-write-bytes call) (call .before .before .before .before .before .write-front .ensures) (c .before .before .write-bytes .ensures)
+    let written = c .before .before .before .before .before .before in
+    let call = written .before in
+    let front = call .before .before .before .before .before in
+    let entry = front .before .before .before in
+    setup-stored _ (entry .args .setup) _ _ _ _ _ (slice-aggregate-write-bytes call) (front .write-front .ensures) (written .write-bytes .ensures) (c .before .before .write-u32 .ensures)
 
 pub write-setup-spec : {M : Type 1} → statement M
 write-setup-spec =
@@ -34,5 +45,8 @@ write-setup-spec =
     add-write-bytes
     slice-aggregate-write-bytes
     write-bytes-requires
+    add-write-u32
+    write-u32-requires
+    add-result
     same-length
     returns)
