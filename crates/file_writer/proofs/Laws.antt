@@ -134,5 +134,5 @@ module _ (note out : List ℕ) (s : Setup) (x : Steps) (r : Bool) (e : r ≡ inR
           let i : n ≡ length (fileBytes note s (held x)) = omega (arith, w .next) in
           rw i (all-written _ _ out after unrefused (w .bytes .stored))
 
-      pub file-read : length (s .volume) ≡ 32 → All Widths (held x) → ReadAs (fileBytes note s (held x)) note s (held x)
+      pub file-read : length (s .volume) ≡ 28 → All Widths (held x) → ReadAs (fileBytes note s (held x)) note s (held x)
       file-read v w = not-refused note s x (length out) v w unrefused

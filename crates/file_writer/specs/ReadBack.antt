@@ -25,14 +25,14 @@ use Rattle.file_records.specs.declared.list.Steps.{Steps}
 use Rattle.file_records.specs.Held.{held, length-held}
 use Rattle.file_writer.specs.File.{fitsAt, allFit, fileFits, writeRefusal, fitting}
 
--- What the writer requires of a note, a setup and steps, for any output. The last two hold in every program: a setup has 32 volume bytes, and the
+-- What the writer requires of a note, a setup and steps, for any output. The last two hold in every program: a setup has 28 volume bytes, and the
 -- numbers of a step fit their widths.
 pub record Writable (note : List ℕ) (s : Setup) (xs : List Step) : Type 0 where
   pub in-range : inRange s ≡ true
   pub few : length xs ≤ 4000
   pub fit : allFit xs ≡ true
   pub short : fileLength (length note) (length xs) ≤ 65536
-  pub volumes : length (s .volume) ≡ 32
+  pub volumes : length (s .volume) ≡ 28
   pub widths : All Widths xs
 
 -- What is written is "the file that the reader accepts, whose parts come back the same": the reader accepts file l and returns these parts.
@@ -154,7 +154,7 @@ module _ (note : List ℕ) (s : Setup) (xs : List Step) (f : Writable note s xs)
   reads-back = record { accepted = rw formed; note = note-same; setup = rw formed setup-same; count = rw formed counted; steps = steps-same }
 
 -- The same for a call that is not refused. The premises about the volume bytes and the widths hold in every program.
-pub not-refused : (note : List ℕ) (s : Setup) (x : Steps) (room : ℕ) → length (s .volume) ≡ 32 → All Widths (held x) → writeRefusal (length note) s x room ≡ 0
+pub not-refused : (note : List ℕ) (s : Setup) (x : Steps) (room : ℕ) → length (s .volume) ≡ 28 → All Widths (held x) → writeRefusal (length note) s x room ≡ 0
     → ReadAs (fileBytes note s (held x)) note s (held x)
 unfolding writeRefusal
 not-refused note s x room v w e =
