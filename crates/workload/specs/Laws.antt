@@ -91,7 +91,7 @@ module _ (q : Setup) (n : ℕ) where
         leb-true _ _ (and-true _ _ (and-true _ _ sizes .0) .0)
 
 -- ---- the reader accepts a workload's file and returns its parts
-module _ (note : List ℕ) (q : Setup) (s n room : ℕ) (v : length (q .volume) ≡ 32) (e : fileRefusal (length note) q n room ≡ 0) where
+module _ (note : List ℕ) (q : Setup) (s n room : ℕ) (v : length (q .volume) ≡ 28) (e : fileRefusal (length note) q n room ≡ 0) where
   few : n ≤ 4000
   few = few-written q n (length note) room e
 
