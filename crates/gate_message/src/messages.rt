@@ -15,55 +15,23 @@ fn kind_sound(setup: Setup, kind: Kind) -> bool
     ensures { λ r. ⌜ r ≡ kindSound setup kind ⌝ }
 {
     match kind {
-        Kind::Renew {
-            object,
-            number: _,
-            epoch: _,
-            version: _,
-        } => (object as u32) < setup.objects,
+        Kind::Renew { object, .. } => (object as u32) < setup.objects,
         Kind::Grant {
             object,
-            number: _,
             volume_expiry,
-            epoch: _,
-            version: _,
             object_expiry,
-            payload: _,
+            ..
         } => ((object as u32) < setup.objects)
             & (volume_expiry <= limits::LAST_END)
             & (object_expiry <= limits::LAST_END),
-        Kind::Invalidate {
-            object,
-            epoch: _,
-            version: _,
-        } => (object as u32) < setup.objects,
-        Kind::Ack {
-            object,
-            epoch: _,
-            version: _,
-        } => (object as u32) < setup.objects,
-        Kind::Offer {
-            volume,
-            number: _,
-            epoch: _,
-        } => (volume as u32) < setup.volumes,
-        Kind::Dropped {
-            volume,
-            number: _,
-            epoch: _,
-        } => (volume as u32) < setup.volumes,
-        Kind::Batch {
-            volume,
-            number: _,
-            epoch: _,
-            set,
-        } => ((volume as u32) < setup.volumes) & set_sound(setup, volume as usize, set),
-        Kind::Cleared {
-            volume,
-            number: _,
-            epoch: _,
-            set,
-        } => ((volume as u32) < setup.volumes) & set_sound(setup, volume as usize, set),
+        Kind::Invalidate { object, .. } => (object as u32) < setup.objects,
+        Kind::Ack { object, .. } => (object as u32) < setup.objects,
+        Kind::Offer { volume, .. } => (volume as u32) < setup.volumes,
+        Kind::Dropped { volume, .. } => (volume as u32) < setup.volumes,
+        Kind::Batch { volume, set, .. } => ((volume as u32) < setup.volumes)
+            & set_sound(setup, volume as usize, set),
+        Kind::Cleared { volume, set, .. } => ((volume as u32) < setup.volumes)
+            & set_sound(setup, volume as usize, set),
     }
 }
 
