@@ -5,28 +5,26 @@ use mathlib.Core.Bool.{Bool, cond}
 use mathlib.Core.List.{List}
 use mathlib.Core.Path.{_≡_, _∙_}
 use lib.ListN.{getD}
-use Rattle.laws.specs.Flags.{flag, flag-at}
 use Rattle.laws.specs.Greatest.{raiseTo}
 use Rattle.laws.specs.Loop.{foldFrom, fold-again}
 use Rattle.laws.specs.Parts.{part-at}
 use Rattle.laws.specs.Sets.{bitAt, setOf, added, set-again}
 use Rattle.protocol.specs.Tables.{byVolume, byObject}
 use Rattle.lease_tests.specs.Parts.{waitsBy, outlastBy}
-use Rattle.state_words.specs.Fields.{wordLengths, at, CLOCK, SESSION-EXPIRY, UNREACHABLE, LEASE}
+use Rattle.state_words.specs.Fields.{wordLengths, at, CLOCK, SESSION-EXPIRY, LEASE}
 use Rattle.server_waiting.specs.Waiting.{waitsIn, leasedIn}
 
 module _ (w : List ℕ) (v o d : ℕ) (i : v < 8) (j : o < 32) (k : d < 16) where
-  waits : waitsBy (getD w 0 0) (getD w (at LEASE + byObject d o) 0) (flag (getD w (at UNREACHABLE + byVolume d v) 0)) (getD w (at SESSION-EXPIRY + byVolume d v) 0) ≡ waitsIn w v o d
+  waits : waitsBy (getD w 0 0) (getD w (at LEASE + byObject d o) 0) (getD w (at SESSION-EXPIRY + byVolume d v) 0) ≡ waitsIn w v o d
   waits =
       rw (
         part-at wordLengths w CLOCK 0 (omega arith),
         part-at wordLengths w LEASE (byObject d o) (omega arith),
-        flag-at wordLengths w UNREACHABLE (byVolume d v) (omega arith),
         part-at wordLengths w SESSION-EXPIRY (byVolume d v) (omega arith),
       )
 
   pub await-again : (m u : ℕ) (r : Bool) → m ≡ setOf (waitsIn w v o) d
-      → r ≡ waitsBy (getD w 0 0) (getD w (at LEASE + byObject d o) 0) (flag (getD w (at UNREACHABLE + byVolume d v) 0)) (getD w (at SESSION-EXPIRY + byVolume d v) 0)
+      → r ≡ waitsBy (getD w 0 0) (getD w (at LEASE + byObject d o) 0) (getD w (at SESSION-EXPIRY + byVolume d v) 0)
       → u ≡ cond r (added m d) m → u ≡ setOf (waitsIn w v o) (d + 1)
   await-again m u r a b e = set-again (waitsIn w v o) d (omega arith) m u r a (b ∙ waits) e
 

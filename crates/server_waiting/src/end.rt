@@ -4,9 +4,9 @@ ghost use Prim.Native.Nat.{_≤_, _<_};
 ghost use Rattle.laws.specs.Greatest.{greatest};
 ghost use Rattle.laws.specs.Sets.{bitAt};
 ghost use Rattle.server_waiting.specs.Waiting.{leasedIn};
-ghost use Rattle.setup.specs.Limits.{CLIENTS, OBJECTS, VOLUMES};
+ghost use Rattle.setup.specs.Limits.{CLIENTS, SLOTS, VOLUMES};
 use lease_tests::time;
-use setup::limits::OBJECTS;
+use setup::limits::SLOTS;
 use setup::limits::VOLUMES;
 use state_words::Words;
 use state_words::server;
@@ -21,7 +21,7 @@ pub fn latest_end(
     n: usize,
 ) -> u32
     requires { ⌜ volume < VOLUMES ⌝ }
-    requires { ⌜ object < OBJECTS ⌝ }
+    requires { ⌜ object < SLOTS ⌝ }
     requires { ⌜ n ≤ CLIENTS ⌝ }
     ensures { λ r. ⌜ r ≡ greatest (bitAt waiting) (leasedIn (now (words .entry)) volume object) least n ⌝ }
 {
@@ -32,7 +32,7 @@ pub fn latest_end(
             end,
             sets::has(waiting, client),
             words[server::SESSION_EXPIRY + (client * VOLUMES + volume)],
-            words[server::LEASE + (client * OBJECTS + object)],
+            words[server::LEASE + (client * SLOTS + object)],
         );
         client += 1;
     }

@@ -17,12 +17,6 @@ loop-holds : tie.Need-loop-holds Inv-loop μ-loop
 unfolding setOf
 loop-holds c = (search needs, refl)
 
-mul-j : tie.Need-mul-j Inv-loop μ-loop
-mul-j c = search needs
-
-add-j : tie.Need-add-j Inv-loop μ-loop
-add-j c = search needs
-
 element-copy-out-waits : tie.Need-element-copy-out-waits Inv-loop μ-loop
 element-copy-out-waits c = search needs
 
@@ -41,14 +35,11 @@ mul-waits-2 c = search needs
 element-copy-out-waits-2 : tie.Need-element-copy-out-waits-2 Inv-loop μ-loop
 element-copy-out-waits-2 c = search needs
 
-add-waits-3 : tie.Need-add-waits-3 Inv-loop μ-loop
-add-waits-3 c = search needs
-
 mul-waits-3 : tie.Need-mul-waits-3 Inv-loop μ-loop
 mul-waits-3 c = search needs
 
-element-copy-out-waits-3 : tie.Need-element-copy-out-waits-3 Inv-loop μ-loop
-element-copy-out-waits-3 c = search needs
+add-waits-3 : tie.Need-add-waits-3 Inv-loop μ-loop
+add-waits-3 c = search needs
 
 add-waits-4 : tie.Need-add-waits-4 Inv-loop μ-loop
 add-waits-4 c = search needs
@@ -56,8 +47,8 @@ add-waits-4 c = search needs
 mul-waits-4 : tie.Need-mul-waits-4 Inv-loop μ-loop
 mul-waits-4 c = search needs
 
-element-copy-out-waits-4 : tie.Need-element-copy-out-waits-4 Inv-loop μ-loop
-element-copy-out-waits-4 c = search needs
+element-copy-out-waits-3 : tie.Need-element-copy-out-waits-3 Inv-loop μ-loop
+element-copy-out-waits-3 c = search needs
 
 waits-requires : tie.Need-waits-requires Inv-loop μ-loop
 waits-requires c κs = search needs
@@ -75,7 +66,7 @@ loop-again : tie.Need-loop-again Inv-loop μ-loop
 loop-again c = (
   search needs,
   await-again _ _ _ _ (search needs)
-      (search needs) (search needs) _ _ _ (c .before .before .before .before .before .before .before .loop .inv .1)
+      (search needs) (search needs) _ _ _ (c .before .before .before .before .before .before .loop .inv .1)
       (c .before .waits .ensures) (c .with-if .ensures),
 )
 
@@ -89,20 +80,17 @@ awaited-spec =
     Inv-loop
     μ-loop
     loop-holds
-    mul-j
-    add-j
     element-copy-out-waits
     mul-waits
     add-waits
     add-waits-2
     mul-waits-2
     element-copy-out-waits-2
-    add-waits-3
     mul-waits-3
-    element-copy-out-waits-3
+    add-waits-3
     add-waits-4
     mul-waits-4
-    element-copy-out-waits-4
+    element-copy-out-waits-3
     waits-requires
     with-if-requires
     add-client
