@@ -1,27 +1,24 @@
 -- Completing a write: the object's own fields, and the loops over the clients.
-use Prim.Native.Nat.{ℕ, zero, suc, _+_, _<_}
+use Prim.Native.Nat.{ℕ, _+_, _<_}
 use native.Mathlib.Omega.{arith}
-use mathlib.Core.Bool.{Bool, true, false, cond}
+use mathlib.Core.Bool.{Bool, true, false}
 use mathlib.Core.List.{List}
-use mathlib.Core.Logic.{_⊎_, inl, inr}
 use mathlib.Core.Path.{_≡_, refl, sym, ap, _∙_}
 use lib.ListN.{getD, set}
-use Rattle.laws.specs.Choice.{true-or-false}
-use Rattle.laws.specs.Flags.{flags, flags-set, flags-each}
+use Rattle.laws.specs.Flags.{flags-set}
 use Rattle.laws.specs.Loop.{foldFrom}
 use Rattle.laws.specs.Parts.{parts, withPart, part-at, stored, stored-each}
-use Rattle.laws.specs.Sets.{bitAt}
-use Rattle.laws.specs.Store.{storeAt, storeEach, always}
+use Rattle.laws.specs.Store.{storeEach, always}
 use Rattle.protocol.specs.declared.setup.Setup.{Setup}
-use Rattle.protocol.specs.declared.tables.Sessions.{Sessions}
-use Rattle.protocol.specs.Setup.{volumeOf}
-use Rattle.protocol.specs.Tables.{byVolume, byObject, versionAt, withObjects}
-use Rattle.protocol.specs.Updates.{withUnreachable}
-use Rattle.protocol.specs.Writes.{waited, ready, marked, posted, released, deserted, completed, settled}
+use Rattle.protocol.specs.declared.tables.Tables.{Tables}
+use Rattle.protocol.specs.Tables.{byObject, versionAt, withSessions, withObjects, withHolders}
+use Rattle.protocol.specs.Writes.{waited, ready, posted, released, deserted, completed, settled}
 use Rattle.protocol.specs.Leases.{guardPassed}
 use Rattle.lease_tests.specs.Parts.{Placed}
-use Rattle.state_words.specs.Fields.{wordLengths, valueLengths, at, atValue, UNREACHABLE, VERSION, STANDING, END, LEASE, WAITING, VALUE, PENDING}
+use Rattle.state_words.specs.Fields.{wordLengths, valueLengths, at, atValue, VERSION, STANDING, END, LEASE, WAITING, VALUE, PENDING}
 use Rattle.state_words.specs.View.{tablesOf, numbersOf, recordsOf}
+use Rattle.server_marks.specs.SessionWords.{sessionsOf, OnlySessions, sessions-become}
+use Rattle.server_waiting.specs.Waiting.{markIfIn}
 use Rattle.server_due.specs.Triggers.{oneStaged}
 
 -- the test does not depend on the values
@@ -58,79 +55,54 @@ module _ (w x : List ℕ) (o : ℕ) (h : o < 32) where
   pub posts : (tablesOf words-posted values-posted ≡ withObjects (tablesOf w x) (posted (tablesOf w x) o)) × (recordsOf words-posted values-posted ≡ recordsOf w x)
   posts = (tables-posted, records-posted)
 
--- marking clients one after the other changes the marks alone
-module _ (p : ℕ → Bool) (v : ℕ) where
-  abbrev turn : Sessions → ℕ → Sessions
-  turn x d = cond (p d) (marked x d v) x
-
-  abbrev mark : List Bool → ℕ → List Bool
-  mark = storeAt p (λ (d : ℕ). byVolume d v) (λ (d : ℕ). true)
-
-  marked-from : (x : Sessions) (d n : ℕ) → foldFrom turn x d n ≡ withUnreachable x (foldFrom mark (x .unreachable) d n)
-  unfolding foldFrom
-  marked-from x d zero = refl
-  marked-from x d (suc n) = pick (marked-from (marked x d v) (d + 1) n) (marked-from x (d + 1) n) (true-or-false (p d))
-    where
-      pick : foldFrom turn (marked x d v) (d + 1) n ≡ withUnreachable x (foldFrom mark (marked x d v .unreachable) (d + 1) n)
-          → foldFrom turn x (d + 1) n ≡ withUnreachable x (foldFrom mark (x .unreachable) (d + 1) n)
-          → (p d ≡ true) ⊎ (p d ≡ false) → foldFrom turn (turn x d) (d + 1) n ≡ withUnreachable x (foldFrom mark (mark (x .unreachable) d) (d + 1) n)
-      pick a b (inl e) = rw e a
-      pick a b (inr e) = rw e b
-
--- m is the set of the clients that are waited for; the two loops turn the words w into a, then b, and c has nobody waited for
+-- m is the set of the clients that are waited for; the marks turn the words w into a, the next loop that into b, and c has nobody waited for
 module _ (s : Setup) (w a b x : List ℕ) (o v n m : ℕ) (p : Placed s o v) (i : n ≡ s .clients) (q : m ≡ getD w (at WAITING + o) 0)
-    (e : a ≡ storeEach (bitAt m) (λ (d : ℕ). at UNREACHABLE + byVolume d v) (λ (d : ℕ). 1) w n)
+    (e : (sessionsOf a ≡ foldFrom (markIfIn m v) (sessionsOf w) 0 n) × OnlySessions w a)
     (f : b ≡ storeEach always (λ (d : ℕ). at LEASE + byObject d o) (λ (d : ℕ). 0) a n) where
   abbrev c : List ℕ
   c = set b (at WAITING + o) 0
 
-  abbrev marks : List ℕ
-  marks = storeEach (bitAt m) (λ (d : ℕ). byVolume d v) (λ (d : ℕ). 1) (parts wordLengths w UNREACHABLE) n
-
   abbrev leases : List ℕ
-  leases = storeEach always (λ (d : ℕ). byObject d o) (λ (d : ℕ). 0) (parts wordLengths w LEASE) n
+  leases = storeEach always (λ (d : ℕ). byObject d o) (λ (d : ℕ). 0) (parts wordLengths a LEASE) n
 
-  fields-released : parts wordLengths c ≡ withPart (withPart (withPart (parts wordLengths w) UNREACHABLE marks) LEASE leases) WAITING (set (parts wordLengths w WAITING) o 0)
+  fields-released : parts wordLengths c ≡ withPart (withPart (parts wordLengths a) LEASE leases) WAITING (set (parts wordLengths a WAITING) o 0)
   fields-released =
       let h = p .clients in
-      let vs = p .volume in
       let os = p .object in
-      let j : (d : ℕ) → d < n → byVolume d v < 128 = (λ d k. omega arith) in
       let k : (d : ℕ) → d < n → byObject d o < 512 = (λ d k. omega arith) in
-      rw (
-        stored wordLengths b WAITING o 0 os,
-        f,
-        stored-each wordLengths LEASE always (λ (d : ℕ). byObject d o) (λ (d : ℕ). 0) n k a,
-        e,
-        stored-each wordLengths UNREACHABLE (bitAt m) (λ (d : ℕ). byVolume d v) (λ (d : ℕ). 1) n j w,
-      )
+      rw (stored wordLengths b WAITING o 0 os, f, stored-each wordLengths LEASE always (λ (d : ℕ). byObject d o) (λ (d : ℕ). 0) n k a)
 
   awaited : m ≡ getD (parts wordLengths w WAITING) o 0
   awaited = q ∙ part-at wordLengths w WAITING o (p .object)
 
-  marks-stored : deserted s (tablesOf w x) o ≡ withUnreachable (tablesOf w x .sessions) (flags marks)
-  unfolding deserted tablesOf storeEach
-  marks-stored =
-      marked-from (bitAt (getD (parts wordLengths w WAITING) o 0)) (volumeOf s o) (tablesOf w x .sessions) 0 (s .clients)
-      ∙ rw (flags-each (bitAt m) (λ (d : ℕ). byVolume d v) (λ (d : ℕ). 1) (parts wordLengths w UNREACHABLE) n, awaited, i, p .is)
+  marks-stored : tablesOf a x ≡ withSessions (tablesOf w x) (deserted s (tablesOf w x) o)
+  unfolding deserted tablesOf
+  marks-stored = sessions-become w a x (deserted s (tablesOf w x) o) (e .1) (e .0 ∙ rw (awaited, i, p .is))
 
-  -- the loops do not change the version
+  tables-released : tablesOf c x ≡ withHolders (tablesOf a x) (released s (tablesOf a x) o)
+  unfolding released tablesOf
+  tables-released = rw (fields-released, i)
+
+  tables-left : tablesOf c x ≡ withHolders (withSessions (tablesOf w x) (deserted s (tablesOf w x) o)) (released s (tablesOf w x) o)
+  unfolding released
+  tables-left = tables-released ∙ rw marks-stored
+
+  -- neither loop changes the version
   pub released-version : versionAt (tablesOf c x) o ≡ versionAt (tablesOf w x) o
-  unfolding tablesOf
-  released-version = ap (λ (f : ℕ → List ℕ). getD (f VERSION) o 0) fields-released
+  released-version = ap (λ (t : Tables). versionAt t o) tables-left
 
-  records-released : recordsOf c x ≡ recordsOf w x
+  records-released : recordsOf c x ≡ recordsOf a x
   unfolding recordsOf
   records-released = rw fields-released
 
   module _ (w′ x′ : List ℕ) where
     tables-completed : tablesOf w′ x′ ≡ withObjects (tablesOf c x) (posted (tablesOf c x) o) → tablesOf w′ x′ ≡ completed s (tablesOf w x) o
-    unfolding completed posted released tablesOf
-    tables-completed h = h ∙ rw (fields-released, marks-stored, i)
+    unfolding completed posted
+    tables-completed h = h ∙ rw tables-left
 
     pub completes : (tablesOf w′ x′ ≡ withObjects (tablesOf c x) (posted (tablesOf c x) o)) × (recordsOf w′ x′ ≡ recordsOf c x)
         → (tablesOf w′ x′ ≡ completed s (tablesOf w x) o) × (recordsOf w′ x′ ≡ recordsOf w x)
-    completes h = (tables-completed (h .0), h .1 ∙ records-released)
+    completes h = (tables-completed (h .0), h .1 ∙ records-released ∙ e .1 .records x)
 
 -- ---- one object, if its write is ready
 

@@ -3,7 +3,7 @@ use Prim.Native.Nat.{ℕ, _+_, _-_, _<_, _≤_}
 use native.Mathlib.Omega.{arith}
 use mathlib.Core.Bool.{true, false}
 use mathlib.Core.List.{List}
-use mathlib.Core.Path.{_≡_, refl, _∙_, fun-ext}
+use mathlib.Core.Path.{_≡_, refl, ap, _∙_, fun-ext}
 use lib.ListN.{length, set}
 use lib.Seq.{getD-set-same}
 use Rattle.laws.specs.Choice.{and-true}
@@ -12,13 +12,14 @@ use Rattle.laws.specs.Parts.{parts, part-length, stored}
 use Rattle.laws.specs.Skip.{Found, fold-skip, first-is}
 use Rattle.protocol.specs.declared.setup.Setup.{Setup}
 use Rattle.protocol.specs.declared.tables.Tables.{Tables}
-use Rattle.protocol.specs.Tables.{standingAt, versionAt, withClock}
+use Rattle.protocol.specs.Tables.{standingAt, versionAt, withClock, withSessions}
 use Rattle.protocol.specs.Leases.{guardPassed}
-use Rattle.protocol.specs.Writes.{Counted, waited, ready, due, completed, completeIf, settled, clockStaged}
+use Rattle.protocol.specs.Writes.{Counted, waited, ready, due, completed, completeIf, settled, aged, clockSet, clockStaged}
 use Rattle.protocol.specs.Server.{ofVolume}
 use Rattle.protocol.specs.SoundLaws.{Growing, completed-keeps}
 use Rattle.state_words.specs.Fields.{wordLengths, WORDS, CLOCK}
 use Rattle.state_words.specs.View.{tablesOf, numbersOf, recordsOf}
+use Rattle.server_marks.specs.SessionWords.{sessionsOf, OnlySessions, sessions-become}
 use Rattle.server_due.specs.declared.Trigger.{Trigger}
 use Rattle.server_due.specs.declared.Trigger.the-variants.{Clock, Volume}
 use Rattle.server_due.specs.Triggers.{triggered, triggerStaged}
@@ -67,22 +68,36 @@ settle-grows s t u o g e = rw e (completed-keeps s t o g)
 
 -- ---- the clock step
 
-module _ (s : Setup) (w x : List ℕ) (clock : ℕ) where
-  pub clock-grows : Growing s (tablesOf w x .objects) → Growing s (tablesOf (set w 0 clock) x .objects)
-  unfolding tablesOf
-  clock-grows g = record { below = rw (stored wordLengths w CLOCK 0 clock (omega arith)) (g .below) }
+-- a are the words after the notes have aged
+module _ (s : Setup) (w x a : List ℕ) (clock : ℕ) (e : (sessionsOf a ≡ aged s clock (sessionsOf (set w 0 clock))) × OnlySessions (set w 0 clock) a) where
+  abbrev set-clock : List ℕ
+  set-clock = set w 0 clock
 
-  clocked : length w ≡ WORDS → tablesOf (set w 0 clock) x ≡ withClock (tablesOf w x) clock
+  clocked : length w ≡ WORDS → tablesOf set-clock x ≡ withClock (tablesOf w x) clock
   unfolding tablesOf
   clocked h =
       rw (stored wordLengths w CLOCK 0 clock (omega arith), getD-set-same (parts wordLengths w CLOCK) 0 clock 0 (omega (arith, part-length wordLengths w CLOCK (omega arith))))
 
-  records-clocked : recordsOf (set w 0 clock) x ≡ recordsOf w x
+  sessions-same : sessionsOf set-clock ≡ tablesOf w x .sessions
+  unfolding tablesOf
+  sessions-same = rw (stored wordLengths w CLOCK 0 clock (omega arith))
+
+  clock-aged : length w ≡ WORDS → tablesOf a x ≡ clockSet s (tablesOf w x) clock
+  unfolding clockSet
+  clock-aged h =
+      sessions-become set-clock a x (aged s clock (tablesOf w x .sessions)) (e .1) (e .0 ∙ ap (aged s clock) sessions-same)
+      ∙ ap (λ (t : Tables). withSessions t (aged s clock (tablesOf w x .sessions))) (clocked h)
+
+  pub clock-grows : length w ≡ WORDS → Growing s (tablesOf w x .objects) → Growing s (tablesOf a x .objects)
+  unfolding clockSet
+  clock-grows h g = record { below = rw (clock-aged h) (g .below) }
+
+  records-clocked : recordsOf a x ≡ recordsOf w x
   unfolding recordsOf
-  records-clocked = rw (stored wordLengths w CLOCK 0 clock (omega arith))
+  records-clocked = e .1 .records x ∙ rw (stored wordLengths w CLOCK 0 clock (omega arith))
 
   pub clock-settles : (r : Counted) (u v : List ℕ) → length w ≡ WORDS
-      → (r ≡ settled s (triggerStaged s Clock (tablesOf (set w 0 clock) x))) × (recordsOf u v ≡ recordsOf (set w 0 clock) x)
+      → (r ≡ settled s (triggerStaged s Clock (tablesOf a x))) × (recordsOf u v ≡ recordsOf a x)
       → (r ≡ settled s (clockStaged s (tablesOf w x) clock)) × (recordsOf u v ≡ recordsOf w x)
   unfolding triggered
-  clock-settles r u v h e = (rw (← clocked h) (e .0), e .1 ∙ records-clocked)
+  clock-settles r u v h f = (rw (← clock-aged h) (f .0), f .1 ∙ records-clocked)

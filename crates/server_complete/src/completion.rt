@@ -7,7 +7,7 @@ ghost use Rattle.protocol.specs.Tables.{versionAt, withObjects};
 ghost use Rattle.protocol.specs.Writes.{posted, completed, settled};
 ghost use Rattle.state_words.specs.View.{tablesOf, recordsOf};
 ghost use Rattle.server_due.specs.Triggers.{oneStaged};
-ghost use Rattle.setup.specs.Limits.{largest, OBJECTS};
+ghost use Rattle.setup.specs.Limits.{largest, SLOTS};
 use lease_tests::place;
 use protocol::setup::Setup;
 use server_waiting::clients;
@@ -17,7 +17,7 @@ use state_words::server;
 
 // Updates the object's own fields: "stores the value, adds 1 to the version, .. and ends the standing write".
 fn post(words: &mut Words, values: &mut Values, object: usize)
-    requires { ⌜ object < OBJECTS ⌝ }
+    requires { ⌜ object < SLOTS ⌝ }
     requires { ⌜ versionAt (tablesOf (now words) (now values)) object < largest ⌝ }
     ensures { λ _. ⌜ tablesOf (now (words .exit)) (now (values .exit)) ≡ withObjects (tablesOf (now (words .entry)) (now (values .entry))) (posted (tablesOf (now (words .entry)) (now (values .entry))) object) ⌝ }
     ensures { λ _. ⌜ recordsOf (now (words .exit)) (now (values .exit)) ≡ recordsOf (now (words .entry)) (now (values .entry)) ⌝ }

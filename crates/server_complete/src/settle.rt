@@ -37,7 +37,7 @@ pub fn settle(setup: Setup, trigger: Trigger, words: &mut Words, values: &mut Va
     count
 }
 
-// Performs step 1, "Clock T: set the clock", and completes the writes that are then due. Returns how many completed.
+// Performs step 1, "Clock T: set the clock": notes age (02, A6), and the writes that are then due complete. Returns how many completed.
 pub fn pass_time(setup: Setup, words: &mut Words, values: &mut Values, clock: u32) -> u32
     requires { ⌜ inRange setup ≡ true ⌝ }
     requires { ⌜ Growing setup (tablesOf (now words) (now values) .objects) ⌝ }
@@ -46,5 +46,6 @@ pub fn pass_time(setup: Setup, words: &mut Words, values: &mut Values, clock: u3
 {
     pass::length_known(&*words);
     words[network::CLOCK] = clock;
+    server_ageing::age(setup, &mut *words, clock);
     settle(setup, Trigger::Clock, &mut *words, &mut *values)
 }
