@@ -20,7 +20,7 @@ use state_words::network;
 use state_words::server;
 
 // Opens the write of `value`: stores which clients it waits for and its latest end (02, A3), "the greatest of clock + m, guard, and, over the waiting
-// dashes, ..".
+// dashes, ..", and notes it for those that it is put off for (02, A6).
 fn begin(setup: Setup, words: &mut Words, values: &mut Values, object: usize, value: u64)
     requires { ⌜ inRange setup ≡ true ⌝ }
     requires { ⌜ tablesOf (now words) (now values) .clock ≤ clockLimit ⌝ }
@@ -36,6 +36,7 @@ fn begin(setup: Setup, words: &mut Words, values: &mut Values, object: usize, va
         words[server::GUARD + volume],
     );
     let end = latest_end(&*words, waiting, volume, object, least, n);
+    server_delays::delay(setup, &mut *words, object);
     words[server::WAITING + object] = waiting;
     words[server::STANDING + object] = 1;
     words[server::END + object] = end;

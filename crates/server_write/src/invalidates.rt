@@ -7,7 +7,7 @@ ghost use Rattle.protocol.specs.Tables.{versionAt, withQueue};
 ghost use Rattle.protocol.specs.Writes.{notified};
 ghost use Rattle.state_words.specs.View.{tablesOf, recordsOf};
 ghost use Rattle.server_write.specs.Invalidates.{invalidated};
-ghost use Rattle.setup.specs.Limits.{largest, CLIENTS, OBJECTS};
+ghost use Rattle.setup.specs.Limits.{largest, CLIENTS, SLOTS};
 use lease_tests::place;
 use network_send::push;
 use protocol::message::Kind;
@@ -27,7 +27,7 @@ fn invalidate(
     version: u32,
     n: usize,
 )
-    requires { ⌜ object < OBJECTS ⌝ }
+    requires { ⌜ object < SLOTS ⌝ }
     requires { ⌜ n ≤ CLIENTS ⌝ }
     ensures { λ _. ⌜ tablesOf (now (words .exit)) (now (values .exit)) ≡ invalidated (tablesOf (now (words .entry)) (now (values .entry))) waiting object epoch version n ⌝ }
     ensures { λ _. ⌜ recordsOf (now (words .exit)) (now (values .exit)) ≡ recordsOf (now (words .entry)) (now (values .entry)) ⌝ }

@@ -37,6 +37,9 @@ larger-requires c κs = search needs
 latest-end-requires : tie.Need-latest-end-requires
 latest-end-requires c κs = search needs
 
+delay-requires : tie.Need-delay-requires
+delay-requires c κs = search needs
+
 add-words : tie.Need-add-words
 add-words c = search needs
 
@@ -75,9 +78,11 @@ element-write-values c = search needs
 
 returns : tie.Need-returns
 returns c =
-    let at-awaited = c .before .before .before .before .before .before in
+    let at-end = c .before .before in
+    let at-awaited = at-end .before .before .before .before .before .before in
     let at-volume-of = at-awaited .before .before .before in
-    begins _ _ _ _ _ _ _ _ _ (at-volume-of .volume-of .ensures) refl (at-awaited .awaited .ensures) (c .before .before .larger .ensures) (c .latest-end .ensures) _
+    begins _ _ _ _ _ _ _ _ _ _ (at-volume-of .volume-of .ensures) refl (at-awaited .awaited .ensures) (at-end .before .before .larger .ensures)
+    (at-end .latest-end .ensures) (c .delay .ensures) _
 
 pub begin-spec : {M : Type 1} → statement M
 begin-spec =
@@ -93,6 +98,7 @@ begin-spec =
     element-copy-out-larger-2
     larger-requires
     latest-end-requires
+    delay-requires
     add-words
     mul-words
     element-write-words
