@@ -1,46 +1,80 @@
--- What an OFFER and a GRANT store in the words w; the values are x. Sending the message m then gives u and y.
+-- What an OFFER, a BATCH and a GRANT store in the words w; the values are x. Sending the message m then gives u and y.
 use Prim.Native.Nat.{ℕ, _+_, _<_}
 use native.Mathlib.Omega.{arith}
 use mathlib.Core.List.{List}
 use mathlib.Core.Path.{_≡_, refl, ap, _∙_}
 use lib.ListN.{getD, set}
-use Rattle.laws.specs.Flags.{flags-set}
-use Rattle.laws.specs.Parts.{parts, part-at, stored}
+use Rattle.laws.specs.Parts.{part-at, stored}
 use Rattle.protocol.specs.declared.message.Message.{Message}
 use Rattle.protocol.specs.declared.setup.Setup.{Setup}
 use Rattle.protocol.specs.declared.tables.Tables.{Tables}
-use Rattle.protocol.specs.Tables.{byVolume, byObject}
-use Rattle.protocol.specs.Server.{sent, offered, offering, granting, granted, volumeRenewed, objectRenewed}
+use Rattle.protocol.specs.Tables.{byVolume, byObject, withSessions}
+use Rattle.protocol.specs.Updates.{setOffer}
+use Rattle.protocol.specs.Writes.{marked}
+use Rattle.protocol.specs.Server.{sent, offered, offering, batched, batching, granting, granted, volumeRenewed, objectRenewed}
 use Rattle.lease_tests.specs.Parts.{Placed}
-use Rattle.state_words.specs.Fields.{wordLengths, at, CLOCK, VOLUME-EXPIRY, SESSION-EXPIRY, UNREACHABLE, OFFER, OBJECT-EXPIRY, LEASE}
+use Rattle.state_words.specs.Fields.{wordLengths, at, CLOCK, VOLUME-EXPIRY, SESSION-EXPIRY, OFFER, OBJECT-EXPIRY, LEASE, BATCH}
 use Rattle.state_words.specs.View.{tablesOf, numbersOf, recordsOf}
+use Rattle.server_marks.specs.SessionWords.{sessionsOf, OnlySessions, sessions-become}
 
 -- the OFFER does not depend on the values
 offering-same : (w x : List ℕ) (d v n : ℕ) → offering (numbersOf w) d v n ≡ offering (tablesOf w x) d v n
 unfolding tablesOf
 offering-same w x d v n = refl
 
+-- nor does the BATCH
+batching-same : (w x : List ℕ) (d v n : ℕ) → batching (numbersOf w) d v n ≡ batching (tablesOf w x) d v n
+unfolding tablesOf
+batching-same w x d v n = refl
+
 module _ (w x u y : List ℕ) (m : Message) where
   module _ (d v n : ℕ) (h : d < 16) (l : v < 8) where
-    abbrev words-offered : List ℕ
-    words-offered = set (set w (at UNREACHABLE + byVolume d v) 1) (at OFFER + byVolume d v) n
+    place : byVolume d v < 128
+    place = omega arith
 
-    tables-offered : tablesOf words-offered x ≡ offered (tablesOf w x) d v n
-    unfolding offered tablesOf
-    tables-offered =
-        let i : byVolume d v < 128 = omega arith in
-        rw (stored wordLengths _ OFFER (byVolume d v) n i, stored wordLengths _ UNREACHABLE (byVolume d v) 1 i, flags-set (parts wordLengths w UNREACHABLE) (byVolume d v) 1)
+    -- a are the words with the mark
+    module _ (a : List ℕ) (marks : (sessionsOf a ≡ marked (sessionsOf w) d v) × OnlySessions w a) where
+      abbrev words-offered : List ℕ
+      words-offered = set a (at OFFER + byVolume d v) n
 
-    records-offered : recordsOf words-offered x ≡ recordsOf w x
+      offer-stored : tablesOf words-offered x ≡ withSessions (tablesOf a x) (setOffer (tablesOf a x .sessions) d v n)
+      unfolding tablesOf
+      offer-stored = rw (stored wordLengths a OFFER (byVolume d v) n place)
+
+      mark-stored : tablesOf a x ≡ withSessions (tablesOf w x) (marked (tablesOf w x .sessions) d v)
+      unfolding tablesOf
+      mark-stored = sessions-become w a x (marked (sessionsOf w) d v) (marks .1) (marks .0)
+
+      tables-offered : tablesOf words-offered x ≡ offered (tablesOf w x) d v n
+      unfolding offered
+      tables-offered = offer-stored ∙ rw mark-stored
+
+      records-offered : recordsOf words-offered x ≡ recordsOf a x
+      unfolding recordsOf
+      records-offered = rw (stored wordLengths a OFFER (byVolume d v) n place)
+
+      pub offers : m ≡ offering (numbersOf w) d v n → (tablesOf u y ≡ sent (tablesOf words-offered x) m) × (recordsOf u y ≡ recordsOf words-offered x)
+          → (tablesOf u y ≡ sent (offered (tablesOf w x) d v n) (offering (tablesOf w x) d v n)) × (recordsOf u y ≡ recordsOf w x)
+      offers e f = (
+        f .0 ∙ ap (λ (t : Tables). sent t m) tables-offered ∙ ap (sent (offered (tablesOf w x) d v n)) (e ∙ offering-same w x d v n),
+        f .1 ∙ records-offered ∙ marks .1 .records x,
+      )
+
+    abbrev words-batched : List ℕ
+    words-batched = set w (at BATCH + byVolume d v) n
+
+    tables-batched : tablesOf words-batched x ≡ batched (tablesOf w x) d v n
+    unfolding batched tablesOf
+    tables-batched = rw (stored wordLengths w BATCH (byVolume d v) n place)
+
+    records-batched : recordsOf words-batched x ≡ recordsOf w x
     unfolding recordsOf
-    records-offered =
-        let i : byVolume d v < 128 = omega arith in
-        rw (stored wordLengths _ OFFER (byVolume d v) n i, stored wordLengths _ UNREACHABLE (byVolume d v) 1 i)
+    records-batched = rw (stored wordLengths w BATCH (byVolume d v) n place)
 
-    pub offers : m ≡ offering (numbersOf w) d v n → (tablesOf u y ≡ sent (tablesOf words-offered x) m) × (recordsOf u y ≡ recordsOf words-offered x)
-        → (tablesOf u y ≡ sent (offered (tablesOf w x) d v n) (offering (tablesOf w x) d v n)) × (recordsOf u y ≡ recordsOf w x)
-    offers e f =
-        (f .0 ∙ ap (λ (t : Tables). sent t m) tables-offered ∙ ap (sent (offered (tablesOf w x) d v n)) (e ∙ offering-same w x d v n), f .1 ∙ records-offered)
+    pub batches : m ≡ batching (numbersOf w) d v n → (tablesOf u y ≡ sent (tablesOf words-batched x) m) × (recordsOf u y ≡ recordsOf words-batched x)
+        → (tablesOf u y ≡ sent (batched (tablesOf w x) d v n) (batching (tablesOf w x) d v n)) × (recordsOf u y ≡ recordsOf w x)
+    batches e f =
+        (f .0 ∙ ap (λ (t : Tables). sent t m) tables-batched ∙ ap (sent (batched (tablesOf w x) d v n)) (e ∙ batching-same w x d v n), f .1 ∙ records-batched)
 
   module _ (s : Setup) (d o n held v : ℕ) (p : Placed s o v) (h : d < 16) where
     abbrev words-granted : List ℕ

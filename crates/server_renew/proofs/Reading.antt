@@ -4,9 +4,10 @@ use native.Mathlib.Nat.{sub-zero}
 use native.Mathlib.Omega.{arith}
 use mathlib.Core.Bool.{true, false, not, _||_}
 use mathlib.Core.List.{List}
-use mathlib.Core.Path.{_≡_, refl}
+use mathlib.Core.Path.{_≡_, refl, sym, ap, _∙_}
 use lib.Dec.{eqb}
 use lib.ListN.{getD}
+use borrow.Author.Tests.{eq-eqb, ne-eqb}
 use Rattle.laws.specs.Choice.{and-true}
 use Rattle.laws.specs.Flags.{flag, flag-at, flag-yes, flag-no}
 use Rattle.laws.specs.Parts.{part-at}
@@ -15,8 +16,8 @@ use Rattle.protocol.specs.declared.setup.Setup.{Setup}
 use Rattle.protocol.specs.SoundLaws.{Growing}
 use Rattle.protocol.specs.Tables.{byVolume, versionAt, standingAt, waitingAt}
 use Rattle.protocol.specs.Writes.{invalidation}
-use Rattle.protocol.specs.Server.{ofVolume, waitedIn, lowestWaited, mustDrop}
-use Rattle.state_words.specs.Fields.{wordLengths, at, VOLUME-EPOCH, UNREACHABLE, STANDING}
+use Rattle.protocol.specs.Server.{ofVolume, hasNotes, waitedIn, lowestWaited, mustDrop}
+use Rattle.state_words.specs.Fields.{wordLengths, at, VOLUME-EPOCH, UNREACHABLE, STANDING, NOTES}
 use Rattle.state_words.specs.View.{tablesOf, numbersOf}
 
 module _ (w : List ℕ) where
@@ -32,6 +33,14 @@ module _ (w x : List ℕ) where
   pub rests : (o : ℕ) → o < 32 → getD w (at STANDING + o) 0 ≡ 0 → standingAt (tablesOf w x) o ≡ false
   unfolding tablesOf
   rests o l h = flag-no wordLengths w STANDING o l h
+
+  pub noted-there : (d v : ℕ) → d < 16 → v < 8 → (getD w (at NOTES + byVolume d v) 0 ≡ 0 → ⊥) → hasNotes (tablesOf w x) d v ≡ true
+  unfolding tablesOf
+  noted-there d v h l n = ap not (ne-eqb _ 0 (λ e. n (part-at wordLengths w NOTES (byVolume d v) (omega arith) ∙ e)))
+
+  pub not-noted : (d v : ℕ) → d < 16 → v < 8 → getD w (at NOTES + byVolume d v) 0 ≡ 0 → hasNotes (tablesOf w x) d v ≡ false
+  unfolding tablesOf
+  not-noted d v h l e = ap not (eq-eqb _ 0 (sym (part-at wordLengths w NOTES (byVolume d v) (omega arith)) ∙ e))
 
   -- these depend on the words alone
   pub drop-same : (d v e : ℕ) → mustDrop (numbersOf w) d v e ≡ mustDrop (tablesOf w x) d v e

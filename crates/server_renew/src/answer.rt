@@ -11,6 +11,7 @@ ghost use Rattle.setup.specs.Limits.{CLIENTS, VOLUMES};
 use lease_tests::place;
 use network_send::push;
 use protocol::setup::Setup;
+use server_grants::batch;
 use server_grants::grant;
 use server_grants::offer;
 use server_replies::lowest;
@@ -29,7 +30,8 @@ fn must_drop(words: &Words, client: usize, volume: usize, epoch: u32) -> bool
         | (words[server::UNREACHABLE + (client * VOLUMES + volume)] != 0)
 }
 
-// Answers a RENEW whose number is new: "take the first rule that fits". Sends nothing where "This object has a standing write".
+// Answers a RENEW whose number is new: "take the first rule that fits". 02, A6: "No volume lease is given while notes remain." Sends nothing where "This
+// object has a standing write".
 pub fn renew_by(
     setup: Setup,
     words: &mut Words,
@@ -51,6 +53,10 @@ pub fn renew_by(
     let volume = place::volume_of(setup, object);
     if must_drop(&*words, client, volume, epoch) {
         offer(&mut *words, &mut *values, client, volume, number);
+        return;
+    }
+    if words[server::NOTES + (client * VOLUMES + volume)] != 0 {
+        batch(&mut *words, &mut *values, client, volume, number);
         return;
     }
     let low = lowest::lowest_waited(setup, &*words, client, volume);

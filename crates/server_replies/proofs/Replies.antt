@@ -11,15 +11,15 @@ use Rattle.laws.specs.Flags.{flag, flag-at}
 use Rattle.laws.specs.Parts.{part-at}
 use Rattle.laws.specs.Sets.{bitAt}
 use Rattle.protocol.specs.declared.message.Payload.{Payload}
-use Rattle.protocol.specs.declared.message.Kind.the-variants.{Grant, Invalidate, Offer}
+use Rattle.protocol.specs.declared.message.Kind.the-variants.{Grant, Invalidate, Offer, Batch}
 use Rattle.protocol.specs.declared.message.Payload.the-variants.{Same, Value}
 use Rattle.protocol.specs.declared.setup.Setup.{Setup}
 use Rattle.protocol.specs.Messages.{message}
-use Rattle.protocol.specs.Tables.{versionAt}
+use Rattle.protocol.specs.Tables.{byVolume, versionAt}
 use Rattle.protocol.specs.Writes.{invalidation}
-use Rattle.protocol.specs.Server.{offering, waitedIn, payloadFor, granting}
+use Rattle.protocol.specs.Server.{offering, batching, waitedIn, payloadFor, granting}
 use Rattle.lease_tests.specs.Parts.{Placed}
-use Rattle.state_words.specs.Fields.{wordLengths, valueLengths, at, atValue, CLOCK, VOLUME-EPOCH, VERSION, STANDING, WAITING, VALUE}
+use Rattle.state_words.specs.Fields.{wordLengths, valueLengths, at, atValue, CLOCK, VOLUME-EPOCH, VERSION, STANDING, WAITING, NOTES, VALUE}
 use Rattle.state_words.specs.View.{tablesOf, numbersOf}
 
 module _ (w : List ℕ) where
@@ -46,6 +46,11 @@ module _ (w x : List ℕ) where
 pub sends-offer : (w : List ℕ) (d v n : ℕ) → v < 8 → message d (Offer v n (getD w (at VOLUME-EPOCH + v) 0)) ≡ offering (numbersOf w) d v n
 unfolding tablesOf
 sends-offer w d v n h = rw (part-at wordLengths w VOLUME-EPOCH v h)
+
+pub sends-batch : (w : List ℕ) (d v n : ℕ) → d < 16 → v < 8
+    → message d (Batch v n (getD w (at VOLUME-EPOCH + v) 0) (getD w (at NOTES + byVolume d v) 0)) ≡ batching (numbersOf w) d v n
+unfolding tablesOf
+sends-batch w d v n g h = rw (part-at wordLengths w VOLUME-EPOCH v h, part-at wordLengths w NOTES (byVolume d v) (omega arith))
 
 pub resends : (s : Setup) (w : List ℕ) (d o v : ℕ) → Placed s o v
     → message d (Invalidate o (getD w (at VOLUME-EPOCH + v) 0) (getD w (at VERSION + o) 0 + 1)) ≡ invalidation s (numbersOf w) o d

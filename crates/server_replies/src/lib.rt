@@ -7,15 +7,16 @@ ghost use Prim.Native.Nat.{_≤_, _<_};
 ghost use Rattle.protocol.specs.Setup.{inRange};
 ghost use Rattle.protocol.specs.Tables.{versionAt};
 ghost use Rattle.protocol.specs.Writes.{invalidation};
-ghost use Rattle.protocol.specs.Server.{offering, payloadFor, granting};
+ghost use Rattle.protocol.specs.Server.{offering, batching, payloadFor, granting};
 ghost use Rattle.protocol.specs.Sound.{clockLimit};
-ghost use Rattle.setup.specs.Limits.{largest, CLIENTS, OBJECTS, VOLUMES};
+ghost use Rattle.setup.specs.Limits.{largest, CLIENTS, SLOTS, VOLUMES};
 ghost use Rattle.state_words.specs.View.{tablesOf, numbersOf};
 use lease_tests::place;
 use protocol::message::Kind;
 use protocol::message::Message;
 use protocol::message::Payload;
 use protocol::setup::Setup;
+use setup::limits::VOLUMES;
 use state_words::Values;
 use state_words::Words;
 use state_words::network;
@@ -33,6 +34,23 @@ pub fn offering(words: &Words, client: usize, volume: usize, number: u32) -> Mes
             volume: volume as u8,
             number,
             epoch: words[server::VOLUME_EPOCH + volume],
+        },
+    }
+}
+
+// Returns the BATCH (02, A6): "answered by BATCH (kind 7) with number, epoch and the noted set".
+pub fn batching(words: &Words, client: usize, volume: usize, number: u32) -> Message
+    requires { ⌜ client < CLIENTS ⌝ }
+    requires { ⌜ volume < VOLUMES ⌝ }
+    ensures { λ r. ⌜ r ≡ batching (numbersOf (now (words .entry))) client volume number ⌝ }
+{
+    Message {
+        client: client as u8,
+        kind: Kind::Batch {
+            volume: volume as u8,
+            number,
+            epoch: words[server::VOLUME_EPOCH + volume],
+            set: words[server::NOTES + (client * VOLUMES + volume)],
         },
     }
 }
@@ -58,7 +76,7 @@ pub fn resending(setup: Setup, words: &Words, client: usize, object: usize) -> M
 
 // Returns the object's value, or `Same` if the client holds this version already: "with value unless versions are equal".
 fn payload<'a>(words: &'a Words, values: &'a Values, object: usize, held: u32) -> Payload
-    requires { ⌜ object < OBJECTS ⌝ }
+    requires { ⌜ object < SLOTS ⌝ }
     ensures { λ r. ⌜ r ≡ payloadFor (tablesOf (now (words .entry)) (now (values .entry))) object held ⌝ }
 {
     if words[server::VERSION + object] == held {

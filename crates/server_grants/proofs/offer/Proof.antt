@@ -6,6 +6,9 @@ use Rattle.server_grants.proofs.offer.Tie as tie
 offering-requires : tie.Need-offering-requires
 offering-requires c κs = search needs
 
+mark-requires : tie.Need-mark-requires
+mark-requires c κs = search needs
+
 mul-words : tie.Need-mul-words
 mul-words c = search needs
 
@@ -21,44 +24,26 @@ mul-words-2 c = search needs
 element-write-words : tie.Need-element-write-words
 element-write-words c = search needs
 
-mul-words-3 : tie.Need-mul-words-3
-mul-words-3 c = search needs
-
-add-words-3 : tie.Need-add-words-3
-add-words-3 c = search needs
-
-add-words-4 : tie.Need-add-words-4
-add-words-4 c = search needs
-
-mul-words-4 : tie.Need-mul-words-4
-mul-words-4 c = search needs
-
-element-write-words-2 : tie.Need-element-write-words-2
-element-write-words-2 c = search needs
-
 push-requires : tie.Need-push-requires
 push-requires c κs = search needs
 
 returns : tie.Need-returns
 returns c =
-    let at-offering = c .before .before .before in
+    let at-mark = c .before .before .before in
+    let at-offering = at-mark .before .before in
     let a = at-offering .before .before in
-    offers _ _ _ _ _ _ _ _ (a .pre .0) (a .pre .1) (at-offering .offering .ensures) (c .push .ensures)
+    offers _ _ _ _ _ _ _ _ (a .pre .0) (a .pre .1) _ (at-mark .mark .ensures) (at-offering .offering .ensures) (c .push .ensures)
 
 pub offer-spec : {M : Type 1} → statement M
 offer-spec =
     tie.close
     (tie.spec
     offering-requires
+    mark-requires
     mul-words
     add-words
     add-words-2
     mul-words-2
     element-write-words
-    mul-words-3
-    add-words-3
-    add-words-4
-    mul-words-4
-    element-write-words-2
     push-requires
     returns)
