@@ -13,7 +13,7 @@ use Rattle.laws.specs.Store.{storeAt, storeEach, always, length-store}
 use Rattle.protocol.specs.declared.setup.Setup.{Setup}
 use Rattle.protocol.specs.Server.{serverRestarted}
 use Rattle.state_words.specs.Fields.{wordLengths, valueLengths, at, atValue, WORDS, VALUES, VOLUME-EPOCH, VOLUME-EXPIRY, GUARD, SEEN}
-use Rattle.state_words.specs.Fields.{SESSION-EXPIRY, UNREACHABLE, OFFER, OBJECT-EXPIRY, STANDING, END, LEASE, WAITING, PENDING}
+use Rattle.state_words.specs.Fields.{SESSION-EXPIRY, UNREACHABLE, OFFER, OBJECT-EXPIRY, STANDING, END, LEASE, WAITING, NOTES, BATCH, PENDING}
 use Rattle.state_words.specs.View.{tablesOf, numbersOf, recordsOf}
 use Rattle.server_restart.specs.Restart.{EpochsGrow, sessionsCleared, objectsCleared, holdersCleared}
 
@@ -67,6 +67,12 @@ module _ (w u : List ℕ) (h : length w ≡ WORDS) where
   abbrev marks : List ℕ
   marks = filling (at UNREACHABLE) 128 0 expiries
 
+  abbrev offers : List ℕ
+  offers = filling (at OFFER) 128 0 marks
+
+  abbrev noted : List ℕ
+  noted = filling (at NOTES) 128 0 offers
+
   abbrev leases : List ℕ
   leases = filling (at OBJECT-EXPIRY) 32 0 w
 
@@ -77,17 +83,23 @@ module _ (w u : List ℕ) (h : length w ≡ WORDS) where
   held = filling (at LEASE) 512 0 w
 
   pub sessions-length : u ≡ sessionsCleared w → length u ≡ WORDS
-  sessions-length e = ap length e ∙ cleared OFFER 128 marks (cleared UNREACHABLE 128 expiries (cleared SESSION-EXPIRY 128 seen (cleared SEEN 16 w h)))
+  sessions-length e =
+      ap length e ∙ cleared BATCH 128 noted (cleared NOTES 128 offers (cleared OFFER 128 marks
+      (cleared UNREACHABLE 128 expiries (cleared SESSION-EXPIRY 128 seen (cleared SEEN 16 w h)))))
 
   pub sessions-fields : u ≡ sessionsCleared w
-      → parts wordLengths u ≡ withPart (withPart (withPart (withPart (parts wordLengths w) SEEN (replicate 16 0))
-      SESSION-EXPIRY (replicate 128 0)) UNREACHABLE (replicate 128 0)) OFFER (replicate 128 0)
+      → parts wordLengths u ≡ withPart (withPart (withPart (withPart (withPart (withPart (parts wordLengths w) SEEN (replicate 16 0))
+      SESSION-EXPIRY (replicate 128 0)) UNREACHABLE (replicate 128 0)) OFFER (replicate 128 0)) NOTES (replicate 128 0)) BATCH (replicate 128 0)
   sessions-fields e =
       let a = cleared SEEN 16 w h in
       let b = cleared SESSION-EXPIRY 128 seen a in
       let c = cleared UNREACHABLE 128 expiries b in
+      let f = cleared OFFER 128 marks c in
+      let g = cleared NOTES 128 offers f in
       rw (
-        filled-field wordLengths marks u OFFER 0 (omega (arith, c)) e,
+        filled-field wordLengths noted u BATCH 0 (omega (arith, g)) e,
+        filled-field wordLengths offers noted NOTES 0 (omega (arith, f)) refl,
+        filled-field wordLengths marks offers OFFER 0 (omega (arith, c)) refl,
         filled-field wordLengths expiries marks UNREACHABLE 0 (omega (arith, b)) refl,
         filled-field wordLengths seen expiries SESSION-EXPIRY 0 (omega (arith, a)) refl,
         filled-field wordLengths w seen SEEN 0 (omega (arith, h)) refl,

@@ -13,7 +13,7 @@ ghost use Rattle.server_restart.specs.Restart.{EpochsGrow, sessionsClear
 ghost use Rattle.setup.specs.Limits.{VOLUMES};
 use protocol::setup::Setup;
 use setup::limits::CLIENTS;
-use setup::limits::OBJECTS;
+use setup::limits::SLOTS;
 use setup::limits::VOLUMES;
 use state_words::CLIENT_OBJECTS;
 use state_words::CLIENT_VOLUMES;
@@ -46,7 +46,8 @@ fn guard_expiries(words: &mut Words)
     }
 }
 
-// Zeroes what the server knows of each client: highest number seen, volume leases, unreachable marks and offers ("its other fields become fresh").
+// Zeroes what the server knows of each client: highest number seen, volume leases, unreachable marks and offers ("its other fields become fresh"), notes and
+// batches (02, A6: "A server restart loses notes.").
 fn clear_sessions(words: &mut Words)
     ensures { λ _. ⌜ now (words .exit) ≡ sessionsCleared (now (words .entry)) ⌝ }
 {
@@ -54,15 +55,17 @@ fn clear_sessions(words: &mut Words)
     pass::fill(&mut *words, server::SESSION_EXPIRY, CLIENT_VOLUMES, 0);
     pass::fill(&mut *words, server::UNREACHABLE, CLIENT_VOLUMES, 0);
     pass::fill(&mut *words, server::OFFER, CLIENT_VOLUMES, 0);
+    pass::fill(&mut *words, server::NOTES, CLIENT_VOLUMES, 0);
+    pass::fill(&mut *words, server::BATCH, CLIENT_VOLUMES, 0);
 }
 
 // Zeroes each object's OE and ends its standing write: "values, versions .. remain; .. other fields become fresh".
 fn clear_objects(words: &mut Words)
     ensures { λ _. ⌜ now (words .exit) ≡ objectsCleared (now (words .entry)) ⌝ }
 {
-    pass::fill(&mut *words, server::OBJECT_EXPIRY, OBJECTS, 0);
-    pass::fill(&mut *words, server::STANDING, OBJECTS, 0);
-    pass::fill(&mut *words, server::END, OBJECTS, 0);
+    pass::fill(&mut *words, server::OBJECT_EXPIRY, SLOTS, 0);
+    pass::fill(&mut *words, server::STANDING, SLOTS, 0);
+    pass::fill(&mut *words, server::END, SLOTS, 0);
 }
 
 // Zeroes all object leases and whom the writes wait for ("its other fields become fresh").
@@ -70,7 +73,7 @@ fn clear_holders(words: &mut Words)
     ensures { λ _. ⌜ now (words .exit) ≡ holdersCleared (now (words .entry)) ⌝ }
 {
     pass::fill(&mut *words, server::LEASE, CLIENT_OBJECTS, 0);
-    pass::fill(&mut *words, server::WAITING, OBJECTS, 0);
+    pass::fill(&mut *words, server::WAITING, SLOTS, 0);
 }
 
 // Restarts the server, step 8: "values, versions, VE remain; every epoch grows by 1; guard becomes VE; its other fields become fresh. Messages remain."
@@ -87,5 +90,5 @@ pub fn restart(setup: Setup, words: &mut Words, values: &mut Values)
     clear_sessions(&mut *words);
     clear_objects(&mut *words);
     clear_holders(&mut *words);
-    pass::fill_values(&mut *values, server::PENDING, OBJECTS, 0);
+    pass::fill_values(&mut *values, server::PENDING, SLOTS, 0);
 }
