@@ -9,7 +9,7 @@ ghost use Rattle.protocol.specs.Server.{ackTaken, ackStaged};
 ghost use Rattle.state_words.specs.View.{tablesOf, numbersOf, recordsOf};
 use lease_tests::place;
 use protocol::setup::Setup;
-use setup::limits::OBJECTS;
+use setup::limits::SLOTS;
 use state_words::Values;
 use state_words::Words;
 use state_words::server;
@@ -49,7 +49,7 @@ pub fn receive_ack(
 {
     if ack_taken(setup, &*words, object, epoch, version) {
         words[server::WAITING + object] = sets::without(words[server::WAITING + object], client);
-        words[server::LEASE + (client * OBJECTS + object)] = 0;
+        words[server::LEASE + (client * SLOTS + object)] = 0;
         return server_complete::completion::settle_one(setup, &mut *words, &mut *values, object);
     }
     0

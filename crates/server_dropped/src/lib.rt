@@ -17,7 +17,7 @@ use lease_tests::place;
 use protocol::setup::Setup;
 use server_complete::settle;
 use server_due::Trigger;
-use setup::limits::OBJECTS;
+use setup::limits::SLOTS;
 use setup::limits::VOLUMES;
 use state_words::Values;
 use state_words::Words;
@@ -37,7 +37,7 @@ fn clear_leases(setup: Setup, words: &mut Words, client: usize, volume: usize)
         pass::put_if(
             &mut *words,
             own == volume,
-            server::LEASE + (client * OBJECTS + object),
+            server::LEASE + (client * SLOTS + object),
             0,
         );
         object += 1;

@@ -71,7 +71,7 @@ settle-requires c κs =
     let a = at-clear-leases .before .before .before .before .before in (
       a .pre .0,
       drop-grows _ _ (a .args .values .now) _ _ _ _ (omega (arith, a .pre .1 .1 .0, ranges _ (a .pre .0) .clients .1))
-          (omega (arith, a .pre .1 .1 .1, ranges _ (a .pre .0) .volumes .1)) (ranges _ (a .pre .0) .objects .1)
+          (omega (arith, a .pre .1 .1 .1, ranges _ (a .pre .0) .volumes .1)) (omega (arith, ranges _ (a .pre .0) .objects .1))
           (at-clear-leases .clear-leases .ensures) (c .before .before .stop-waiting .ensures) (a .pre .1 .0),
     )
 
@@ -84,7 +84,7 @@ returns c =
     let a = at-drop-taken .before .before in
     drop-yes _ _ _ _ _ _ _ (omega (arith, a .pre .1 .1 .0, ranges _ (a .pre .0) .clients .1))
     (omega (arith, a .pre .1 .1 .1, ranges _ (a .pre .0) .volumes .1))
-    (ranges _ (a .pre .0) .objects .1) (at-clear-leases .clear-leases .ensures) (at-stop-waiting .stop-waiting .ensures)
+    (omega (arith, ranges _ (a .pre .0) .objects .1)) (at-clear-leases .clear-leases .ensures) (at-stop-waiting .stop-waiting .ensures)
     _ _ _ _ _ _ (at-drop-taken .drop-taken .ensures) (at-if1 .if1 .taken) (c .settle .ensures)
 
 returns-2 : tie.Need-returns-2
