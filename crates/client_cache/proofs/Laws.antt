@@ -1,16 +1,17 @@
 -- One lemma for each path through the functions on a copy or a request.
 use Prim.Native.Nat.{ℕ, _≤_, _<_}
-use mathlib.Core.Bool.{true, false, _&&_}
+use mathlib.Core.Bool.{Bool, true, false, _&&_}
 use mathlib.Core.List.{List}
 use mathlib.Core.Path.{_≡_, sym, _∙_}
 use lib.Dec.{eqb}
 use lib.ListN.{length, getD, List·getD-eq-default}
 use borrow.Author.Tests.{eq-eqb, ne-eqb}
+use Rattle.laws.specs.Sets.{bitAt}
 use Rattle.protocol.specs.declared.records.Copy.{Copy}
 use Rattle.protocol.specs.declared.records.Request.{Request}
 use Rattle.protocol.specs.declared.setup.Setup.{Setup}
 use Rattle.protocol.specs.declared.step.Sweep.{Sweep}
-use Rattle.protocol.specs.declared.step.Sweep.the-variants.{Keep, Expire, Erase}
+use Rattle.protocol.specs.declared.step.Sweep.the-variants.{Keep, Expire, Forget, Erase}
 use Rattle.protocol.specs.declared.step.Turn.{Turn}
 use Rattle.protocol.specs.declared.step.Turn.the-variants as request
 use Rattle.protocol.specs.Setup.{volumeOf}
@@ -58,8 +59,16 @@ module _ (s : Setup) (g : Sweep) (c r : Copy) (o : ℕ) where
   unfolding swept
   sweep-other v w a h n = rw (a, ne-eqb _ _ (λ e. n (h ∙ e)))
 
+  pub sweep-forget : (m : ℕ) (b : Bool) → g ≡ Forget m → b ≡ bitAt m o → b ≡ true → r ≡ noCopy → r ≡ swept s g c o
+  unfolding swept
+  sweep-forget m b a h e f = rw (a, sym h ∙ e) f
+
+  pub sweep-spare : (m : ℕ) (b : Bool) → g ≡ Forget m → b ≡ bitAt m o → b ≡ false → c ≡ swept s g c o
+  unfolding swept
+  sweep-spare m b a h e = rw (a, sym h ∙ e)
+
   pub sweep-erase : g ≡ Erase → r ≡ noCopy → r ≡ swept s g c o
   unfolding swept
   sweep-erase a e = rw a e
 
-pub ruleset sweeping = (sweep-keep, sweep-expire, sweep-other, sweep-erase)
+pub ruleset sweeping = (sweep-keep, sweep-expire, sweep-other, sweep-forget, sweep-spare, sweep-erase)

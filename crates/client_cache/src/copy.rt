@@ -35,7 +35,8 @@ fn volume_of(setup: Setup, o: usize) -> u8
     0
 }
 
-// Returns a client's copy of an object after a sweep. `Expire`, for an OFFER, keeps version and value: "all its object expiries to 0".
+// Returns a client's copy of an object after a sweep. `Expire`, for an OFFER, keeps version and value: "all its object expiries to 0". `Forget`, for a BATCH
+// (02, A6), "erases those copies".
 pub fn sweep(setup: Setup, g: Sweep, c: Copy, object: usize) -> Copy
     ensures { λ r. ⌜ r ≡ swept setup g c object ⌝ }
 {
@@ -48,6 +49,12 @@ pub fn sweep(setup: Setup, g: Sweep, c: Copy, object: usize) -> Copy
                     value: c.value,
                     expiry: 0,
                 };
+            }
+            c
+        }
+        Sweep::Forget(set) => {
+            if sets::contains(set, object) {
+                return fresh_copy();
             }
             c
         }
