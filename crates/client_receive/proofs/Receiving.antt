@@ -6,7 +6,7 @@ use mathlib.Core.Bool.{Bool, true, false}
 use mathlib.Core.List.{List}
 use mathlib.Core.Path.{_≡_, refl, sym, _∙_}
 use Rattle.laws.specs.Parts.{stored}
-use Rattle.protocol.specs.declared.message.Kind.the-variants.{Ack, Dropped}
+use Rattle.protocol.specs.declared.message.Kind.the-variants.{Ack, Dropped, Cleared}
 use Rattle.protocol.specs.declared.records.Copy.{Copy}
 use Rattle.protocol.specs.declared.records.Request.{Request}
 use Rattle.protocol.specs.declared.setup.Setup.{Setup}
@@ -19,7 +19,7 @@ use Rattle.protocol.specs.Messages.{message}
 use Rattle.protocol.specs.Tables.{byVolume, withViews}
 use Rattle.protocol.specs.Server.{sent}
 use Rattle.protocol.specs.Client.{viewed, stands, forgotten, grantStored}
-use Rattle.protocol.specs.Decide.{kept, byClient, grantReceived, invalidateReceived, offerReceived}
+use Rattle.protocol.specs.Decide.{kept, byClient, grantReceived, invalidateReceived, offerReceived, batchReceived}
 use Rattle.lease_tests.specs.Parts.{Placed}
 use Rattle.state_words.specs.Fields.{wordLengths, VIEW-EPOCH, VIEW-EXPIRY}
 use Rattle.state_words.specs.View.{tablesOf, recordsOf}
@@ -76,3 +76,17 @@ module _ (w x : List ℕ) (r : Request) (d v n e : ℕ) (b : Bool) (k : b ≡ st
   pub offer-no : (u : Change) → b ≡ false → u ≡ kept → (byClient u (tablesOf w x) ≡ offerReceived (tablesOf w x) r d v n e) × (recordsOf w x ≡ recordsOf w x)
   unfolding offerReceived
   offer-no u m i = (rw (sym k ∙ m, i), refl)
+
+-- ---- BATCH
+
+module _ (w x : List ℕ) (r : Request) (d v n e m : ℕ) (b : Bool) (k : b ≡ stands r n) where
+  pub batch-yes : (y z : List ℕ) → b ≡ true
+      → (tablesOf y z ≡ sent (tablesOf w x) (message d (Cleared v n e m))) × (recordsOf y z ≡ recordsOf w x)
+      → (byClient (record { copy = copy.Keep; request = request.End; sweep = sweep.Forget m }) (tablesOf y z) ≡ batchReceived (tablesOf w x) r d v n e m)
+      × (recordsOf y z ≡ recordsOf w x)
+  unfolding batchReceived
+  batch-yes y z i j = (rw (sym k ∙ i, j .0), j .1)
+
+  pub batch-no : (u : Change) → b ≡ false → u ≡ kept → (byClient u (tablesOf w x) ≡ batchReceived (tablesOf w x) r d v n e m) × (recordsOf w x ≡ recordsOf w x)
+  unfolding batchReceived
+  batch-no u i j = (rw (sym k ∙ i, j), refl)

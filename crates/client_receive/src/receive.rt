@@ -3,7 +3,7 @@ ghost use mathlib.Core.Path.{_≡_};
 ghost use mathlib.Core.Bool.{true};
 ghost use Prim.Native.Nat.{_<_};
 ghost use Rattle.protocol.specs.Setup.{inRange};
-ghost use Rattle.protocol.specs.Decide.{byClient, invalidateReceived, offerReceived};
+ghost use Rattle.protocol.specs.Decide.{byClient, invalidateReceived, offerReceived, batchReceived};
 ghost use Rattle.state_words.specs.View.{tablesOf, recordsOf};
 ghost use Rattle.client_receive.specs.Views.{grantHeard};
 ghost use Rattle.setup.specs.Limits.{CLIENTS, VOLUMES};
@@ -121,6 +121,37 @@ pub fn offer(
             copy: CopyChange::Keep,
             request: Turn::End,
             sweep: Sweep::Expire(volume),
+        };
+    }
+    change::unchanged()
+}
+
+// BATCH (02, A6): "With that number standing the dash erases those copies, ends the request and sends CLEARED (kind 8) with number, epoch and set".
+pub fn batch(
+    words: &mut Words,
+    values: &mut Values,
+    r: Request,
+    client: u8,
+    volume: u8,
+    number: u32,
+    epoch: u32,
+    set: u32,
+) -> Change
+    ensures { λ u. ⌜ byClient u (tablesOf (now (words .exit)) (now (values .exit))) ≡ batchReceived (tablesOf (now (words .entry)) (now (values .entry))) r client volume number epoch set ⌝ }
+    ensures { λ _. ⌜ recordsOf (now (words .exit)) (now (values .exit)) ≡ recordsOf (now (words .entry)) (now (values .entry)) ⌝ }
+{
+    if request::stands(r, number) {
+        let kind = Kind::Cleared {
+            volume,
+            number,
+            epoch,
+            set,
+        };
+        push(&mut *words, &mut *values, Message { client, kind });
+        return Change {
+            copy: CopyChange::Keep,
+            request: Turn::End,
+            sweep: Sweep::Forget(set),
         };
     }
     change::unchanged()
