@@ -32,6 +32,7 @@ fn sweeps(g: Sweep, objects: u32) -> usize
     match g {
         Sweep::Keep => 0,
         Sweep::Expire(_) => objects as usize,
+        Sweep::Forget(_) => objects as usize,
         Sweep::Erase => objects as usize,
     }
 }
