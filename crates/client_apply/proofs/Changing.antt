@@ -122,6 +122,9 @@ module _ (s : Setup) (g : Sweep) (first : ℕ) where
     pub sweep-expired : (o : ℕ) → g ≡ sweep.Expire o → v ≡ sweptOf s g first (s .objects) u → v ≡ sweptOf s g first (sweeps g (s .objects)) u
     sweep-expired o e f = f ∙ rw e
 
+    pub sweep-forgotten : (m : ℕ) → g ≡ sweep.Forget m → v ≡ sweptOf s g first (s .objects) u → v ≡ sweptOf s g first (sweeps g (s .objects)) u
+    sweep-forgotten m e f = f ∙ rw e
+
     pub sweep-erased : g ≡ sweep.Erase → v ≡ sweptOf s g first (s .objects) u → v ≡ sweptOf s g first (sweeps g (s .objects)) u
     sweep-erased e f = f ∙ rw e
 

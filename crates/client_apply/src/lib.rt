@@ -97,6 +97,7 @@ fn sweep(setup: Setup, words: &mut Words, values: &mut Values, at: Target, g: Sw
     match g {
         Sweep::Keep => {}
         Sweep::Expire(_) => sweep_client(setup, &mut *words, &mut *values, at, g),
+        Sweep::Forget(_) => sweep_client(setup, &mut *words, &mut *values, at, g),
         Sweep::Erase => sweep_client(setup, &mut *words, &mut *values, at, g),
     }
 }
