@@ -11,7 +11,7 @@ use lib.Dec.{ltb}
 use Rattle.laws.specs.Choice.{and-true}
 use Rattle.protocol.proofs.message.Kind.{the-type}
 use Rattle.protocol.specs.declared.message.Kind.{Kind}
-use Rattle.protocol.specs.declared.message.Kind.the-variants.{Renew, Grant, Invalidate, Ack, Offer, Dropped}
+use Rattle.protocol.specs.declared.message.Kind.the-variants.{Renew, Grant, Invalidate, Ack, Offer, Dropped, Batch, Cleared}
 use Rattle.protocol.specs.declared.message.Message.{Message}
 use Rattle.protocol.specs.declared.message.Payload.{Payload}
 use Rattle.protocol.specs.declared.records.Copy.{Copy}
@@ -23,8 +23,8 @@ use Rattle.protocol.specs.declared.tables.Tables.{Tables}
 use Rattle.protocol.specs.Messages.{messageAt}
 use Rattle.protocol.specs.Sound.{kindSound, timeFits}
 use Rattle.protocol.specs.Writes.{Counted, settled}
-use Rattle.protocol.specs.Server.{renewed, ackStaged, dropStaged}
-use Rattle.protocol.specs.Decide.{Received, kept, uncounted, byClient, grantReceived, invalidateReceived, offerReceived, received, taken, answered, delivered, deliverDecided}
+use Rattle.protocol.specs.Server.{renewed, ackStaged, dropStaged, notesCleared}
+use Rattle.protocol.specs.Decide.{Received, kept, uncounted, byClient, grantReceived, invalidateReceived, offerReceived, batchReceived, received, taken, answered, delivered, deliverDecided}
 use Rattle.step_deliver.specs.Sides.{served, heard}
 
 -- the object or volume that a sound message names exists
@@ -44,6 +44,9 @@ module _ (s : Setup) (k : Kind) (h : kindSound s k ≡ true) where
   pub dropped-in : (v n e : ℕ) → k ≡ Dropped v n e → v < s .volumes
   dropped-in v n e q = ltb-true _ _ (rw q at h)
 
+  pub cleared-in : (v n e m : ℕ) → k ≡ Cleared v n e m → v < s .volumes
+  cleared-in v n e m q = ltb-true _ _ (and-true (ltb v (s .volumes)) _ (rw q at h) .0)
+
 -- ---- at the server
 
 module _ (s : Setup) (t : Tables) (d : ℕ) (k : Kind) where
@@ -59,15 +62,22 @@ module _ (s : Setup) (t : Tables) (d : ℕ) (k : Kind) where
   unfolding served
   serves-dropped v n e m q h = rw q h
 
--- the server ignores the kinds that are sent to a client: GRANT, INVALIDATE and OFFER, with tags 1, 2 and 4
-pub serves-none : (s : Setup) (t : Tables) (d : ℕ) (k : Kind) → (tagOf the-type k ≡ 1) ⊎ ((tagOf the-type k ≡ 2) ⊎ (tagOf the-type k ≡ 4)) → uncounted t ≡ served s t d k
+  pub serves-cleared : (v n e m : ℕ) (u : Tables) → k ≡ Cleared v n e m → u ≡ notesCleared s t d v n e m → uncounted u ≡ served s t d k
+  unfolding served
+  serves-cleared v n e m u q h = rw (q, h)
+
+-- the server ignores the kinds that are sent to a client: GRANT, INVALIDATE, OFFER and BATCH, with tags 1, 2, 4 and 6
+pub serves-none : (s : Setup) (t : Tables) (d : ℕ) (k : Kind) → (tagOf the-type k ≡ 1)
+    ⊎ ((tagOf the-type k ≡ 2) ⊎ ((tagOf the-type k ≡ 4) ⊎ (tagOf the-type k ≡ 6))) → uncounted t ≡ served s t d k
 unfolding served
-serves-none s t d (Renew o n e w) h = absurd (⊎-elim (λ e. omega arith) (λ i. ⊎-elim (λ e. omega arith) (λ e. omega arith) i) h)
+serves-none s t d (Renew o n e w) h = absurd (⊎-elim (λ e. omega arith) (λ i. ⊎-elim (λ e. omega arith) (λ j. ⊎-elim (λ e. omega arith) (λ e. omega arith) j) i) h)
 serves-none s t d (Grant o n x e w y p) h = refl
 serves-none s t d (Invalidate o e w) h = refl
-serves-none s t d (Ack o e w) h = absurd (⊎-elim (λ e. omega arith) (λ i. ⊎-elim (λ e. omega arith) (λ e. omega arith) i) h)
+serves-none s t d (Ack o e w) h = absurd (⊎-elim (λ e. omega arith) (λ i. ⊎-elim (λ e. omega arith) (λ j. ⊎-elim (λ e. omega arith) (λ e. omega arith) j) i) h)
 serves-none s t d (Offer v n e) h = refl
-serves-none s t d (Dropped v n e) h = absurd (⊎-elim (λ e. omega arith) (λ i. ⊎-elim (λ e. omega arith) (λ e. omega arith) i) h)
+serves-none s t d (Dropped v n e) h = absurd (⊎-elim (λ e. omega arith) (λ i. ⊎-elim (λ e. omega arith) (λ j. ⊎-elim (λ e. omega arith) (λ e. omega arith) j) i) h)
+serves-none s t d (Batch v n e m) h = refl
+serves-none s t d (Cleared v n e m) h = absurd (⊎-elim (λ e. omega arith) (λ i. ⊎-elim (λ e. omega arith) (λ j. ⊎-elim (λ e. omega arith) (λ e. omega arith) j) i) h)
 
 -- ---- at the client
 
@@ -84,16 +94,22 @@ module _ (s : Setup) (t : Tables) (c : Copy) (r : Request) (d : ℕ) (k : Kind) 
   unfolding heard
   hears-offer v n e g q h = rw q h
 
--- the client ignores the kinds that are sent to the server: RENEW, ACK and DROPPED, with tags 0, 3 and 5
+  pub hears-batch : (v n e m : ℕ) (g : Received) → k ≡ Batch v n e m → g ≡ batchReceived t r d v n e m → g ≡ heard s t c r d k
+  unfolding heard
+  hears-batch v n e m g q h = rw q h
+
+-- the client ignores the kinds that are sent to the server: RENEW, ACK, DROPPED and CLEARED, with tags 0, 3, 5 and 7
 pub hears-none : (s : Setup) (t : Tables) (c : Copy) (r : Request) (d : ℕ) (k : Kind) (g : Change) → g ≡ kept
-    → (tagOf the-type k ≡ 0) ⊎ ((tagOf the-type k ≡ 3) ⊎ (tagOf the-type k ≡ 5)) → byClient g t ≡ heard s t c r d k
+    → (tagOf the-type k ≡ 0) ⊎ ((tagOf the-type k ≡ 3) ⊎ ((tagOf the-type k ≡ 5) ⊎ (tagOf the-type k ≡ 7))) → byClient g t ≡ heard s t c r d k
 unfolding heard
 hears-none s t c r d (Renew o n e w) g f h = rw f
-hears-none s t c r d (Grant o n x e w y p) g f h = absurd (⊎-elim (λ e. omega arith) (λ i. ⊎-elim (λ e. omega arith) (λ e. omega arith) i) h)
-hears-none s t c r d (Invalidate o e w) g f h = absurd (⊎-elim (λ e. omega arith) (λ i. ⊎-elim (λ e. omega arith) (λ e. omega arith) i) h)
+hears-none s t c r d (Grant o n x e w y p) g f h = absurd (⊎-elim (λ e. omega arith) (λ i. ⊎-elim (λ e. omega arith) (λ j. ⊎-elim (λ e. omega arith) (λ e. omega arith) j) i) h)
+hears-none s t c r d (Invalidate o e w) g f h = absurd (⊎-elim (λ e. omega arith) (λ i. ⊎-elim (λ e. omega arith) (λ j. ⊎-elim (λ e. omega arith) (λ e. omega arith) j) i) h)
 hears-none s t c r d (Ack o e w) g f h = rw f
-hears-none s t c r d (Offer v n e) g f h = absurd (⊎-elim (λ e. omega arith) (λ i. ⊎-elim (λ e. omega arith) (λ e. omega arith) i) h)
+hears-none s t c r d (Offer v n e) g f h = absurd (⊎-elim (λ e. omega arith) (λ i. ⊎-elim (λ e. omega arith) (λ j. ⊎-elim (λ e. omega arith) (λ e. omega arith) j) i) h)
 hears-none s t c r d (Dropped v n e) g f h = rw f
+hears-none s t c r d (Batch v n e m) g f h = absurd (⊎-elim (λ e. omega arith) (λ i. ⊎-elim (λ e. omega arith) (λ j. ⊎-elim (λ e. omega arith) (λ e. omega arith) j) i) h)
+hears-none s t c r d (Cleared v n e m) g f h = rw f
 
 -- ---- both
 
@@ -111,6 +127,8 @@ sides s t u c r d (Invalidate o e w) g h = h
 sides s t u c r d (Ack o e w) g h = ap (after (settled s (ackStaged s t d o e w) .count)) h
 sides s t u c r d (Offer v n e) g h = h
 sides s t u c r d (Dropped v n e) g h = ap (after (settled s (dropStaged s t d v n e) .count)) h
+sides s t u c r d (Batch v n e m) g h = h
+sides s t u c r d (Cleared v n e m) g h = h
 
 -- removing message m from the list gives a, receiving it at the server gives n, and receiving it at the client gives u
 pub delivers : (s : Setup) (t a u : Tables) (c : Copy) (r : Request) (i : ℕ) (m : Message) (n : Counted) (g : Change) → m ≡ messageAt (t .queue) i → a ≡ taken t i

@@ -10,6 +10,7 @@ ghost use Rattle.state_words.specs.View.{tablesOf, recordsOf};
 ghost use Rattle.step_deliver.specs.Sides.{served, heard};
 use client_cache::change;
 use client_receive::receive::Terms;
+use client_receive::receive::batch;
 use client_receive::receive::grant;
 use client_receive::receive::invalidate;
 use client_receive::receive::offer;
@@ -22,13 +23,14 @@ use protocol::setup::Setup;
 use protocol::step::Answer;
 use protocol::step::Change;
 use server_ack::receive_ack;
+use server_cleared::receive_cleared;
 use server_dropped::receive_dropped;
 use server_renew::receive::receive_renew;
 use state_words::Values;
 use state_words::Words;
 use step_verdict::Verdict;
 
-// Receives RENEW, ACK and DROPPED at the server ("then receive it"). Returns the number of writes completed.
+// Receives RENEW, ACK, DROPPED and CLEARED at the server ("then receive it"). Returns the number of writes completed.
 fn by_server(setup: Setup, words: &mut Words, values: &mut Values, client: usize, k: Kind) -> u32
     requires { ⌜ inRange setup ≡ true ⌝ }
     requires { ⌜ tablesOf (now words) (now values) .clock ≤ clockLimit ⌝ }
@@ -67,11 +69,21 @@ fn by_server(setup: Setup, words: &mut Words, values: &mut Values, client: usize
             number,
             epoch,
         } => receive_dropped(setup, words, values, client, volume as usize, number, epoch),
+        Kind::Cleared {
+            volume,
+            number,
+            epoch,
+            set,
+        } => {
+            let v = volume as usize;
+            receive_cleared(setup, words, client, v, number, epoch, set);
+            0
+        }
         _ => 0,
     }
 }
 
-// Receives GRANT, INVALIDATE and OFFER at the client ("then receive it"). Returns the change to its records.
+// Receives GRANT, INVALIDATE, OFFER and BATCH at the client ("then receive it"). Returns the change to its records.
 fn by_client(
     setup: Setup,
     words: &mut Words,
@@ -117,6 +129,12 @@ fn by_client(
             number,
             epoch,
         } => offer(words, values, r, client, volume, number, epoch),
+        Kind::Batch {
+            volume,
+            number,
+            epoch,
+            set,
+        } => batch(words, values, r, client, volume, number, epoch, set),
         _ => change::unchanged(),
     }
 }

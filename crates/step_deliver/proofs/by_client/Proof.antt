@@ -1,7 +1,7 @@
 use native.Mathlib.Omega.{arith}
 use mathlib.Core.Path.{refl}
 use Rattle.protocol.specs.Ranges.{ranges}
-use Rattle.step_deliver.proofs.Delivering.{grant-in, offer-in, hears-grant, hears-invalidate, hears-offer, hears-none}
+use Rattle.step_deliver.proofs.Delivering.{grant-in, offer-in, hears-grant, hears-invalidate, hears-offer, hears-batch, hears-none}
 use borrow.Author.Needs.{needs}
 use Rattle.step_deliver.proofs.by_client.Statement.{statement}
 use Rattle.step_deliver.proofs.by_client.Tie as tie
@@ -29,6 +29,12 @@ offer-requires c κs =
     let h = offer-in _ _ (a .pre .1 .1) _ _ _ (at-k3 .k3 .given .1) in
     (omega (arith, a .pre .1 .0), omega arith)
 
+enum-known-k-4 : tie.Need-enum-known-k-4
+enum-known-k-4 c = search needs
+
+batch-requires : tie.Need-batch-requires
+batch-requires c κs = search needs
+
 unchanged-requires : tie.Need-unchanged-requires
 unchanged-requires c κs = search needs
 
@@ -42,7 +48,10 @@ returns-3 : tie.Need-returns-3
 returns-3 c = (hears-offer _ _ _ _ _ _ _ _ _ _ (c .before .before .before .before .k3 .given .1) (c .offer .ensures .0), c .offer .ensures .1)
 
 returns-4 : tie.Need-returns-4
-returns-4 c = (hears-none _ _ _ _ _ _ _ (c .unchanged .ensures) (c .before .match .keys4), refl)
+returns-4 c = (hears-batch _ _ _ _ _ _ _ _ _ _ _ (c .before .before .before .before .k4 .given .1) (c .batch .ensures .0), c .batch .ensures .1)
+
+returns-5 : tie.Need-returns-5
+returns-5 c = (hears-none _ _ _ _ _ _ _ (c .unchanged .ensures) (c .before .match .keys5), refl)
 
 pub by-client-spec : {M : Type 1} → statement M
 by-client-spec =
@@ -54,8 +63,11 @@ by-client-spec =
     invalidate-requires
     enum-known-k-3
     offer-requires
+    enum-known-k-4
+    batch-requires
     unchanged-requires
     returns
     returns-2
     returns-3
-    returns-4)
+    returns-4
+    returns-5)

@@ -1,5 +1,5 @@
 use mathlib.Core.Path.{refl}
-use Rattle.step_deliver.proofs.Delivering.{renew-in, ack-in, dropped-in, serves-renew, serves-ack, serves-dropped, serves-none}
+use Rattle.step_deliver.proofs.Delivering.{renew-in, ack-in, dropped-in, cleared-in, serves-renew, serves-ack, serves-dropped, serves-cleared, serves-none}
 use borrow.Author.Needs.{needs}
 use Rattle.step_deliver.proofs.by_server.Statement.{statement}
 use Rattle.step_deliver.proofs.by_server.Tie as tie
@@ -40,6 +40,18 @@ receive-dropped-requires c κs =
     let a = at-k3 .before .before in
     (a .pre .0, (a .pre .1 .1 .0, (a .pre .1 .1 .1 .0, dropped-in _ _ (a .pre .1 .1 .1 .1) _ _ _ (at-k3 .k3 .given .1))))
 
+enum-known-k-4 : tie.Need-enum-known-k-4
+enum-known-k-4 c = search needs
+
+cast-v : tie.Need-cast-v
+cast-v c = search needs
+
+receive-cleared-requires : tie.Need-receive-cleared-requires
+receive-cleared-requires c κs =
+    let at-k4 = c .before .before in
+    let a = at-k4 .before .before in
+    (a .pre .0, (a .pre .1 .1 .1 .0, cleared-in _ _ (a .pre .1 .1 .1 .1) _ _ _ _ (at-k4 .k4 .given .1)))
+
 returns : tie.Need-returns
 returns c = (serves-renew _ _ _ _ _ _ _ _ _ (c .before .before .before .before .k .given .1) (c .receive-renew .ensures .0), c .receive-renew .ensures .1)
 
@@ -50,7 +62,10 @@ returns-3 : tie.Need-returns-3
 returns-3 c = (serves-dropped _ _ _ _ _ _ _ _ (c .before .before .before .before .k3 .given .1) (c .receive-dropped .ensures .0), c .receive-dropped .ensures .1)
 
 returns-4 : tie.Need-returns-4
-returns-4 c = (serves-none _ _ _ _ (c .match .keys4), refl)
+returns-4 c = (serves-cleared _ _ _ _ _ _ _ _ _ (c .before .before .before .k4 .given .1) (c .receive-cleared .ensures .0 _), c .receive-cleared .ensures .1 _)
+
+returns-5 : tie.Need-returns-5
+returns-5 c = (serves-none _ _ _ _ (c .match .keys5), refl)
 
 pub by-server-spec : {M : Type 1} → statement M
 by-server-spec =
@@ -65,7 +80,11 @@ by-server-spec =
     enum-known-k-3
     cast-receive-dropped
     receive-dropped-requires
+    enum-known-k-4
+    cast-v
+    receive-cleared-requires
     returns
     returns-2
     returns-3
-    returns-4)
+    returns-4
+    returns-5)
