@@ -177,7 +177,7 @@ abbrev G : RattleType
 G = G-.the-row
 
 abbrev Ws : RattleType
-Ws = Array u32 3018
+Ws = Array u32 3274
 
 abbrev Vs : RattleType
 Vs = Array u64 640
@@ -978,8 +978,8 @@ module _ {M : Type 1} (𝓤 : URA M) (H : Heap 𝓤) (A : Atoms 𝓤) (W : Given
           calls-at ! fm (On-sweep 𝓤 H A at-mem run)
           (known .on-sweep) (to-sweep d ν δ) (and-then ! (load ! (from ! (stop !)) (look ! 47 refl))
           (and-then ! (load ! (from ! (stop !)) (look ! 18 refl))
-          (and-then ! (load ! (from ! (fld ! {τ = C′.mir} {d = 0} refl (fld ! {τ = G′.mir} {d = 34} refl (stop !))))
-          (look-in ! 30 (sub ! 2 {τ = G′.mir} {d = 34} refl (sub ! 0 {τ = C′.mir} {d = 0} refl (whole !)))))
+          (and-then ! (load ! (from ! (fld ! {τ = C′.mir} {d = 0} refl (fld ! {τ = G′.mir} {d = 36} refl (stop !))))
+          (look-in ! 30 (sub ! 2 {τ = G′.mir} {d = 36} refl (sub ! 0 {τ = C′.mir} {d = 0} refl (whole !)))))
           (and-then ! (load ! (from ! (fld ! refl (stop !))) (look-in ! 27 (sub ! 2 refl (whole !)))) (no-more !)))))
           (λ w.
           use1 W (later (some (λ (r : Unit {0}). ((‵ (flft (ν ∷ []) fullShare) ⊛ ‵ ftrue) ⊛ ‵ (Nothing .own r (w ∷ [])))
@@ -1027,8 +1027,8 @@ module _ {M : Type 1} (𝓤 : URA M) (H : Heap 𝓤) (A : Atoms 𝓤) (W : Given
           await ! tt $ rewrite ! 0 (λ (z : List Request). ‵ (row Q fullShare z bq oq)) e₉ refl $
           move ! (1 ∷ 2 ∷ []) $ drop ! $ drop ! $
           -- the answer is returned
-          assigns ! (of-opd ! (load ! (from ! (fld ! {τ = N′.mir} {d = 40} refl (stop !)))
-          (look-in ! 29 (sub ! 1 {τ = N′.mir} {d = 40} refl (whole !))))) (from ! (stop !))
+          assigns ! (of-opd ! (load ! (from ! (fld ! {τ = N′.mir} {d = 48} refl (stop !)))
+          (look-in ! 29 (sub ! 1 {τ = N′.mir} {d = 48} refl (whole !))))) (from ! (stop !))
           (init ! 16 refl (EL.lawful N-.the-type N′.the-laws 𝓤 H A W tt .typed (d .answer) _ (in-d d is-d .1 .0) .0)) $
           move ! (3 ∷ 4 ∷ 5 ∷ 6 ∷ []) $ close-ref ! tt (mem Ws) ws′ {b = bw} {o = ow} $
           move ! (5 ∷ 6 ∷ 7 ∷ 8 ∷ []) $ close-ref ! tt (mem Vs) xs′ {b = bx} {o = ox} $
