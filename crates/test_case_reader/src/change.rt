@@ -1,4 +1,4 @@
-// Applies one change, by the number of its field: 1 to 7 the setup, 10 to 31 the tables, 40 to 50 the message list, 60 to 63 copies, 70 to 74 requests.
+// Applies one change, by the number of its field: 1 to 8 the setup, 10 to 31 the tables, 40 to 50 the message list, 60 to 63 copies, 70 to 74 requests.
 use crate::Case;
 use crate::text::byte;
 use crate::text::word;
@@ -24,6 +24,7 @@ pub fn none() -> Case {
         t: 0,
         m: 0,
         volume,
+        delay: 0,
     };
     Case {
         setup,
@@ -42,6 +43,7 @@ fn with(setup: Setup, field: u64, place: usize, number: u64) -> Setup {
         4 => setup.tv = word(number),
         5 => setup.t = word(number),
         6 => setup.m = word(number),
+        8 => setup.delay = word(number),
         _ => setup.volume[place % limits::OBJECTS] = byte(number),
     }
     setup
@@ -69,6 +71,8 @@ fn in_words(field: u64) -> usize {
         15 => server::SESSION_EXPIRY,
         16 => server::UNREACHABLE,
         17 => server::OFFER,
+        18 => server::NOTES,
+        19 => server::BATCH,
         21 => server::VERSION,
         22 => server::OBJECT_EXPIRY,
         23 => server::STANDING,
@@ -110,8 +114,8 @@ fn put(words: &mut Words, from: usize, place: usize, number: u64) {
 // Stores whether the write of an object waits for a client, unless there is no such place.
 fn put_waiting(words: &mut Words, place: usize, number: u64) {
     if place < CLIENT_OBJECTS {
-        let i = server::WAITING + place % limits::OBJECTS;
-        let client = place / limits::OBJECTS;
+        let i = server::WAITING + place % limits::SLOTS;
+        let client = place / limits::SLOTS;
         let others = sets::without(words[i], client);
         words[i] = sets::with_if(others, client, number != 0);
     }
