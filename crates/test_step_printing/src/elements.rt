@@ -1,7 +1,7 @@
 // Prints a line `name place: number` for each element of a field that a step changed. A place per client and volume, or per client and object, is two
 // numbers.
 ghost use Prim.Native.Nat.{_+_, _≤_, _<_};
-ghost use Rattle.setup.specs.Limits.{OBJECTS};
+ghost use Rattle.setup.specs.Limits.{SLOTS};
 ghost use Rattle.state_words.specs.Fields.{WORDS, VALUES};
 use crate::lines::end;
 use crate::lines::number;
@@ -28,8 +28,8 @@ fn place(row: Row, i: usize) {
             spaced((i % limits::VOLUMES) as u64);
         }
         Row::Objects => {
-            spaced((i / limits::OBJECTS) as u64);
-            spaced((i % limits::OBJECTS) as u64);
+            spaced((i / limits::SLOTS) as u64);
+            spaced((i % limits::SLOTS) as u64);
         }
     }
 }
@@ -67,12 +67,12 @@ fn member(set: u32, client: usize) -> u32
 
 // Prints the changes among the clients in the sets from `from` on, one per object.
 pub fn members(name: &[u8], from: usize, before: &Words, after: &Words)
-    requires { ⌜ from + OBJECTS ≤ WORDS ⌝ }
+    requires { ⌜ from + SLOTS ≤ WORDS ⌝ }
 {
     let mut i = 0;
     while i < CLIENT_OBJECTS {
-        let object = from + i % limits::OBJECTS;
-        let client = i / limits::OBJECTS;
+        let object = from + i % limits::SLOTS;
+        let client = i / limits::SLOTS;
         word(
             name,
             Row::Objects,
@@ -86,10 +86,10 @@ pub fn members(name: &[u8], from: usize, before: &Words, after: &Words)
 
 // Prints the changes among the values from `from` on, one per object.
 pub fn values(name: &[u8], from: usize, before: &Values, after: &Values)
-    requires { ⌜ from + OBJECTS ≤ VALUES ⌝ }
+    requires { ⌜ from + SLOTS ≤ VALUES ⌝ }
 {
     let mut i = 0;
-    while i < limits::OBJECTS {
+    while i < limits::SLOTS {
         element(name, Row::One, i, before[from + i], after[from + i]);
         i += 1;
     }

@@ -7,7 +7,7 @@ use crate::elements::words;
 use crate::lines::end;
 use crate::lines::number;
 use setup::limits::CLIENTS;
-use setup::limits::OBJECTS;
+use setup::limits::SLOTS;
 use setup::limits::VOLUMES;
 use state_words::CLIENT_OBJECTS;
 use state_words::CLIENT_VOLUMES;
@@ -67,36 +67,38 @@ pub fn volumes(before: &Words, after: &Words) {
         before,
         after,
     );
+    words(
+        b"notes",
+        Row::Volumes,
+        server::NOTES,
+        CLIENT_VOLUMES,
+        before,
+        after,
+    );
+    words(
+        b"batch",
+        Row::Volumes,
+        server::BATCH,
+        CLIENT_VOLUMES,
+        before,
+        after,
+    );
 }
 
 pub fn objects(before: &Words, values_before: &Values, after: &Words, values_after: &Values) {
     values(b"value", server::VALUE, values_before, values_after);
-    words(
-        b"version",
-        Row::One,
-        server::VERSION,
-        OBJECTS,
-        before,
-        after,
-    );
-    words(
-        b"OE",
-        Row::One,
-        server::OBJECT_EXPIRY,
-        OBJECTS,
-        before,
-        after,
-    );
+    words(b"version", Row::One, server::VERSION, SLOTS, before, after);
+    words(b"OE", Row::One, server::OBJECT_EXPIRY, SLOTS, before, after);
     words(
         b"standing",
         Row::One,
         server::STANDING,
-        OBJECTS,
+        SLOTS,
         before,
         after,
     );
     values(b"pending", server::PENDING, values_before, values_after);
-    words(b"end", Row::One, server::END, OBJECTS, before, after);
+    words(b"end", Row::One, server::END, SLOTS, before, after);
     words(
         b"object lease",
         Row::Objects,
