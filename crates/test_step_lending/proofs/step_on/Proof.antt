@@ -104,7 +104,7 @@ abbrev AQ : RattleType
 AQ = Array Q 16
 
 abbrev Ws : RattleType
-Ws = Array u32 3018
+Ws = Array u32 3274
 
 abbrev Vs : RattleType
 Vs = Array u64 640
