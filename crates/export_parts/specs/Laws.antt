@@ -43,9 +43,9 @@ module _ (l : List ℕ) (n room : ℕ) where
   records-refused s t e = rw (t, not-fitting e)
 
 -- ---- reading back; lent records are bytes, so the numbers of their steps fit their widths
-pub volumes-lent : (l : List ℕ) → length (setupLent l .volume) ≡ 32
+pub volumes-lent : (l : List ℕ) → length (setupLent l .volume) ≡ 28
 unfolding setupLent setupIn bytesAt
-volumes-lent l = cond-keeps (λ (s : Setup). length (s .volume) ≡ 32) (setupWhole l) (λ _. refl) (λ _. refl)
+volumes-lent l = cond-keeps (λ (s : Setup). length (s .volume) ≡ 28) (setupWhole l) (λ _. refl) (λ _. refl)
 
 widths : (l : List ℕ) → Bytes l → recordsWhole l ≡ true → All Widths (held (stepsLent l))
 unfolding stepsLent stepIn
