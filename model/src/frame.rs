@@ -1,7 +1,7 @@
-//! Frames of 32 bytes, little endian (01, Frame, run file and listing).
+//! Frames of 32 bytes, little endian (01, Frame, run file and listing; 02, A6).
 
 use crate::limits::{BAD_FRAME, FRAME_BYTES};
-use crate::message::{Grant, Kind, Message};
+use crate::message::{Batch, Grant, Kind, Message};
 
 /// All fields of a frame; those that a kind lacks are 0.
 #[derive(Clone, Copy, Default)]
@@ -84,6 +84,10 @@ fn fields_of(kind: &Kind) -> Fields {
         Kind::Offer { volume, number, epoch } | Kind::Dropped { volume, number, epoch } => {
             Fields { item: volume, number, epoch, ..none }
         }
+        Kind::Batch(Batch { volume, number, epoch, set })
+        | Kind::Cleared(Batch { volume, number, epoch, set }) => {
+            Fields { item: volume, number, epoch, version: set, ..none }
+        }
     }
 }
 
@@ -104,6 +108,8 @@ fn kind_of(code: u8, fields: &Fields) -> Option<Kind> {
         4 => Kind::Ack { object: item, epoch, version },
         5 => Kind::Offer { volume: item, number, epoch },
         6 => Kind::Dropped { volume: item, number, epoch },
+        7 => Kind::Batch(Batch { volume: item, number, epoch, set: version }),
+        8 => Kind::Cleared(Batch { volume: item, number, epoch, set: version }),
         _ => return None,
     })
 }

@@ -1,15 +1,19 @@
 //! The fixed sizes and limits of 01.
 
-/// The most clients, volumes and objects of a setup (01, Tables).
+/// The most clients, volumes and objects of a setup (01, Tables; 02, A6).
 pub const CLIENTS: usize = 16;
 pub const VOLUMES: usize = 8;
-pub const OBJECTS: usize = 32;
+pub const OBJECTS: usize = 28;
 
 /// The most ticks of volume lease, object lease and message timeout (01,
 /// Tables).
 pub const VOLUME_LEASE: u32 = 3_600;
 pub const OBJECT_LEASE: u32 = 1_000_000;
 pub const TIMEOUT: u32 = 60;
+
+/// The most ticks that a client with notes stays reachable after its volume
+/// lease (02, A6).
+pub const DELAY: u32 = 65_535;
 
 /// The most messages under way (01, Tables).
 pub const QUEUE: usize = 64;

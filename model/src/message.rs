@@ -7,7 +7,7 @@ pub struct Message {
     pub kind: Kind,
 }
 
-/// The six kinds, in the order of their frame numbers.
+/// The eight kinds, in the order of their frame numbers.
 #[derive(Clone, Copy, Debug, PartialEq, Eq)]
 pub enum Kind {
     /// Client to server; epoch is the known one, version the held one.
@@ -23,6 +23,20 @@ pub enum Kind {
     Offer { volume: u8, number: u32, epoch: u32 },
     /// Client to server.
     Dropped { volume: u8, number: u32, epoch: u32 },
+    /// Server to client (02, A6).
+    Batch(Batch),
+    /// Client to server; repeats the fields of the BATCH.
+    Cleared(Batch),
+}
+
+/// What a BATCH and its CLEARED hold: "number, epoch and the noted set, bit k
+/// for object k", and the volume.
+#[derive(Clone, Copy, Debug, PartialEq, Eq)]
+pub struct Batch {
+    pub volume: u8,
+    pub number: u32,
+    pub epoch: u32,
+    pub set: u32,
 }
 
 #[derive(Clone, Copy, Debug, PartialEq, Eq)]
@@ -37,7 +51,7 @@ pub struct Grant {
 }
 
 impl Kind {
-    /// Returns the kind's number in a frame, 1 to 6.
+    /// Returns the kind's number in a frame, 1 to 8.
     pub fn code(&self) -> u8 {
         match self {
             Kind::Renew { .. } => 1,
@@ -46,6 +60,8 @@ impl Kind {
             Kind::Ack { .. } => 4,
             Kind::Offer { .. } => 5,
             Kind::Dropped { .. } => 6,
+            Kind::Batch(_) => 7,
+            Kind::Cleared(_) => 8,
         }
     }
 }

@@ -67,6 +67,9 @@ impl Iterator for Steps<'_> {
 
 impl ExactSizeIterator for Steps<'_> {}
 
+/// Where d stands in a setup.
+const DELAY_PLACE: usize = 16 + OBJECTS;
+
 /// Returns the distance from the file's end back to the setup.
 pub fn distance(count: usize) -> usize {
     SETUP_BYTES + TRAILER_BYTES + STEP_BYTES * count
@@ -141,10 +144,11 @@ fn distance_back(trailer: &[u8], len: usize) -> Result<usize, Fault> {
     Ok(distance(count))
 }
 
-/// Reads a setup from its 48 bytes.
+/// Reads a setup from its 48 bytes. "In the last four volume bytes" is d (02,
+/// A6).
 pub fn read_setup(bytes: &[u8]) -> Result<Setup, Fault> {
     let mut volume_of = [0; OBJECTS];
-    volume_of.copy_from_slice(&bytes[16..SETUP_BYTES]);
+    volume_of.copy_from_slice(&bytes[16..DELAY_PLACE]);
     let setup = Setup {
         clients: bytes[0],
         volumes: bytes[1],
@@ -152,6 +156,7 @@ pub fn read_setup(bytes: &[u8]) -> Result<Setup, Fault> {
         volume_lease: word(bytes, 4),
         object_lease: word(bytes, 8),
         timeout: word(bytes, 12),
+        delay: word(bytes, DELAY_PLACE),
         volume_of,
     };
     match (bytes[3], setup.out_of_range()) {

@@ -1,7 +1,7 @@
-//! The setup of a run (01, Tables).
+//! The setup of a run (01, Tables; 02, A6).
 
 use crate::bits::below;
-use crate::limits::{BAD_SETUP, CLIENTS, OBJECTS, OBJECT_LEASE, TIMEOUT, VOLUMES, VOLUME_LEASE};
+use crate::limits::{BAD_SETUP, CLIENTS, DELAY, OBJECTS, OBJECT_LEASE, TIMEOUT, VOLUMES, VOLUME_LEASE};
 
 #[derive(Clone, Copy, Debug, PartialEq, Eq)]
 pub struct Setup {
@@ -14,6 +14,8 @@ pub struct Setup {
     pub object_lease: u32,
     /// m: how many ticks a write waits for messages, at least.
     pub timeout: u32,
+    /// d: how many ticks after its volume lease a client with notes is marked.
+    pub delay: u32,
     /// Each object's volume, 0 past the object count.
     pub volume_of: [u8; OBJECTS],
 }
@@ -26,6 +28,7 @@ pub enum Field {
     VolumeLease,
     ObjectLease,
     Timeout,
+    Delay,
     /// The volume of this object.
     VolumeOf(usize),
 }
@@ -62,6 +65,7 @@ impl Setup {
             (Field::VolumeLease, self.volume_lease, VOLUME_LEASE),
             (Field::ObjectLease, self.object_lease, OBJECT_LEASE),
             (Field::Timeout, self.timeout, TIMEOUT),
+            (Field::Delay, self.delay, DELAY),
         ];
         let out = fields.into_iter().find(|(_, found, most)| !(1..=*most).contains(found));
         match out {
@@ -96,6 +100,15 @@ impl Setup {
         below(self.objects)
     }
 
+    /// Returns the set of each volume's objects.
+    pub fn objects_by_volume(&self) -> [u32; VOLUMES] {
+        let mut sets = [0; VOLUMES];
+        for object in 0..usize::from(self.objects) {
+            sets[self.volume(object)] |= 1 << object;
+        }
+        sets
+    }
+
     /// Returns the place of a copy in the lent list: client by client, in
     /// object order (01, Tables).
     #[inline]
@@ -120,6 +133,7 @@ mod tests {
         volume_lease: 1,
         object_lease: 1,
         timeout: 1,
+        delay: 1,
         volume_of: [0; OBJECTS],
     };
 
@@ -133,8 +147,9 @@ mod tests {
     fn both_ends_of_each_range() {
         assert_eq!(check(|_| ()), Ok(()));
         let largest = |s: &mut Setup| {
-            (s.clients, s.volumes, s.objects) = (16, 8, 32);
-            (s.volume_lease, s.object_lease, s.timeout) = (3_600, 1_000_000, 60);
+            (s.clients, s.volumes, s.objects) = (16, 8, 28);
+            (s.volume_lease, s.object_lease) = (3_600, 1_000_000);
+            (s.timeout, s.delay) = (60, 65_535);
             s.volume_of = [7; OBJECTS];
         };
         assert_eq!(check(largest), Ok(()));
@@ -142,19 +157,22 @@ mod tests {
 
     #[test]
     fn one_past_each_end_is_refused() {
-        let changes: [fn(&mut Setup); 14] = [
+        let changes: [fn(&mut Setup); 17] = [
             |s| s.clients = 0,
             |s| s.clients = 17,
             |s| s.volumes = 0,
             |s| s.volumes = 9,
             |s| s.objects = 0,
-            |s| s.objects = 33,
+            |s| s.objects = 29,
             |s| s.volume_lease = 0,
             |s| s.volume_lease = 3_601,
             |s| s.object_lease = 0,
             |s| s.object_lease = 1_000_001,
             |s| s.timeout = 0,
             |s| s.timeout = 61,
+            |s| s.delay = 0,
+            |s| s.delay = 65_536,
+            |s| s.delay = u32::MAX,
             |s| s.volume_of[0] = 1,
             |s| (s.volumes, s.volume_of[1]) = (2, 1),
         ];

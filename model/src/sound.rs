@@ -1,4 +1,4 @@
-//! Question 1: are setup and tables sound (01, Questions at the gate)?
+//! Question 1: are setup and tables sound (01, Questions at the gate; 02, A6)?
 //!
 //! It asks about what exists: items below the counts, and messages below the
 //! list's length. Slots past them are free. The scans do not stop early, so
@@ -6,23 +6,28 @@
 
 use crate::bits::members;
 use crate::copies::ObjectCopy;
-use crate::limits::{CLOCK_MAX, EXPIRY_MAX, QUEUE};
-use crate::message::{Kind, Message};
+use crate::limits::{CLIENTS, CLOCK_MAX, EXPIRY_MAX, QUEUE, VOLUMES};
+use crate::message::{Batch, Kind, Message};
 use crate::requests::Request;
 use crate::setup::Setup;
 use crate::tables::{ClientVolumes, Server, Tables};
 
 pub fn sound(setup: &Setup, tables: &Tables, copies: &[ObjectCopy], requests: &[Request]) -> bool {
-    setup.in_range()
-        && copies.len() == setup.copy_count()
+    setup.in_range() && tables_sound(setup, tables, copies, requests)
+}
+
+fn tables_sound(setup: &Setup, tables: &Tables, copies: &[ObjectCopy], requests: &[Request]) -> bool {
+    let objects_of = setup.objects_by_volume();
+    copies.len() == setup.copy_count()
         && requests.len() == setup.clients as usize
         && tables.clock <= CLOCK_MAX
         && tables.queue.len <= QUEUE
         && server_sound(setup, &tables.server)
+        && notes_sound(setup, &tables.server.notes, &objects_of)
         && clients_sound(setup, &tables.clients)
         && copies_sound(copies)
         && requests.iter().all(|request| request_sound(setup, request))
-        && tables.queue.messages().iter().all(|message| message_sound(setup, message))
+        && tables.queue.messages().iter().all(|message| message_sound(setup, message, &objects_of))
 }
 
 fn server_sound(setup: &Setup, server: &Server) -> bool {
@@ -45,6 +50,18 @@ fn writes_sound(setup: &Setup, server: &Server) -> bool {
         .all(|object| server.write[object].latest_end <= EXPIRY_MAX && server.version[object] < u32::MAX)
 }
 
+/// "A set bit that is no object of its volume makes tables unsound."
+fn notes_sound(setup: &Setup, notes: &[[u32; CLIENTS]; VOLUMES], objects_of: &[u32; VOLUMES]) -> bool {
+    let asked: [u32; CLIENTS] = mask(setup.clients.into());
+    let mut bad = 0;
+    for (row, objects) in notes[..setup.volumes.into()].iter().zip(objects_of) {
+        for (set, asked) in row.iter().zip(&asked) {
+            bad |= set & asked & !objects;
+        }
+    }
+    bad == 0
+}
+
 fn clients_sound(setup: &Setup, clients: &ClientVolumes) -> bool {
     rows_in_bound(&clients.expiry[..setup.clients as usize], setup.volumes as usize)
 }
@@ -57,7 +74,7 @@ fn request_sound(setup: &Setup, request: &Request) -> bool {
     request.next >= 1 && request.standing.is_none_or(|standing| standing.object < setup.objects)
 }
 
-fn message_sound(setup: &Setup, message: &Message) -> bool {
+fn message_sound(setup: &Setup, message: &Message, objects_of: &[u32; VOLUMES]) -> bool {
     message.client < setup.clients
         && match message.kind {
             Kind::Renew { object, .. } | Kind::Invalidate { object, .. } | Kind::Ack { object, .. } => {
@@ -69,6 +86,10 @@ fn message_sound(setup: &Setup, message: &Message) -> bool {
                     && grant.object_expiry <= EXPIRY_MAX
             }
             Kind::Offer { volume, .. } | Kind::Dropped { volume, .. } => volume < setup.volumes,
+            // "In messages too."
+            Kind::Batch(Batch { volume, set, .. }) | Kind::Cleared(Batch { volume, set, .. }) => {
+                volume < setup.volumes && set & !objects_of[usize::from(volume)] == 0
+            }
         }
 }
 
@@ -83,8 +104,7 @@ fn in_bound(values: &[u32]) -> bool {
 /// Scans whole rows of fixed width, with a mask for the slots asked about: a
 /// loop of fixed length needs no remainder.
 fn rows_in_bound<const N: usize>(rows: &[[u32; N]], width: usize) -> bool {
-    let mut asked = [0; N];
-    asked[..width].fill(u32::MAX);
+    let asked: [u32; N] = mask(width);
     let mut bad = 0;
     for row in rows {
         for (value, asked) in row.iter().zip(&asked) {
@@ -92,4 +112,11 @@ fn rows_in_bound<const N: usize>(rows: &[[u32; N]], width: usize) -> bool {
         }
     }
     bad == 0
+}
+
+/// Returns a row with all bits in the first `width` slots.
+fn mask<const N: usize>(width: usize) -> [u32; N] {
+    let mut mask = [0; N];
+    mask[..width].fill(u32::MAX);
+    mask
 }

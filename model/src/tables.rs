@@ -28,6 +28,10 @@ pub struct Server {
     pub offer: [[u32; CLIENTS]; VOLUMES],
     /// Per volume, a set of clients.
     pub unreachable: [u16; VOLUMES],
+    /// Per volume and client: the set of objects noted for it, and the number
+    /// of the batch last sent, 0 if there is none (02, A6).
+    pub notes: [[u32; CLIENTS]; VOLUMES],
+    pub batch: [[u32; CLIENTS]; VOLUMES],
     /// Per object.
     pub value: [u64; OBJECTS],
     pub version: [u32; OBJECTS],
@@ -79,6 +83,8 @@ impl Server {
             volume_expiry: [[0; CLIENTS]; VOLUMES],
             offer: [[0; CLIENTS]; VOLUMES],
             unreachable: [0; VOLUMES],
+            notes: [[0; CLIENTS]; VOLUMES],
+            batch: [[0; CLIENTS]; VOLUMES],
             value: [0; OBJECTS],
             version: [1; OBJECTS],
             object_latest: [0; OBJECTS],

@@ -23,6 +23,7 @@ pub fn setup_bytes(setup: &Setup) -> Vec<u8> {
         bytes.extend_from_slice(&ticks.to_le_bytes());
     }
     bytes.extend_from_slice(&setup.volume_of);
+    bytes.extend_from_slice(&setup.delay.to_le_bytes());
     bytes
 }
 

@@ -32,7 +32,8 @@ fn file() -> Vec<u8> {
         volume_lease: 10,
         object_lease: 100,
         timeout: 3,
-        volume_of: [0; 32],
+        delay: 1,
+        volume_of: [0; 28],
     };
     let (read, ask, deliver) = (Step::read(0, 0), Step::ask(0, 0), Step::deliver(0));
     let opening = [read, ask, deliver, deliver, deliver, ask, deliver, deliver];

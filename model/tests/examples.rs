@@ -1,8 +1,12 @@
 //! The stored examples, and the line of each that a mistake would change.
 
+#[path = "common/before_a6.rs"]
+mod before_a6;
+
 use std::fs;
 use std::path::Path;
 
+use before_a6::with_delay;
 use model::examples::all;
 use model::listing::{listing, listing_with};
 use model::mistakes::Mistakes;
@@ -12,10 +16,22 @@ fn stored(name: &str) -> Vec<u8> {
     fs::read(folder.join(name)).unwrap_or_else(|error| panic!("{name}: {error}"))
 }
 
+fn run(name: &str) -> Vec<u8> {
+    with_delay(stored(&format!("{name}.run")))
+}
+
+#[test]
+fn a_file_without_a_delay_is_refused() {
+    for example in all() {
+        let old = stored(&format!("{}.run", example.name));
+        assert_eq!(listing(&old), b"step answer value\n0 4 9\n", "{}", example.name);
+    }
+}
+
 #[test]
 fn stored_files_and_listings_are_the_models() {
     for example in all() {
-        let file = stored(&format!("{}.run", example.name));
+        let file = run(example.name);
         assert_eq!(file, example.run.file(), "{}", example.name);
         assert_eq!(stored(&format!("{}.listing", example.name)), listing(&file), "{}", example.name);
     }
@@ -23,7 +39,7 @@ fn stored_files_and_listings_are_the_models() {
 
 /// Returns the lines, right and mistaken, in which the listings differ.
 fn differences(name: &str, mistakes: Mistakes) -> Vec<(String, String)> {
-    let file = stored(&format!("{name}.run"));
+    let file = run(name);
     let honest = String::from_utf8(stored(&format!("{name}.listing"))).unwrap();
     let wrong = String::from_utf8(listing_with(mistakes, &file)).unwrap();
     let pairs = honest.lines().zip(wrong.lines()).filter(|(honest, wrong)| honest != wrong);

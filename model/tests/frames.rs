@@ -1,7 +1,7 @@
 //! Frames worked out by hand from 01's field list, and every refusal 8.
 
 use model::frame::{decode, encode};
-use model::message::{Grant, Kind, Message};
+use model::message::{Batch, Grant, Kind, Message};
 
 type Frame = [u8; 32];
 
@@ -32,6 +32,11 @@ fn vectors() -> Vec<(Message, Frame)> {
          [5, 1, 7, 0, 2, 1, 0, 0, 0, 0, 0, 0, 3, 0, 0, 0, 0, 0, 0, 0, 0, 0, 0, 0, 0, 0, 0, 0, 0, 0, 0, 0]),
         (of(2, Kind::Dropped { volume: 8, number: 1, epoch: u32::MAX }),
          [6, 2, 8, 0, 1, 0, 0, 0, 0, 0, 0, 0, 255, 255, 255, 255, 0, 0, 0, 0, 0, 0, 0, 0, 0, 0, 0, 0, 0, 0, 0, 0]),
+        (of(4, Kind::Batch(Batch { volume: 7, number: 259, epoch: 2, set: 0x0800_0003 })),
+         [7, 4, 7, 0, 3, 1, 0, 0, 0, 0, 0, 0, 2, 0, 0, 0, 3, 0, 0, 8, 0, 0, 0, 0, 0, 0, 0, 0, 0, 0, 0, 0]),
+        (of(255, Kind::Cleared(Batch { volume: 255, number: 1, epoch: u32::MAX, set: u32::MAX })),
+         [8, 255, 255, 0, 1, 0, 0, 0, 0, 0, 0, 0, 255, 255, 255, 255, 255, 255, 255, 255,
+          0, 0, 0, 0, 0, 0, 0, 0, 0, 0, 0, 0]),
     ]
 }
 
@@ -68,7 +73,7 @@ fn another_length_is_refused() {
 #[test]
 fn another_kind_is_refused() {
     for (_, frame) in vectors() {
-        for kind in (0..=255).filter(|kind| !(1..=6).contains(kind)) {
+        for kind in (0..=255).filter(|kind| !(1..=8).contains(kind)) {
             let mut frame = frame;
             frame[0] = kind;
             assert_eq!(decode(&frame), Err(8), "kind {kind}");
@@ -76,14 +81,14 @@ fn another_kind_is_refused() {
     }
 }
 
-/// Returns whether a kind has this byte of a frame, from 01's list.
+/// Returns whether a kind has this byte of a frame, from 01's list and A6.
 fn has(kind: u8, place: usize) -> bool {
     match place {
         0..=2 => true,
         3 | 8..=11 | 20..=31 => kind == 2,
-        4..=7 => [1, 2, 5, 6].contains(&kind),
+        4..=7 => [1, 2, 5, 6, 7, 8].contains(&kind),
         12..=15 => true,
-        16..=19 => (1..=4).contains(&kind),
+        16..=19 => [1, 2, 3, 4, 7, 8].contains(&kind),
         _ => unreachable!(),
     }
 }

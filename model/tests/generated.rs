@@ -50,7 +50,7 @@ fn reads_show_the_posted_value_and_writes_end_in_time() {
                 (READ, Answer::Shown(value)) => {
                     assert_eq!(value, server.value[record.object as usize])
                 }
-                (CLOCK, _) => (0..32).for_each(|object| {
+                (CLOCK, _) => (0..28).for_each(|object| {
                     assert!(!server.stands(object) || server.write[object].latest_end >= record.clock);
                 }),
                 (WRITE, _) => accepted += 1,
@@ -86,7 +86,7 @@ fn runs_reach_every_answer_refusal_and_kind() {
         notes.insert(run.note.len().min(3));
     }
     assert!(lines.into_iter().eq([(0, 0), (1, 0), (2, 0), (3, 0), (4, 2), (4, 3), (4, 4), (4, 5)]));
-    assert!(kinds.into_iter().eq(1..=6));
+    assert!(kinds.into_iter().eq(1..=8));
     assert_eq!((longest, fullest), (4_000, 64));
     assert!(notes.contains(&0) && notes.contains(&1));
 }

@@ -70,7 +70,7 @@ fn trailer_fields_must_agree() {
 fn setup_must_be_in_range() {
     let file = write(&[], &common::setup(), &[]);
     for (place, byte) in
-        [(0, 0), (0, 17), (1, 9), (2, 33), (3, 1), (4, 0), (11, 1), (12, 61), (17, 2), (20, 1)]
+        [(0, 0), (0, 17), (1, 9), (2, 29), (3, 1), (4, 0), (11, 1), (12, 61), (17, 2), (20, 1)]
     {
         let mut file = file.clone();
         file[place] = byte;
@@ -122,10 +122,12 @@ fn the_field_out_of_range_is_told_with_its_range() {
     for (place, byte, field, range) in [
         (0, 17, Field::Clients, (17, 1, 16)),
         (1, 0, Field::Volumes, (0, 1, 8)),
-        (2, 33, Field::Objects, (33, 1, 32)),
+        (2, 29, Field::Objects, (29, 1, 28)),
         (5, 16, Field::VolumeLease, (4_106, 1, 3_600)),
         (11, 1, Field::ObjectLease, (16_777_316, 1, 1_000_000)),
         (12, 61, Field::Timeout, (61, 1, 60)),
+        (44, 0, Field::Delay, (0, 1, 65_535)),
+        (46, 1, Field::Delay, (65_541, 1, 65_535)),
         (17, 2, Field::VolumeOf(1), (2, 0, 1)),
         (20, 1, Field::VolumeOf(4), (1, 0, 0)),
     ] {

@@ -4,7 +4,7 @@ mod common;
 
 use common::Bench;
 use model::answer::Answer;
-use model::message::{Grant, Kind, Message};
+use model::message::{Batch, Grant, Kind, Message};
 use model::requests::Standing;
 use model::step_call::step;
 use model::step_record::Step;
@@ -16,6 +16,11 @@ type Change = fn(&mut Bench);
 
 fn grant(object: u8, volume_expiry: u32, object_expiry: u32) -> Kind {
     Kind::Grant(Grant { object, number: 1, volume_expiry, epoch: 1, version: 1, object_expiry, value: None })
+}
+
+/// Objects 0, 1 and 3 are in volume 0, and 2 in volume 1.
+fn batch(volume: u8, set: u32) -> Batch {
+    Batch { volume, number: 1, epoch: 1, set }
 }
 
 fn put(bench: &mut Bench, client: u8, kind: Kind) {
@@ -52,6 +57,8 @@ fn unsound() {
     let changes: &[Change] = &[
         |b| b.setup.clients = 0,
         |b| b.setup.timeout = 0,
+        |b| b.setup.delay = 0,
+        |b| b.setup.delay = 65_536,
         |b| b.setup.volume_of[1] = 2,
         |b| b.setup.volume_of[4] = 1,
         |b| put(b, 3, Kind::Ack { object: 0, epoch: 1, version: 1 }),
@@ -61,6 +68,18 @@ fn unsound() {
         |b| put(b, 0, Kind::Ack { object: 255, epoch: 1, version: 1 }),
         |b| put(b, 0, Kind::Offer { volume: 2, number: 1, epoch: 1 }),
         |b| put(b, 0, Kind::Dropped { volume: 2, number: 1, epoch: 1 }),
+        |b| put(b, 0, Kind::Batch(batch(2, 0))),
+        |b| put(b, 0, Kind::Cleared(batch(2, 0))),
+        |b| put(b, 3, Kind::Batch(batch(0, 0))),
+        |b| put(b, 0, Kind::Batch(batch(0, 1 << 2))),
+        |b| put(b, 0, Kind::Batch(batch(0, 1 << 4 | 1))),
+        |b| put(b, 0, Kind::Batch(batch(1, 1 << 31))),
+        |b| put(b, 0, Kind::Cleared(batch(1, 1 << 2 | 1))),
+        |b| put(b, 0, Kind::Cleared(batch(0, 1 << 28))),
+        |b| b.state.tables.server.notes[0][0] = 1 << 2,
+        |b| b.state.tables.server.notes[0][2] = 1 << 4,
+        |b| b.state.tables.server.notes[1][1] = 1 << 2 | 1,
+        |b| b.state.tables.server.notes[1][2] = 1 << 31,
         |b| put(b, 0, grant(0, PAST, 0)),
         |b| put(b, 0, grant(0, 0, PAST)),
         |b| b.state.parts(&common::setup()).2[2].standing = Some(Standing { number: 1, object: 4 }),
@@ -92,6 +111,13 @@ fn sound() {
         |b| put(b, 0, Kind::Renew { object: 3, number: 0, epoch: u32::MAX, version: 0 }),
         |b| put(b, 0, grant(3, MOST, MOST)),
         |b| put(b, 0, Kind::Offer { volume: 1, number: u32::MAX, epoch: 0 }),
+        |b| put(b, 0, Kind::Batch(Batch { number: 0, epoch: 0, ..batch(0, 0) })),
+        |b| put(b, 0, Kind::Batch(batch(0, 0b1011))),
+        |b| put(b, 2, Kind::Cleared(Batch { number: u32::MAX, epoch: u32::MAX, ..batch(1, 0b0100) })),
+        |b| b.state.tables.server.notes[0][2] = 0b1011,
+        |b| b.state.tables.server.notes[1][0] = 0b0100,
+        |b| b.state.tables.server.batch[1][2] = u32::MAX,
+        |b| (b.setup.delay, b.state.tables.server.volume_expiry[0][0]) = (65_535, MOST),
         |b| b.state.parts(&common::setup()).2[2].standing = Some(Standing { number: 0, object: 3 }),
         |b| b.state.parts(&common::setup()).2[2].next = u32::MAX,
         |b| b.state.tables.queue.len = 64,
@@ -125,6 +151,8 @@ fn slots_past_the_counts_are_free() {
         |b| b.state.tables.server.guard[2] = u32::MAX,
         |b| b.state.tables.server.volume_latest[2] = u32::MAX,
         |b| b.state.tables.server.object_latest[4] = u32::MAX,
+        |b| b.state.tables.server.notes[0][3] = u32::MAX,
+        |b| b.state.tables.server.notes[2][0] = u32::MAX,
         |b| b.state.tables.server.volume_expiry[0][3] = u32::MAX,
         |b| b.state.tables.server.volume_expiry[2][0] = u32::MAX,
         |b| b.state.tables.server.object_expiry[0][3] = u32::MAX,

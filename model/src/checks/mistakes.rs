@@ -173,7 +173,7 @@ list! {
         // A row of the message list that is in use but is no message. Only
         // tables that are handed over have one.
         row_of_kind_0,
-        row_of_kind_above_6,
+        row_of_kind_above_8,
         row_kind_low_byte,
         row_client_low_byte,
         row_object_low_byte,

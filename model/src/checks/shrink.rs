@@ -1,5 +1,6 @@
 //! Makes a failing file smaller while it still fails.
 
+use crate::limits::OBJECTS;
 use crate::runfile::{distance, read};
 use crate::setup::Setup;
 use crate::step_record::Step;
@@ -135,13 +136,14 @@ fn simpler_steps(mut steps: Vec<Step>, mut still: impl FnMut(&[Step]) -> bool) -
 
 /// Tries fewer clients, volumes and objects, and 01's ticks.
 fn simpler_setup(mut setup: Setup, mut still: impl FnMut(&Setup) -> bool) -> Setup {
-    let changes: [fn(&mut Setup); 6] = [
+    let changes: [fn(&mut Setup); 7] = [
         |setup| setup.clients -= 1,
         |setup| setup.volumes -= 1,
         one_object_less,
-        |setup| setup.volume_of = [0; 32],
+        |setup| setup.volume_of = [0; OBJECTS],
         |setup| (setup.volume_lease, setup.object_lease) = (10, 100),
         |setup| setup.timeout = 3,
+        |setup| setup.delay = 1,
     ];
     for change in changes {
         loop {

@@ -63,11 +63,13 @@ impl Ending {
 
 impl World<'_> {
     /// Returns whether the state meets 02's premises, except that it is
-    /// reachable.
+    /// reachable. "The wait of A1 excludes dashes with notes" in the volume
+    /// (A6).
     pub fn until_shown_premises(&self, client: u8, object: u8) -> bool {
         let volume = self.setup.volume(object.into());
         self.tables.queue.len == 0
             && !self.write_stands_in(volume)
+            && self.tables.server.notes[volume][usize::from(client)] == 0
             && self.requests[usize::from(client)].next <= LAST_NEXT
     }
 

@@ -1,9 +1,10 @@
-//! The client's steps, and INVALIDATE and OFFER (01, Steps 2, 3 and 9; Messages
-//! received).
+//! The client's steps, and INVALIDATE, OFFER and BATCH (01, Steps 2, 3 and 9;
+//! Messages received; 02, A6).
 
 use crate::answer::Answer;
+use crate::bits::members;
 use crate::copies::ObjectCopy;
-use crate::message::Kind;
+use crate::message::{Batch, Kind};
 use crate::rules::NetworkRules;
 use crate::tables::alive;
 use crate::world::World;
@@ -81,6 +82,30 @@ pub trait ClientRules: NetworkRules {
             if world.setup.volume(object) == volume {
                 world.copy_mut(client, object).expiry = 0;
             }
+        }
+    }
+
+    /// BATCH: "with that number standing the dash erases those copies, ends the
+    /// request and sends CLEARED", else nothing.
+    fn receive_batch(&self, world: &mut World, client: usize, batch: &Batch) {
+        if world.requests[client].waits_for(batch.number) {
+            self.obey_batch(world, client, batch);
+        }
+    }
+
+    /// "The dash erases those copies, ends the request and sends CLEARED (kind
+    /// 8) with number, epoch and set." It learns no epoch: the RENEW had this
+    /// one.
+    fn obey_batch(&self, world: &mut World, client: usize, batch: &Batch) {
+        self.erase(world, client, batch.set);
+        world.requests[client].end();
+        self.send(world, client, Kind::Cleared(*batch));
+    }
+
+    /// "Erases those copies": version, value and expiry, as at an INVALIDATE.
+    fn erase(&self, world: &mut World, client: usize, set: u32) {
+        for object in members(set) {
+            *world.copy_mut(client, object) = ObjectCopy::NONE;
         }
     }
 }

@@ -1,4 +1,4 @@
-//! The rules of document 01, with A3 and A4 of document 02: a trait for each
+//! The rules of document 01, with A3, A4 and A6 of document 02: a trait for each
 //! part of the papers, a method for each rule, in the papers' words. A mistake
 //! overrides a method (`mistakes`). The rules are a type, so calling one costs
 //! no more than calling a plain function.
@@ -8,6 +8,7 @@ mod gate;
 mod grant;
 mod latest_end;
 mod network;
+mod notes;
 mod server;
 mod writes;
 
@@ -16,6 +17,7 @@ pub use gate::{is_known, Gate};
 pub use grant::GrantRules;
 pub use latest_end::LatestEnd;
 pub use network::NetworkRules;
+pub use notes::NoteRules;
 pub use server::{waited_in, Renew, ServerRules};
 pub use writes::{alive_set, WriteRules};
 
@@ -82,6 +84,8 @@ pub trait Rules: Gate + ClientRules + GrantRules + ServerRules {
             Kind::Offer { volume, number, epoch } => {
                 self.receive_offer(world, client, volume, number, epoch);
             }
+            Kind::Batch(batch) => self.receive_batch(world, client, &batch),
+            Kind::Cleared(cleared) => self.receive_cleared(world, client, &cleared),
         }
         0
     }
@@ -96,6 +100,7 @@ impl NetworkRules for Papers {}
 impl ClientRules for Papers {}
 impl GrantRules for Papers {}
 impl LatestEnd for Papers {}
+impl NoteRules for Papers {}
 impl WriteRules for Papers {}
 impl ServerRules for Papers {}
 impl Rules for Papers {}

@@ -1,4 +1,5 @@
-//! The server's messages and its restart (01, Messages received; Steps 8).
+//! The server's messages and its restart (01, Messages received; Steps 8; for
+//! CLEARED see `notes`).
 
 use crate::bits::members;
 use crate::message::{Grant, Kind};
@@ -30,11 +31,14 @@ pub trait ServerRules: WriteRules {
 
     /// "Epoch differs or dash unreachable: [..] send OFFER. Dash waited for in
     /// this volume: resend INVALIDATE for its lowest such object. This object
-    /// has a standing write: nothing. Else [..] send GRANT."
+    /// has a standing write: nothing. Else [..] send GRANT." BATCH comes "after
+    /// the epoch rule" (02, A6).
     fn answer_renew(&self, world: &mut World, renew: &Renew) {
         let volume = world.setup.volume(renew.object);
         if self.must_offer(world, renew) {
             self.offer(world, renew.client, volume, renew.number);
+        } else if self.must_batch(world, renew.client, renew.object) {
+            self.send_batch(world, renew.client, volume, renew.number);
         } else if let Some(waited) = self.lowest_waited(world, renew.client, volume) {
             self.send_invalidate(world, renew.client, waited);
         } else if !world.tables.server.stands(renew.object) {
@@ -52,8 +56,8 @@ pub trait ServerRules: WriteRules {
 
     /// "Mark unreachable, offer number := number, send OFFER."
     fn offer(&self, world: &mut World, client: usize, volume: usize, number: u32) {
+        self.mark(world, volume, 1 << client);
         let server = &mut world.tables.server;
-        server.unreachable[volume] |= 1 << client;
         server.offer[volume][client] = number;
         let epoch = server.epoch[volume];
         self.send(world, client, Kind::Offer { volume: volume as u8, number, epoch });
@@ -166,7 +170,7 @@ pub trait ServerRules: WriteRules {
     /// "Restart server: values, versions, VE remain; every epoch grows by 1;
     /// guard becomes VE; its other fields become fresh. Messages remain." The
     /// guard holds completions back until every lease given before the restart
-    /// has run out.
+    /// has run out. "A server restart loses notes", and so the batches.
     fn restart_server(&self, world: &mut World) {
         let old = world.tables.server;
         let server = &mut world.tables.server;

@@ -98,14 +98,13 @@ impl Ledger {
 
 /// Returns the latest end of a write accepted now (02, A3): the greatest of
 /// clock + m, guard and, over the clients waited for, the lesser of the two
-/// leases.
+/// leases. Since A6 these are the clients with both leases alive.
 pub fn latest_end(setup: &Setup, tables: &Tables, object: usize) -> u32 {
     let (volume, server) = (setup.volume(object), &tables.server);
     let ends = members(setup.all_clients().into()).map(|client| {
         let by_volume = server.volume_expiry[volume][client];
         let by_object = server.object_expiry[object][client];
-        let counts = server.unreachable[volume] >> client & 1 == 0 || alive(by_volume, tables.clock);
-        if alive(by_object, tables.clock) && counts {
+        if alive(by_object, tables.clock) && alive(by_volume, tables.clock) {
             by_volume.min(by_object)
         } else {
             0

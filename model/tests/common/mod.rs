@@ -11,9 +11,10 @@ use model::step_record::Step;
 /// Returns a setup of three clients, two volumes and four objects: 0, 1, 3 in
 /// volume 0, and 2 in volume 1.
 pub fn setup() -> Setup {
-    let mut volume_of = [0; 32];
+    let mut volume_of = [0; 28];
     volume_of[2] = 1;
-    Setup { clients: 3, volumes: 2, objects: 4, volume_lease: 10, object_lease: 100, timeout: 3, volume_of }
+    let (volume_lease, object_lease, timeout, delay) = (10, 100, 3, 5);
+    Setup { clients: 3, volumes: 2, objects: 4, volume_lease, object_lease, timeout, delay, volume_of }
 }
 
 pub struct Bench {

@@ -32,7 +32,7 @@ fn answers(setup: Setup, seeds: std::ops::Range<u32>) -> BTreeMap<(u8, u8, u64),
 /// a place past the list is refused.
 #[test]
 fn no_lease_is_given() {
-    for setup in [sized(1, 1, 1), sized(2, 1, 2), sized(3, 1, 4), sized(16, 1, 32)] {
+    for setup in [sized(1, 1, 1), sized(2, 1, 2), sized(3, 1, 4), sized(16, 1, 28)] {
         let answers = answers(setup, 0..20);
         println!("{answers:?}");
         let others = |kind, answer, value| match kind {

@@ -10,12 +10,12 @@ use crate::tables::Server;
 impl CaseTables {
     pub fn change(&mut self, field: u64, place: usize, value: u64) {
         match field {
-            1..=7 => {
+            1..=8 => {
                 change_setup(&mut self.setup, field, place, value);
                 self.lend_all();
             }
             10 => self.tables.clock = word(value),
-            11..=17 => change_volumes(&mut self.tables.server, field, place, value),
+            11..=19 => change_volumes(&mut self.tables.server, field, place, value),
             20..=27 => change_objects(&mut self.tables.server, field, place, value),
             30 => self.tables.clients.epoch[place / 8][place % 8] = word(value),
             31 => self.tables.clients.expiry[place / 8][place % 8] = word(value),
@@ -49,7 +49,8 @@ fn change_setup(setup: &mut Setup, field: u64, place: usize, value: u64) {
         4 => setup.volume_lease = word(value),
         5 => setup.object_lease = word(value),
         6 => setup.timeout = word(value),
-        _ => setup.volume_of[place] = byte(value),
+        7 => setup.volume_of[place] = byte(value),
+        _ => setup.delay = word(value),
     }
 }
 
@@ -62,7 +63,9 @@ fn change_volumes(server: &mut Server, field: u64, place: usize, value: u64) {
         14 => server.seen[place] = word(value),
         15 => server.volume_expiry[volume][client] = word(value),
         16 => server.unreachable[volume] = with_bit(server.unreachable[volume].into(), client, value) as u16,
-        _ => server.offer[volume][client] = word(value),
+        17 => server.offer[volume][client] = word(value),
+        18 => server.notes[volume][client] = word(value),
+        _ => server.batch[volume][client] = word(value),
     }
 }
 

@@ -36,6 +36,8 @@ fn by_volume(lines: &mut Vec<String>, both: Both<Server>) {
         server.unreachable[volume] >> client & 1
     });
     by_client(lines, both, "offer", VOLUMES, |server, client, volume| server.offer[volume][client]);
+    by_client(lines, both, "notes", VOLUMES, |server, client, volume| server.notes[volume][client]);
+    by_client(lines, both, "batch", VOLUMES, |server, client, volume| server.batch[volume][client]);
 }
 
 fn by_object(lines: &mut Vec<String>, both: Both<Server>) {

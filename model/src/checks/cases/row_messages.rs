@@ -2,7 +2,7 @@
 //! that is no message?").
 
 use crate::cases::rows::{Row, KIND, NUMBER, OBJECT_EXPIRY, PRESENT, VALUE, VERSION, VOLUME_EXPIRY};
-use crate::message::{Grant, Kind, Message};
+use crate::message::{Batch, Grant, Kind, Message};
 
 const RENEW: u64 = 1;
 const GRANT: u64 = 2;
@@ -10,14 +10,16 @@ const INVALIDATE: u64 = 3;
 const ACK: u64 = 4;
 const OFFER: u64 = 5;
 const DROPPED: u64 = 6;
+const BATCH: u64 = 7;
+const CLEARED: u64 = 8;
 
 /// The fields that not every kind has, and the kinds that have them
-/// (01, Frame, run file and listing).
+/// (01, Frame, run file and listing; 02, A6).
 const FIELDS_OF_SOME: [(usize, &[u64]); 6] = [
     (PRESENT, &[GRANT]),
-    (NUMBER, &[RENEW, GRANT, OFFER, DROPPED]),
+    (NUMBER, &[RENEW, GRANT, OFFER, DROPPED, BATCH, CLEARED]),
     (VOLUME_EXPIRY, &[GRANT]),
-    (VERSION, &[RENEW, GRANT, INVALIDATE, ACK]),
+    (VERSION, &[RENEW, GRANT, INVALIDATE, ACK, BATCH, CLEARED]),
     (OBJECT_EXPIRY, &[GRANT]),
     (VALUE, &[GRANT]),
 ];
@@ -36,9 +38,9 @@ impl Row {
         self.fields[..=PRESENT].iter().all(|&word| word <= 255)
     }
 
-    /// Returns whether the kind is 1 to 6.
+    /// Returns whether the kind is 1 to 8.
     fn is_of_known_kind(&self) -> bool {
-        (RENEW..=DROPPED).contains(&self.fields[KIND])
+        (RENEW..=CLEARED).contains(&self.fields[KIND])
     }
 
     /// Returns whether a field that the kind lacks is not 0.
@@ -85,6 +87,8 @@ impl Row {
             ACK => Kind::Ack { object: item, epoch, version },
             OFFER => Kind::Offer { volume: item, number, epoch },
             DROPPED => Kind::Dropped { volume: item, number, epoch },
+            BATCH => Kind::Batch(Batch { volume: item, number, epoch, set: version }),
+            CLEARED => Kind::Cleared(Batch { volume: item, number, epoch, set: version }),
             _ => unreachable!("message kind {kind}"),
         };
         Message { client: client as u8, kind }
@@ -131,8 +135,8 @@ mod tests {
     fn a_message_is_the_message_of_its_row() {
         let messages: Vec<_> = rows().filter_map(|row| row.message()).collect();
         let kinds: Vec<_> =
-            (1..=6).filter(|&kind| messages.iter().any(|message| message.kind.code() == kind)).collect();
-        assert_eq!(kinds, [1, 2, 3, 4, 5, 6]);
+            (1..=8).filter(|&kind| messages.iter().any(|message| message.kind.code() == kind)).collect();
+        assert_eq!(kinds, [1, 2, 3, 4, 5, 6, 7, 8]);
         for message in messages {
             assert_eq!(Row::of(&message).message(), Some(message));
         }

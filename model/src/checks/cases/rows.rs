@@ -3,7 +3,7 @@
 
 use std::fmt::{Display, Formatter, Result};
 
-use crate::message::{Grant, Kind, Message};
+use crate::message::{Batch, Grant, Kind, Message};
 
 /// The index of each field in a row.
 pub const KIND: usize = 0;
@@ -55,6 +55,10 @@ impl Row {
             }
             Kind::Offer { volume, number, epoch } | Kind::Dropped { volume, number, epoch } => {
                 [volume.into(), 0, number, 0, epoch, 0, 0]
+            }
+            Kind::Batch(Batch { volume, number, epoch, set })
+            | Kind::Cleared(Batch { volume, number, epoch, set }) => {
+                [volume.into(), 0, number, 0, epoch, set, 0]
             }
         };
         let [item, present, number, volume_expiry, epoch, version, object_expiry] = fields.map(u64::from);

@@ -4,7 +4,7 @@ use crate::answer::Answer;
 use crate::cases::free::settle;
 use crate::cases::rows::Row;
 use crate::copies::{ObjectCopy, NO_COPIES};
-use crate::limits::{CLIENTS, QUEUE, UNSOUND};
+use crate::limits::{CLIENTS, OBJECTS, QUEUE, UNSOUND};
 use crate::mistakes::Mistakes;
 use crate::requests::{Request, Standing, NO_REQUESTS};
 use crate::setup::Setup;
@@ -38,7 +38,8 @@ impl CaseTables {
             volume_lease: 0,
             object_lease: 0,
             timeout: 0,
-            volume_of: [0; 32],
+            delay: 0,
+            volume_of: [0; OBJECTS],
         };
         CaseTables {
             setup,

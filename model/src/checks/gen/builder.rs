@@ -19,13 +19,15 @@ pub struct Builder {
     pub steps: Vec<Step>,
 }
 
-/// The six kinds, to look for in the queue.
+/// The eight kinds, to look for in the queue.
 pub const RENEW: u8 = 1;
 pub const GRANT: u8 = 2;
 pub const INVALIDATE: u8 = 3;
 pub const ACK: u8 = 4;
 pub const OFFER: u8 = 5;
 pub const DROPPED: u8 = 6;
+pub const BATCH: u8 = 7;
+pub const CLEARED: u8 = 8;
 
 impl Builder {
     pub fn new(rng: Rng, setup: Setup) -> Builder {

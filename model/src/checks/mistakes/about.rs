@@ -20,6 +20,7 @@ macro_rules! implement {
     (ClientRules ClientRules $name:ident $rule:tt) => { impl crate::rules::ClientRules for $name $rule };
     (GrantRules GrantRules $name:ident $rule:tt) => { impl crate::rules::GrantRules for $name $rule };
     (LatestEnd LatestEnd $name:ident $rule:tt) => { impl crate::rules::LatestEnd for $name $rule };
+    (NoteRules NoteRules $name:ident $rule:tt) => { impl crate::rules::NoteRules for $name $rule };
     (WriteRules WriteRules $name:ident $rule:tt) => { impl crate::rules::WriteRules for $name $rule };
     (ServerRules ServerRules $name:ident $rule:tt) => { impl crate::rules::ServerRules for $name $rule };
     ($each:ident $about:ident $name:ident $rule:tt) => { impl crate::rules::$each for $name {} };
@@ -29,6 +30,7 @@ macro_rules! implement {
         implement!(ClientRules $about $name $rule);
         implement!(GrantRules $about $name $rule);
         implement!(LatestEnd $about $name $rule);
+        implement!(NoteRules $about $name $rule);
         implement!(WriteRules $about $name $rule);
         implement!(ServerRules $about $name $rule);
         impl crate::rules::Rules for $name {}

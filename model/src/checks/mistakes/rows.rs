@@ -21,10 +21,10 @@ mistakes_about! { RowRules:
         }
     }
 
-    /// Reads a row of a kind above 6 as a RENEW.
-    row_of_kind_above_6 {
+    /// Reads a row of a kind above 8 as a RENEW.
+    row_of_kind_above_8 {
         fn message(&self, row: &Row) -> Option<Message> {
-            let above = (7..=255).contains(&row.fields[KIND]);
+            let above = (9..=255).contains(&row.fields[KIND]);
             row.with(KIND, if above { RENEW } else { row.fields[KIND] }).message()
         }
     }

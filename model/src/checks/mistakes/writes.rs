@@ -8,8 +8,9 @@ use crate::world::World;
 mistakes_about! { WriteRules:
     /// Waits for no unreachable client, even if its volume lease is alive.
     skip_unreachable {
-        fn volume_leases_alive(&self, _: &World, _: usize) -> u16 {
-            0
+        fn to_wait_for(&self, world: &World, object: usize) -> u16 {
+            let unreachable = world.tables.server.unreachable[world.setup.volume(object)];
+            Papers.to_wait_for(world, object) & !unreachable
         }
     }
 
