@@ -37,6 +37,9 @@ impl Mistakes {
 
 #[macro_use]
 mod about;
+mod ageing;
+mod batch_client;
+mod batch_server;
 mod client;
 pub mod former;
 mod gate;
@@ -44,13 +47,16 @@ mod grant;
 mod kept;
 mod latest_end;
 mod network;
+mod notes;
+mod parked;
 mod rows;
 mod server;
 mod server_restart;
 mod writes;
 
 use {
-    client::*, gate::*, grant::*, latest_end::*, network::*, rows::*, server::*, server_restart::*, writes::*,
+    ageing::*, batch_client::*, batch_server::*, client::*, gate::*, grant::*, latest_end::*, network::*,
+    notes::*, parked::*, rows::*, server::*, server_restart::*, writes::*,
 };
 
 /// The mistakes that runs show, then those that only other tables show: first
@@ -157,6 +163,59 @@ list! {
         // The gate.
         same_time_refused,
         time_goes_back,
+
+        // Notes at a write (02, A6).
+        waits_for_parked,
+        waits_and_notes,
+        notes_nobody,
+        notes_unreachable,
+        notes_without_object_lease,
+        notes_waited,
+        parked_past_expiry,
+        noted_gets_invalidate,
+        marks_at_write,
+        later_note_replaces,
+
+        // BATCH at the server.
+        batch_before_epoch,
+        batch_after_waited,
+        batch_after_standing,
+        batch_and_grant,
+        batch_only_for_noted,
+        batch_only_once,
+        batch_without_number,
+        batch_first_sent,
+        batch_of_lowest,
+        batch_drops_notes,
+
+        // BATCH at the client.
+        batch_any_number,
+        batch_erases_nothing,
+        batch_erases_asked,
+        batch_erases_volume,
+        batch_keeps_request,
+        batch_without_cleared,
+
+        // CLEARED.
+        cleared_any_number,
+        cleared_without_batch,
+        cleared_drops_all_leases,
+        cleared_keeps_notes,
+        cleared_keeps_batch,
+        cleared_ends_waiting,
+
+        // Ageing.
+        never_ages,
+        ages_early,
+        ages_late,
+        ages_only_later,
+        ages_by_latest,
+        ages_without_notes,
+        ages_first_volume,
+
+        // What a mark leaves.
+        offer_keeps_notes,
+        offer_keeps_batch,
     }
 
     not in runs {
@@ -167,6 +226,43 @@ list! {
         no_value_needs_copy,
         no_value_keeps_version,
         no_value_keeps_epoch,
+
+        // A CLEARED whose set is not all that is noted. A run has none: a later
+        // note voids the batch. And what it names was erased before it was sent,
+        // so it would do no harm without that rule.
+        later_note_keeps_batch,
+        cleared_drops_all_notes,
+
+        // The number of a batch is never used again, nor in another epoch, and is
+        // not 0.
+        cleared_any_epoch,
+        cleared_number_0,
+
+        // A lease that CLEARED drops is on an object whose write stands, or it is
+        // gone already; it counts at the next write, and the write ends it, too.
+        cleared_keeps_leases,
+
+        // Nothing becomes free by a CLEARED.
+        cleared_completes,
+
+        // A client that gets a BATCH knows its epoch and has no live volume lease;
+        // an older version than the server's is as good as none.
+        batch_takes_epoch,
+        batch_ends_volume_lease,
+        batch_keeps_versions,
+
+        // A marked client is neither noted nor waited for while its volume lease is
+        // dead, and the OFFER that it needs marks it again. So one with an offer has
+        // no notes; after a restart of the server the first RENEW marks it, and the
+        // batch's epoch is past.
+        complete_keeps_notes,
+        complete_keeps_batch,
+        age_keeps_notes,
+        age_keeps_batch,
+        dropped_drops_notes,
+        dropped_voids_batch,
+        restart_keeps_notes,
+        restart_keeps_batch,
     }
 
     rows {

@@ -12,6 +12,8 @@ pub mod scenes_answers;
 pub mod scenes_grants;
 pub mod scenes_latest_end;
 pub mod scenes_leases;
+pub mod scenes_marks;
+pub mod scenes_parked;
 pub mod scenes_queue;
 pub mod scenes_restart;
 pub mod scenes_writes;

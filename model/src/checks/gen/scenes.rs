@@ -2,7 +2,7 @@
 
 use crate::gen::builder::Builder;
 use crate::gen::{random_steps, scenes_answers, scenes_grants, scenes_latest_end, scenes_leases};
-use crate::gen::{scenes_queue, scenes_restart, scenes_writes};
+use crate::gen::{scenes_marks, scenes_parked, scenes_queue, scenes_restart, scenes_writes};
 use crate::limits::CLOCK_MAX;
 use crate::step_record::Step;
 
@@ -17,6 +17,8 @@ pub fn all() -> Vec<Scene> {
         scenes_answers::SCENES,
         scenes_grants::SCENES,
         scenes_restart::SCENES,
+        scenes_parked::SCENES,
+        scenes_marks::SCENES,
         scenes_queue::SCENES,
         random_steps::SCENES,
     ]
