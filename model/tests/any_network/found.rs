@@ -4,7 +4,7 @@
 use model::mistakes::Mistakes;
 
 use crate::ledger::Breach;
-use crate::random_runs::plain;
+use crate::random_runs::{parked, plain};
 use crate::scenes::{all, Scene};
 use crate::watched::Watched;
 
@@ -14,8 +14,9 @@ const FLOOR: usize = 300;
 
 /// What has to be found: 01's four traps, and a client that takes a GRANT
 /// without its number, keeps its request at an INVALIDATE, or forgets its
-/// numbers at a restart. The scenes find two more.
-const AIMED_AT: [&str; 7] = [
+/// numbers at a restart; and of A6, what lets a parked client show an old copy,
+/// or a late CLEARED end a new lease. The scenes find two more.
+const AIMED_AT: [&str; 16] = [
     "renew_while_waiting",
     "skip_unreachable",
     "ack_any_epoch",
@@ -23,6 +24,15 @@ const AIMED_AT: [&str; 7] = [
     "grant_any_number",
     "invalidate_keeps_request",
     "client_restart_resets_number",
+    "notes_nobody",
+    "batch_only_for_noted",
+    "batch_erases_nothing",
+    "batch_only_once",
+    "batch_drops_notes",
+    "cleared_without_batch",
+    "cleared_keeps_batch",
+    "cleared_any_number",
+    "offer_keeps_batch",
 ];
 
 /// Wrong rules that random moves find often enough: what a client may show and
@@ -50,6 +60,22 @@ const BY_CHANCE: [&str; 21] = [
     "restart_forgets_latest",
     "restart_keeps_writes",
     "time_goes_back",
+];
+
+/// Wrong rules that random moves of parked clients find: what is noted, what a
+/// BATCH erases, when a lease is given, and what a CLEARED ends.
+const WHILE_PARKED: [&str; 11] = [
+    "notes_nobody",
+    "later_note_replaces",
+    "batch_only_for_noted",
+    "batch_only_once",
+    "batch_and_grant",
+    "batch_drops_notes",
+    "batch_erases_nothing",
+    "batch_erases_asked",
+    "cleared_without_batch",
+    "cleared_drops_all_leases",
+    "cleared_keeps_batch",
 ];
 
 /// Checks that the moves that led a wrong rule astray break nothing under the
@@ -90,6 +116,16 @@ fn found_by_chance(mistake: &str, such: fn(Breach) -> bool) -> Option<u64> {
 }
 
 #[test]
+fn random_moves_of_parked_clients_find_more() {
+    for mistake in WHILE_PARKED {
+        let shows_wrong = |&seed: &u64| parked(Mistakes::named(mistake), seed).shows_wrong();
+        let seed = (0..300).find(shows_wrong);
+        println!("{mistake}: {seed:?}");
+        assert!(seed.is_some(), "{mistake}");
+    }
+}
+
+#[test]
 fn random_moves_find_more_wrong_rules() {
     for mistake in BY_CHANCE {
         let seed = found_by_chance(mistake, |breach| matches!(breach, Breach::Shown { .. }));
@@ -111,8 +147,8 @@ fn random_moves_find_what_breaks_other_promises() {
 /// as many messages are sent, and the ledger is the same.
 #[test]
 fn what_no_run_shows_is_not_shown_here() {
-    for seed in 0..20 {
-        let right = plain(Mistakes::NONE, seed);
+    for (seed, play) in (0..20).flat_map(|seed| [(seed, plain as fn(_, _) -> _), (seed, parked)]) {
+        let right: Watched = play(Mistakes::NONE, seed);
         for (name, rules) in Mistakes::NOT_IN_RUNS {
             let run = right.again(*rules);
             assert_eq!(run.sent_after, right.sent_after, "{name}, seed {seed}");

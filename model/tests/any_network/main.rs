@@ -11,6 +11,7 @@ mod random_runs;
 mod replayed;
 mod scenes;
 mod scenes_answers;
+mod scenes_notes;
 mod scenes_requests;
 mod scenes_traps;
 mod stage;

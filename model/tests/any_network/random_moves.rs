@@ -51,6 +51,32 @@ fn arrival(stage: &mut Stage) -> Move {
     Move::Arrival(len.saturating_sub(back))
 }
 
+/// Lets clients hold objects until their volume leases end, and writes some
+/// then; after that come asks, writes and messages in no order.
+pub fn parking(stage: &mut Stage) {
+    for _ in 0..3 {
+        let (client, object) = (stage.any_client(), stage.any_object());
+        stage.hold(client, object);
+    }
+    let last = stage.server().volume_latest.into_iter().max().unwrap_or(0);
+    let late = stage.rng.range(0, 3);
+    stage.clock(last + late);
+    for _ in 0..stage.rng.range(1, 4) {
+        let object = stage.any_object();
+        stage.write(object);
+    }
+    for _ in 0..30 {
+        let next = match stage.rng.below(20) {
+            0..=11 => arrival(stage),
+            12..=16 => ask(stage),
+            17 => own(stage),
+            18 => Move::Own(Step::write(stage.any_object(), stage.new_value())),
+            _ => Move::Own(Step::clock(stage.now() + stage.rng.range(0, 4))),
+        };
+        stage.make(next);
+    }
+}
+
 /// Takes many steps of clients and server while nothing arrives; then most of
 /// what was sent, and of what follows from it, in any order, with older
 /// messages in between.

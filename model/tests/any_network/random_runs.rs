@@ -2,6 +2,7 @@
 
 use std::ops::AddAssign;
 
+use model::gen::builder::{BATCH, CLEARED};
 use model::gen::rng::Rng;
 use model::gen::setups;
 use model::limits::QUEUE;
@@ -10,6 +11,7 @@ use model::step_record::Step;
 
 use crate::network::Move;
 use crate::random_moves;
+use crate::scenes::long_copies;
 use crate::stage::Stage;
 use crate::under_way::{arrivals, most_under_way};
 use crate::watched::Watched;
@@ -35,6 +37,18 @@ fn storms(rules: Mistakes, seed: u64) -> Watched {
     stage.run
 }
 
+/// Runs clients that are parked again and again.
+pub fn parked(rules: Mistakes, seed: u64) -> Watched {
+    let mut rng = Rng::new(seed);
+    let mut setup = setups::any(&mut rng);
+    (setup.volume_lease, setup.object_lease, setup.timeout) = long_copies(&mut rng);
+    let mut stage = Stage::new(rng, rules, setup);
+    for _ in 0..40 {
+        random_moves::parking(&mut stage);
+    }
+    stage.run
+}
+
 /// What the runs reached together.
 #[derive(Debug, Default)]
 struct Reached {
@@ -49,6 +63,9 @@ struct Reached {
     written_shown: usize,
     completed: usize,
     cut_off: usize,
+    /// BATCHes and CLEAREDs sent.
+    batches: usize,
+    cleared: usize,
     /// Runs with more messages under way than the list of 64 holds.
     crowded: usize,
 }
@@ -65,6 +82,9 @@ impl AddAssign<&Watched> for Reached {
         self.written_shown += run.written_shown;
         self.completed += run.ledger.completed;
         self.cut_off += run.ledger.cut_off;
+        let of_kind = |kind| run.network.sent.iter().filter(|sent| sent.kind.code() == kind).count();
+        self.batches += of_kind(BATCH);
+        self.cleared += of_kind(CLEARED);
         self.crowded += usize::from(most_under_way(run) > QUEUE);
     }
 }
@@ -87,20 +107,29 @@ fn reached(run: fn(Mistakes, u64) -> Watched, seeds: u64) -> Reached {
         reached += &run;
     }
     println!("{reached:?}");
-    assert_eq!(reached.crowded, reached.runs);
     reached
 }
 
 #[test]
 fn messages_in_no_order_break_nothing() {
-    let Reached { lost, again, written_shown, completed, cut_off, .. } = reached(plain, 300);
+    let Reached { runs, crowded, lost, again, written_shown, completed, cut_off, .. } = reached(plain, 300);
+    assert_eq!(crowded, runs);
     assert!(lost > 10_000 && again > 50_000, "{lost} {again}");
     assert!(written_shown > 50_000 && completed > 20_000 && cut_off > 500);
 }
 
 #[test]
 fn more_than_64_under_way_break_nothing() {
-    let Reached { lost, again, written_shown, completed, cut_off, .. } = reached(storms, 60);
+    let Reached { runs, crowded, lost, again, written_shown, completed, cut_off, .. } = reached(storms, 60);
+    assert_eq!(crowded, runs);
     assert!(lost > 1_000 && again > 10_000, "{lost} {again}");
     assert!(written_shown > 50_000 && completed > 1_000 && cut_off > 10);
+}
+
+/// Most of what is noted is batched, and the batches are cleared.
+#[test]
+fn parked_clients_break_nothing() {
+    let Reached { written_shown, completed, batches, cleared, .. } = reached(parked, 200);
+    assert!(written_shown > 10_000 && completed > 5_000, "{written_shown} {completed}");
+    assert!(batches > 3_000 && cleared > 1_000, "{batches} {cleared}");
 }

@@ -8,7 +8,7 @@ use model::setup::Setup;
 
 use crate::stage::Stage;
 use crate::watched::Watched;
-use crate::{random_moves, scenes_answers, scenes_requests, scenes_traps};
+use crate::{random_moves, scenes_answers, scenes_notes, scenes_requests, scenes_traps};
 
 pub struct Scene {
     /// The wrong rule that the scene finds.
@@ -27,7 +27,9 @@ pub struct Cast {
 }
 
 pub fn all() -> impl Iterator<Item = &'static Scene> {
-    [scenes_traps::SCENES, scenes_requests::SCENES, scenes_answers::SCENES].into_iter().flatten()
+    [scenes_traps::SCENES, scenes_requests::SCENES, scenes_answers::SCENES, scenes_notes::SCENES]
+        .into_iter()
+        .flatten()
 }
 
 impl Scene {

@@ -105,6 +105,18 @@ fn a_message_under_way_that_takes_time() {
     assert_eq!(without(&mut bench, 0, 0), (7, 9, Answer::Shown(0)));
 }
 
+/// "The wait of A1 excludes dashes with notes": it ends with a CLEARED, after
+/// which it does not ask again. Notes in another volume do not matter.
+#[test]
+fn a_client_with_notes() {
+    let mut bench = Bench::fresh();
+    bench.hold(0, 1);
+    bench.all(&[Step::clock(10), Step::write(1, 5)]);
+    shown(&mut bench, 0, 2, 7, 0);
+    assert_eq!(without(&mut bench, 0, 0), (3, 4, Answer::AskFirst));
+    shown(&mut bench, 0, 0, 3, 0);
+}
+
 /// Made by hand only: no run takes that many numbers.
 #[test]
 fn two_request_numbers() {

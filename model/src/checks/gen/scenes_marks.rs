@@ -4,7 +4,7 @@
 use crate::gen::builder::{Builder, BATCH, CLEARED, DROPPED, OFFER, RENEW};
 use crate::gen::scenes::{exchange, hold, probe, Scene};
 use crate::gen::scenes_parked::{
-    back, cleared_under_way, park, volume_expiry, waited_and_noted, write_and_read, Parked,
+    back, cleared_under_way, park, volume_expiry, waited_and_noted, write_all, write_and_read, Parked,
 };
 use crate::step_record::Step;
 
@@ -21,38 +21,34 @@ pub const SCENES: &[Scene] = &[
 /// Marked at volume expiry + d, and not a tick before: then the leases on the
 /// other objects stay.
 fn aged(b: &mut Builder) {
-    let Some(parked) = park(b, 0) else {
-        return;
-    };
-    let by = parked.objects[0];
-    b.write(by);
-    let edge = volume_expiry(b, parked.client, by).saturating_add(b.setup.delay);
-    for time in [edge - 1, edge, edge + 1] {
-        b.clock(time);
-        if b.rng.percent(40) {
-            break;
-        }
+    for late in [0, 1, 2] {
+        let Some(parked) = park(b, 0) else {
+            return;
+        };
+        let by = parked.objects[0];
+        b.write(by);
+        b.clock(volume_expiry(b, parked.client, by) + b.setup.delay + late - 1);
+        back(b, &parked, by);
+        write_all(b, &parked);
     }
-    back(b, &parked, by);
-    exchange(b, parked.client, by);
-    probe(b);
 }
 
 /// Parked for d already, it is noted at the write, and marked by the next clock
 /// step, though to the same time.
 fn aged_when_written(b: &mut Builder) {
-    let ticks = b.setup.delay.saturating_add(b.rng.range(0, 2));
-    let Some(parked) = park(b, ticks) else {
-        return;
-    };
-    let by = parked.objects[0];
-    b.write(by);
-    if b.rng.percent(60) {
-        b.clock(b.tables().clock);
+    for again in [false, true] {
+        let ticks = b.setup.delay.saturating_add(b.rng.range(0, 2));
+        let Some(parked) = park(b, ticks) else {
+            return;
+        };
+        let by = parked.objects[0];
+        b.write(by);
+        if again {
+            b.clock(b.tables().clock);
+        }
+        back(b, &parked, by);
+        write_all(b, &parked);
     }
-    back(b, &parked, by);
-    exchange(b, parked.client, by);
-    probe(b);
 }
 
 /// Another client's volume lease lives on, or it has no notes: neither counts.

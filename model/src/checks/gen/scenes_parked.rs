@@ -38,11 +38,16 @@ pub fn volume_expiry(b: &Builder, client: u8, object: u8) -> u32 {
     b.server().volume_expiry[b.setup.volume(object.into())][usize::from(client)]
 }
 
-/// Gives a client up to three objects of a volume.
+/// Gives a client up to four objects of a volume, if it has as many.
 pub fn hold_some(b: &mut Builder) -> Parked {
-    let (client, object) = (b.any_client(), b.any_object());
+    let (client, mut object) = (b.any_client(), b.any_object());
+    for _ in 0..3 {
+        if b.sibling(object).is_none() {
+            object = b.any_object();
+        }
+    }
     let mut objects = vec![object];
-    for _ in 0..b.rng.range(1, 3) {
+    for _ in 0..b.rng.range(2, 3) {
         objects.extend(b.sibling(object));
     }
     objects.sort_unstable();
@@ -102,6 +107,15 @@ fn read_all(b: &mut Builder, parked: &Parked) {
     }
 }
 
+/// Writes every object that it held, and reads all: who has a lease on one is
+/// waited for.
+pub fn write_all(b: &mut Builder, parked: &Parked) {
+    for &object in &parked.objects {
+        write_and_read(b, parked.client, object);
+    }
+    probe(b);
+}
+
 /// Writes an object and reads it at once: who has a lease on it is waited for.
 pub fn write_and_read(b: &mut Builder, client: u8, object: u8) {
     b.write(object);
@@ -113,13 +127,13 @@ fn several_notes(b: &mut Builder) {
     let Some(parked) = park_shortly(b) else {
         return;
     };
-    let count = b.rng.range(1, parked.objects.len() as u32) as usize;
-    for place in 0..count {
-        b.write(parked.objects[place]);
+    let spared = b.rng.range(0, 1) as usize;
+    for &object in &parked.objects[..parked.objects.len() - spared] {
+        b.write(object);
     }
     let by = parked.any(b);
     back(b, &parked, by);
-    probe(b);
+    write_all(b, &parked);
 }
 
 /// A later note voids the batch: before the client gets it, or behind it.

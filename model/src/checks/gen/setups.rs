@@ -41,7 +41,7 @@ pub fn sized(clients: u8, volumes: u8, objects: u8) -> Setup {
 /// Returns short and long leases, either one shorter or the two close together,
 /// and the ends of the ranges.
 pub fn ticks(rng: &mut Rng) -> (u32, u32, u32) {
-    match rng.below(9) {
+    match rng.below(11) {
         0 => (1, 1, 1),
         1 => (3_600, 1_000_000, 60),
         2 => (rng.range(20, 60), rng.range(5, 15), rng.range(1, 5)),
