@@ -12,7 +12,7 @@ pub enum Case {
     NeverConnected,
     ClientRestarted,
     ServerRestarted,
-    MarkedByWrite,
+    MarkedWithoutOffer,
     MarkedByOffer,
     // In 3 steps: what the GRANT finds.
     NoCopy,
@@ -34,7 +34,7 @@ impl Case {
         Case::NeverConnected,
         Case::ClientRestarted,
         Case::ServerRestarted,
-        Case::MarkedByWrite,
+        Case::MarkedWithoutOffer,
         Case::MarkedByOffer,
         Case::NoCopy,
         Case::OtherVersion,
@@ -63,8 +63,8 @@ pub fn cases(trial: &Trial) -> impl Iterator<Item = Case> {
 }
 
 /// Returns why an offer comes. A mark without an offer comes from a completed
-/// write: the number of an offer stays until a DROPPED or a restart of the
-/// server ends the mark, too.
+/// write or from notes that aged: the number of an offer stays until a DROPPED
+/// or a restart of the server ends the mark, too.
 fn reason_to_offer(trial: &Trial) -> Case {
     let (client, volume) = (usize::from(trial.client), trial.volume());
     let tables = &trial.from.state.tables;
@@ -74,7 +74,7 @@ fn reason_to_offer(trial: &Trial) -> Case {
         _ if known == 0 && restarted => Case::ClientRestarted,
         _ if known == 0 => Case::NeverConnected,
         _ if known != tables.server.epoch[volume] => Case::ServerRestarted,
-        0 => Case::MarkedByWrite,
+        0 => Case::MarkedWithoutOffer,
         _ => Case::MarkedByOffer,
     }
 }
