@@ -68,18 +68,6 @@ fn unsound() {
         |b| put(b, 0, Kind::Ack { object: 255, epoch: 1, version: 1 }),
         |b| put(b, 0, Kind::Offer { volume: 2, number: 1, epoch: 1 }),
         |b| put(b, 0, Kind::Dropped { volume: 2, number: 1, epoch: 1 }),
-        |b| put(b, 0, Kind::Batch(batch(2, 0))),
-        |b| put(b, 0, Kind::Cleared(batch(2, 0))),
-        |b| put(b, 3, Kind::Batch(batch(0, 0))),
-        |b| put(b, 0, Kind::Batch(batch(0, 1 << 2))),
-        |b| put(b, 0, Kind::Batch(batch(0, 1 << 4 | 1))),
-        |b| put(b, 0, Kind::Batch(batch(1, 1 << 31))),
-        |b| put(b, 0, Kind::Cleared(batch(1, 1 << 2 | 1))),
-        |b| put(b, 0, Kind::Cleared(batch(0, 1 << 28))),
-        |b| b.state.tables.server.notes[0][0] = 1 << 2,
-        |b| b.state.tables.server.notes[0][2] = 1 << 4,
-        |b| b.state.tables.server.notes[1][1] = 1 << 2 | 1,
-        |b| b.state.tables.server.notes[1][2] = 1 << 31,
         |b| put(b, 0, grant(0, PAST, 0)),
         |b| put(b, 0, grant(0, 0, PAST)),
         |b| b.state.parts(&common::setup()).2[2].standing = Some(Standing { number: 1, object: 4 }),
@@ -97,6 +85,29 @@ fn unsound() {
         |b| b.state.tables.server.epoch[1] = 0,
         |b| b.state.tables.server.version[3] = 0,
         |b| b.state.tables.server.version[0] = u32::MAX,
+    ];
+    for (place, change) in changes.iter().enumerate() {
+        assert!(!is_sound(*change), "change {place}");
+    }
+}
+
+/// "A set bit that is no object of its volume makes tables unsound, in messages
+/// too" (02, A6).
+#[test]
+fn unsound_sets() {
+    let changes: &[Change] = &[
+        |b| put(b, 0, Kind::Batch(batch(2, 0))),
+        |b| put(b, 0, Kind::Cleared(batch(2, 0))),
+        |b| put(b, 3, Kind::Batch(batch(0, 0))),
+        |b| put(b, 0, Kind::Batch(batch(0, 1 << 2))),
+        |b| put(b, 0, Kind::Batch(batch(0, 1 << 4 | 1))),
+        |b| put(b, 0, Kind::Batch(batch(1, 1 << 31))),
+        |b| put(b, 0, Kind::Cleared(batch(1, 1 << 2 | 1))),
+        |b| put(b, 0, Kind::Cleared(batch(0, 1 << 28))),
+        |b| b.state.tables.server.notes[0][0] = 1 << 2,
+        |b| b.state.tables.server.notes[0][2] = 1 << 4,
+        |b| b.state.tables.server.notes[1][1] = 1 << 2 | 1,
+        |b| b.state.tables.server.notes[1][2] = 1 << 31,
     ];
     for (place, change) in changes.iter().enumerate() {
         assert!(!is_sound(*change), "change {place}");

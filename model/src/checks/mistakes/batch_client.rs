@@ -1,5 +1,6 @@
 //! Mistakes of a client at a BATCH (02, A6).
 
+use crate::bits::members;
 use crate::message::Batch;
 use crate::mistakes::kept::{keeping, unsent};
 use crate::rules::Papers;
@@ -40,7 +41,7 @@ mistakes_about! { ClientRules:
     /// Ends the leases on those copies, but keeps their versions and values.
     batch_keeps_versions {
         fn erase(&self, world: &mut World, client: usize, set: u32) {
-            for object in crate::bits::members(set) {
+            for object in members(set) {
                 world.copy_mut(client, object).expiry = 0;
             }
         }
