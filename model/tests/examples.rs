@@ -1,12 +1,8 @@
 //! The stored examples, and the line of each that a mistake would change.
 
-#[path = "common/before_a6.rs"]
-mod before_a6;
-
 use std::fs;
 use std::path::Path;
 
-use before_a6::with_delay;
 use model::examples::all;
 use model::listing::{listing, listing_with};
 use model::mistakes::Mistakes;
@@ -17,15 +13,12 @@ fn stored(name: &str) -> Vec<u8> {
 }
 
 fn run(name: &str) -> Vec<u8> {
-    with_delay(stored(&format!("{name}.run")))
+    stored(&format!("{name}.run"))
 }
 
 #[test]
 fn a_file_without_a_delay_is_refused() {
-    for example in all() {
-        let old = stored(&format!("{}.run", example.name));
-        assert_eq!(listing(&old), b"step answer value\n0 4 9\n", "{}", example.name);
-    }
+    assert_eq!(listing(&run("formats/run-file-of-01")), b"step answer value\n0 4 9\n");
 }
 
 #[test]

@@ -2,15 +2,6 @@
 //! d 1, until it is written anew.
 #![allow(dead_code)]
 
-/// Returns an old run file with d 1 in the last four bytes of its setup.
-pub fn with_delay(mut file: Vec<u8>) -> Vec<u8> {
-    let distance = file.last_chunk().map_or(0, |word| u32::from_le_bytes(*word));
-    let delay = file.len() - distance as usize + 44;
-    assert_eq!(file[delay..delay + 4], [0; 4], "an old file");
-    file[delay..delay + 4].copy_from_slice(&[1, 0, 0, 0]);
-    file
-}
-
 /// Returns the text of old cases with d 1 as one more change of the base, whose
 /// number of changes is the first number in the text.
 pub fn cases_with_delay(text: &str) -> String {
