@@ -35,9 +35,9 @@ extern "C" {
 
 /* The version of this library. The second number grows when callers or files
    have to change, and CHANGES.md in the repository says how; else the third. */
-#define GEVTSOMI_VERSION "0.5.0"
+#define GEVTSOMI_VERSION "0.6.0"
 #define GEVTSOMI_VERSION_MAJOR 0
-#define GEVTSOMI_VERSION_MINOR 5
+#define GEVTSOMI_VERSION_MINOR 6
 #define GEVTSOMI_VERSION_PATCH 0
 
 /* What a call returns when it is not refused. */
@@ -64,12 +64,14 @@ extern "C" {
 
     0  clients, 1 to 16
     1  volumes, 1 to 8
-    2  objects, 1 to 32
+    2  objects, 1 to 28
     3  0
     4  how many ticks a volume lease lasts, 1 to 3,600, in 4 bytes
     8  how many ticks an object lease lasts, 1 to 1,000,000, in 4
    12  how many ticks a write waits for messages at least, 1 to 60, in 4
-   16  the volume of each object, 0 past the object count, in 32
+   16  the volume of each object, 0 past the object count, in 28
+   44  how many ticks after the end of its volume lease the server still keeps
+       notes for a client, 1 to 65,535, in 4
 
    and a step, with 0 in the fields that its kind does not use,
 
@@ -94,11 +96,15 @@ enum gevtsomi_kind {
     GEVTSOMI_INVALIDATE,
     GEVTSOMI_ACK,
     GEVTSOMI_OFFER,
-    GEVTSOMI_DROPPED
+    GEVTSOMI_DROPPED,
+    GEVTSOMI_BATCH,
+    GEVTSOMI_CLEARED
 };
 
 /* A frame's fields, in its order; those that the kind lacks are 0. The item is
-   the volume of an OFFER or a DROPPED, and the object of any other kind. */
+   the volume of an OFFER, a DROPPED, a BATCH or a CLEARED, and the object of
+   any other kind. The version of a BATCH or a CLEARED is a set of objects, bit
+   k for object k. */
 enum gevtsomi_field {
     GEVTSOMI_KIND,
     GEVTSOMI_CLIENT,

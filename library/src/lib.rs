@@ -19,7 +19,7 @@ mod run;
 pub use file::{workload, write, STEPS, WRITE_STACK_BYTES};
 pub use frame::{decode, encode, FRAME_BYTES};
 pub use message::{Kind, Message};
-pub use parts::{Setup, Step, SETUP_BYTES, STEP_BYTES};
+pub use parts::{Setup, Step, OBJECTS, SETUP_BYTES, STEP_BYTES};
 pub use run::{list, FILE_BYTES, LISTING_BYTES, LIST_STACK_BYTES};
 
 /// A call was refused; it changed nothing.

@@ -9,8 +9,8 @@ pub struct Message {
     pub kind: Kind,
 }
 
-/// The six kinds, in the order of their numbers in a frame. Document 01 defines
-/// the fields.
+/// The eight kinds, in the order of their numbers in a frame. Documents 01
+/// and 02 define the fields.
 #[allow(missing_docs)]
 #[derive(Clone, Copy, Debug, PartialEq, Eq)]
 pub enum Kind {
@@ -34,6 +34,11 @@ pub enum Kind {
     Offer { volume: u8, number: u32, epoch: u32 },
     /// The client dropped its leases of the volume.
     Dropped { volume: u8, number: u32, epoch: u32 },
+    /// The server asks a client to erase the copies of a set of objects, bit k
+    /// for object k, that were written while it had no lease of the volume.
+    Batch { volume: u8, number: u32, epoch: u32, objects: u32 },
+    /// The client erased the copies of the set.
+    Cleared { volume: u8, number: u32, epoch: u32, objects: u32 },
 }
 
 /// A frame's fields, in its order; those that the kind lacks are 0.
@@ -78,10 +83,16 @@ impl Fields {
             Kind::Dropped { volume, number, epoch } => {
                 Fields { kind: 6, item: volume, number, epoch, ..none }
             }
+            Kind::Batch { volume, number, epoch, objects } => {
+                Fields { kind: 7, item: volume, number, epoch, version: objects, ..none }
+            }
+            Kind::Cleared { volume, number, epoch, objects } => {
+                Fields { kind: 8, item: volume, number, epoch, version: objects, ..none }
+            }
         }
     }
 
-    /// Returns the message. The kind must be one of the six.
+    /// Returns the message. The kind must be one of the eight.
     pub fn message(&self) -> Message {
         let Fields { item, number, epoch, version, .. } = *self;
         let kind = match self.kind {
@@ -98,7 +109,9 @@ impl Fields {
             3 => Kind::Invalidate { object: item, epoch, version },
             4 => Kind::Ack { object: item, epoch, version },
             5 => Kind::Offer { volume: item, number, epoch },
-            _ => Kind::Dropped { volume: item, number, epoch },
+            6 => Kind::Dropped { volume: item, number, epoch },
+            7 => Kind::Batch { volume: item, number, epoch, objects: version },
+            _ => Kind::Cleared { volume: item, number, epoch, objects: version },
         };
         Message { client: self.client, kind }
     }

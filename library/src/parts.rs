@@ -3,6 +3,9 @@
 /// The length of a setup in a run file.
 pub const SETUP_BYTES: usize = 48;
 
+/// The most objects that a setup has.
+pub const OBJECTS: usize = 28;
+
 /// The length of a step in a run file.
 pub const STEP_BYTES: usize = 16;
 
@@ -13,7 +16,7 @@ pub struct Setup {
     pub clients: u8,
     /// The number of volumes, 1 to 8.
     pub volumes: u8,
-    /// The number of objects, 1 to 32.
+    /// The number of objects, 1 to 28.
     pub objects: u8,
     /// How many ticks a volume lease lasts, 1 to 3,600.
     pub volume_lease: u32,
@@ -21,8 +24,11 @@ pub struct Setup {
     pub object_lease: u32,
     /// How many ticks a write waits for messages at least, 1 to 60.
     pub timeout: u32,
+    /// How many ticks after the end of its volume lease the server still keeps
+    /// notes for a client, 1 to 65,535.
+    pub delay: u32,
     /// Each object's volume; 0 past the object count.
-    pub volume_of: [u8; 32],
+    pub volume_of: [u8; OBJECTS],
 }
 
 impl Setup {
@@ -35,7 +41,8 @@ impl Setup {
         bytes[4..8].copy_from_slice(&self.volume_lease.to_le_bytes());
         bytes[8..12].copy_from_slice(&self.object_lease.to_le_bytes());
         bytes[12..16].copy_from_slice(&self.timeout.to_le_bytes());
-        bytes[16..].copy_from_slice(&self.volume_of);
+        bytes[16..44].copy_from_slice(&self.volume_of);
+        bytes[44..].copy_from_slice(&self.delay.to_le_bytes());
         bytes
     }
 }
