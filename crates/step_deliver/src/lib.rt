@@ -55,15 +55,10 @@ fn by_server(setup: Setup, words: &mut Words, values: &mut Values, client: usize
             object,
             epoch,
             version,
-        } => receive_ack(
-            setup,
-            words,
-            values,
-            client,
-            object as usize,
-            epoch,
-            version,
-        ),
+        } => {
+            let o = object as usize;
+            receive_ack(setup, words, values, client, o, epoch, version)
+        }
         Kind::Dropped {
             volume,
             number,

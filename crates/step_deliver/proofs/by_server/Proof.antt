@@ -19,8 +19,8 @@ receive-renew-requires c κs =
 enum-known-k-2 : tie.Need-enum-known-k-2
 enum-known-k-2 c = search needs
 
-cast-receive-ack : tie.Need-cast-receive-ack
-cast-receive-ack c = search needs
+cast-o-2 : tie.Need-cast-o-2
+cast-o-2 c = search needs
 
 receive-ack-requires : tie.Need-receive-ack-requires
 receive-ack-requires c κs =
@@ -75,7 +75,7 @@ by-server-spec =
     cast-o
     receive-renew-requires
     enum-known-k-2
-    cast-receive-ack
+    cast-o-2
     receive-ack-requires
     enum-known-k-3
     cast-receive-dropped
