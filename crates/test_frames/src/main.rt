@@ -1,10 +1,10 @@
-// Decodes frames worked out by hand from 01's layout. Prints a line for each: the message's fields, then its frame, encoded again into 36 bytes.
+// Decodes frames worked out by hand from 01's layout and 02, A6. Prints a line for each: the message's fields, then its frame, encoded again into 36 bytes.
 mod show;
 
 ghost use Prim.Native.Nat.{_<_};
 
 fn whole() {
-    // RENEW, GRANT with a value, without one and with the value 0, INVALIDATE, ACK, OFFER, DROPPED
+    // RENEW, GRANT with a value, without one and with the value 0, INVALIDATE, ACK, OFFER, DROPPED, BATCH, CLEARED
     show::frame(
         b"\x01\x03\x05\x00\x04\x03\x02\x01\x00\x00\x00\x00\x0d\x0c\x0b\x0a\x14\x13\x12\x11\x00\x00\x00\x00\x00\x00\x00\x00\x00\x00\x00\x00",
     );
@@ -29,6 +29,12 @@ fn whole() {
     show::frame(
         b"\x06\x09\xff\x00\x00\x00\x00\x01\x00\x00\x00\x00\x03\x00\x00\x00\x00\x00\x00\x00\x00\x00\x00\x00\x00\x00\x00\x00\x00\x00\x00\x00",
     );
+    show::frame(
+        b"\x07\x04\x07\x00\x03\x01\x00\x00\x00\x00\x00\x00\x02\x00\x00\x00\x05\x00\x00\x08\x00\x00\x00\x00\x00\x00\x00\x00\x00\x00\x00\x00",
+    );
+    show::frame(
+        b"\x08\x0f\xff\x00\x00\x00\x00\x80\x00\x00\x00\x00\x00\x01\x00\x00\xff\xff\xff\xff\x00\x00\x00\x00\x00\x00\x00\x00\x00\x00\x00\x00",
+    );
 }
 
 // Decodes a frame of this kind with one byte set; all its other bytes are 0.
@@ -41,6 +47,13 @@ fn changed(kind: u8, at: usize, b: u8)
     show::frame(&f);
 }
 
+// Decodes a BATCH of the empty set, then the lowest and the highest of the 32 bits alone.
+fn sets() {
+    changed(7, 16, 0);
+    changed(7, 16, 1);
+    changed(8, 19, 128);
+}
+
 fn refused() {
     show::frame(b"");
     show::frame(
@@ -50,12 +63,15 @@ fn refused() {
         b"\x01\x00\x00\x00\x00\x00\x00\x00\x00\x00\x00\x00\x00\x00\x00\x00\x00\x00\x00\x00\x00\x00\x00\x00\x00\x00\x00\x00\x00\x00\x00\x00\x00",
     );
     changed(0, 1, 0);
-    changed(7, 1, 0);
+    changed(9, 1, 0);
+    changed(10, 1, 0);
     changed(255, 1, 0);
     // value present: 2, set for a kind without a value, and unset with a value that is not 0
     changed(2, 3, 2);
     changed(1, 3, 1);
     changed(5, 3, 1);
+    changed(7, 3, 1);
+    changed(8, 3, 1);
     changed(2, 24, 1);
     changed(2, 31, 1);
     // a field that the kind lacks, not 0
@@ -68,10 +84,17 @@ fn refused() {
     changed(5, 11, 1);
     changed(6, 20, 1);
     changed(6, 19, 128);
+    changed(7, 8, 1);
+    changed(7, 20, 1);
+    changed(7, 31, 1);
+    changed(8, 11, 1);
+    changed(8, 23, 1);
+    changed(8, 24, 1);
 }
 
 fn main() {
     whole();
+    sets();
     refused();
     show::short_output();
 }
