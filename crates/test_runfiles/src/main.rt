@@ -1,10 +1,10 @@
-// Reads run files made by hand from 01's layout. Prints a line for each: the refusal, the note's length and bytes, the setup with its first and last
-// volume byte, the number of steps and where they begin. For some files it also prints the first and the last step, and what is read after them.
+// Reads run files made by hand from 01's layout and 02, A6. Prints a line for each: the refusal, the note's length and bytes, the setup with its first and
+// last volume byte, the number of steps and where they begin. For some files it also prints the first and the last step, and what is read after them.
 mod show;
 
 ghost use Prim.Native.Nat.{_<_};
 
-// Returns the smallest run file: a setup (1 client, 1 volume, 1 object, tv 10, t 100, m 3) and a trailer.
+// Returns the smallest run file: a setup (1 client, 1 volume, 1 object, tv 10, t 100, m 3, delay 1) and a trailer.
 fn smallest() -> [u8; 56] {
     let mut f = [0u8; 56];
     f[0] = 1;
@@ -13,6 +13,7 @@ fn smallest() -> [u8; 56] {
     f[4] = 10;
     f[8] = 100;
     f[12] = 3;
+    f[44] = 1;
     f[52] = 56;
     f
 }
@@ -38,17 +39,37 @@ fn small() {
     changed(0, 16);
     changed(0, 17);
     changed(1, 9);
-    changed(2, 33);
+    changed(2, 28);
+    changed(2, 29);
     changed(3, 1);
     changed(4, 0);
     changed(16, 1);
-    changed(47, 1);
+    changed(43, 1);
     // step count and distance
     changed(48, 1);
     changed(52, 55);
     changed(52, 57);
     changed(52, 72);
     changed(55, 1);
+}
+
+// Reads the smallest file with these four bytes after the volume bytes.
+fn delayed(a: u8, b: u8, c: u8, d: u8) {
+    let mut f = smallest();
+    f[44] = a;
+    f[45] = b;
+    f[46] = c;
+    f[47] = d;
+    show::file(&f);
+}
+
+fn delays() {
+    // 0, as in a file from before delays; 513; 65,535; 65,536; 16,777,217
+    delayed(0, 0, 0, 0);
+    delayed(1, 2, 0, 0);
+    delayed(255, 255, 0, 0);
+    delayed(0, 0, 1, 0);
+    delayed(1, 0, 0, 1);
 }
 
 // Returns a file of 90 bytes with one byte too many after it: a note of two bytes, the same setup, and two steps (clock 258; write the value 2 to the
@@ -63,6 +84,7 @@ fn two_steps() -> [u8; 91] {
     f[6] = 10;
     f[10] = 100;
     f[14] = 3;
+    f[46] = 1;
     f[50] = 1;
     f[54] = 2;
     f[55] = 1;
@@ -114,6 +136,7 @@ fn note_like_a_file() {
     f[4] = 10;
     f[8] = 100;
     f[12] = 3;
+    f[44] = 1;
     f[52] = 56;
     f[56] = 2;
     f[57] = 1;
@@ -121,6 +144,7 @@ fn note_like_a_file() {
     f[60] = 20;
     f[64] = 200;
     f[68] = 6;
+    f[100] = 2;
     f[108] = 56;
     show::file(&f);
     // a trailer that points at the note's setup
@@ -144,6 +168,7 @@ fn note_of_any_bytes() {
     f[13] = 10;
     f[17] = 100;
     f[21] = 3;
+    f[53] = 1;
     f[61] = 56;
     show::file(&f);
     // one byte missing at the front, where the note loses it, then at the end, where the trailer does
@@ -162,7 +187,7 @@ fn largest() -> [u8; 65537] {
     f[1480] = 254;
     f[1481] = 16;
     f[1482] = 8;
-    f[1483] = 32;
+    f[1483] = 28;
     f[1485] = 16;
     f[1486] = 14;
     f[1489] = 64;
@@ -170,7 +195,9 @@ fn largest() -> [u8; 65537] {
     f[1491] = 15;
     f[1493] = 60;
     f[1497] = 7;
-    f[1528] = 7;
+    f[1524] = 7;
+    f[1525] = 255;
+    f[1526] = 255;
     f[65513] = 5;
     f[65516] = 63;
     f[65529] = 160;
@@ -196,6 +223,7 @@ fn too_many_steps() {
     f[4] = 10;
     f[8] = 100;
     f[12] = 3;
+    f[44] = 1;
     f[64064] = 161;
     f[64065] = 15;
     f[64068] = 72;
@@ -205,6 +233,7 @@ fn too_many_steps() {
 
 fn main() {
     small();
+    delays();
     steps();
     step_fields();
     note_like_a_file();

@@ -6,6 +6,12 @@ use test_printing::last;
 use test_printing::number;
 use test_printing::step;
 
+// Prints the first and the last volume byte.
+fn volumes(setup: Setup) {
+    number(setup.volume[0] as u64);
+    number(setup.volume[27] as u64);
+}
+
 fn setup(setup: Setup) {
     number(setup.clients as u64);
     number(setup.volumes as u64);
@@ -13,8 +19,8 @@ fn setup(setup: Setup) {
     number(setup.tv as u64);
     number(setup.t as u64);
     number(setup.m as u64);
-    number(setup.volume[0] as u64);
-    number(setup.volume[31] as u64);
+    volumes(setup);
+    number(setup.delay as u64);
 }
 
 // Returns the bytes from `from` up to `to`, or none if the file does not have them.
