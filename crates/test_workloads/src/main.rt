@@ -7,9 +7,9 @@ use test_printing::end;
 use test_printing::last;
 use test_printing::number;
 
-// Returns a setup of 3 clients and 2 volumes with two objects each; tv 10, t 100, m 3.
+// Returns a setup of 3 clients and 2 volumes with two objects each; tv 10, t 100, m 3, delay 258.
 fn setup() -> Setup {
-    let mut volume = [0u8; 32];
+    let mut volume = [0u8; 28];
     volume[2] = 1;
     volume[3] = 1;
     Setup {
@@ -20,6 +20,7 @@ fn setup() -> Setup {
         t: 100,
         m: 3,
         volume,
+        delay: 258,
     }
 }
 
