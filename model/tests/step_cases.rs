@@ -1,13 +1,9 @@
 //! The program `test_step_cases` prints what the model answers and leaves for
 //! the same cases, and the cases would show each mistake.
 
-#[path = "common/before_a6.rs"]
-mod before_a6;
-
 use std::fs;
 use std::path::Path;
 
-use before_a6::{cases_with_delay, unchanged};
 use model::cases::{lines, lines_under};
 use model::mistakes::Mistakes;
 
@@ -16,30 +12,14 @@ fn stored(name: &str) -> String {
     fs::read_to_string(folder.join(name)).unwrap_or_else(|error| panic!("{name}: {error}"))
 }
 
-/// Returns the cases from before A6 that are still the same.
-fn cases() -> String {
-    cases_with_delay(&unchanged(&stored("stdin")))
-}
-
-/// The cases of A6, on the same base.
-const DELAYED: &str = include_str!("delayed_cases/stdin");
-const DELAYED_LINES: &str = include_str!("delayed_cases/stdout");
-
 #[test]
 fn stored_lines_are_the_models() {
-    assert_eq!(unchanged(&stored("stdout")), lines(&cases()));
-}
-
-#[test]
-fn stored_lines_of_delayed_invalidations_are_the_models() {
-    let all = lines(&(cases() + DELAYED));
-    let begin = all.find("2001 ").expect("the first case");
-    assert_eq!(DELAYED_LINES, &all[begin..]);
+    assert_eq!(stored("stdout"), lines(&stored("stdin")));
 }
 
 #[test]
 fn every_mistake_changes_the_lines() {
-    let text = cases() + DELAYED;
+    let text = stored("stdin");
     let honest = lines(&text);
     let missed = Mistakes::EACH.iter().filter(|(_, mistakes)| lines_under(*mistakes, &text) == honest);
     let missed: Vec<_> = missed.map(|(name, _)| name).collect();
