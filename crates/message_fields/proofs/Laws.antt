@@ -1,9 +1,13 @@
 -- One lemma for each path through a function: the facts found along the path give its contract.
-use Prim.Native.Nat.{ℕ}
+use Prim.Native.Nat.{ℕ, _+_, _≤_}
+use native.Mathlib.Omega.{arith}
 use mathlib.Core.Bool.{Bool, true, false, _&&_, _||_}
-use mathlib.Core.Path.{_≡_}
+use mathlib.Core.Logic.{_⊎_, ⊎-elim}
+use mathlib.Core.Path.{_≡_, refl}
 use lib.Dec.{eqb}
 use borrow.Author.Tests.{ne-eqb}
+use denote.Enum.Declared.{tagOf}
+use Rattle.protocol.proofs.message.Kind.{the-type}
 use Rattle.protocol.specs.declared.message.Kind.{Kind}
 use Rattle.protocol.specs.declared.message.Kind.the-variants.{Renew, Grant, Invalidate, Ack, Offer, Dropped, Batch, Cleared}
 use Rattle.protocol.specs.declared.message.Payload.{Payload}
@@ -44,6 +48,32 @@ module _ (d : ℕ) (k : Kind) (r : Fields) where
   pub by-cleared : (v n e m : ℕ) → k ≡ Cleared v n e m → r ≡ row 8 d v 0 n 0 e m 0 0 → r ≡ kindFields d k
   unfolding kindFields
   by-cleared v n e m h g = rw h g
+
+-- RENEW, GRANT, INVALIDATE and ACK have tags 0 to 3 and kinds 1 to 4; OFFER, DROPPED, BATCH and CLEARED have tags 4 to 7 and kinds 5 to 8
+last-tags : (t : ℕ) → (t ≡ 4) ⊎ ((t ≡ 5) ⊎ ((t ≡ 6) ⊎ (t ≡ 7))) → 4 ≤ t
+last-tags t h = ⊎-elim (λ e. omega arith) (λ i. ⊎-elim (λ e. omega arith) (λ j. ⊎-elim (λ e. omega arith) (λ e. omega arith) j) i) h
+
+first-tags : (t : ℕ) → (t ≡ 0) ⊎ ((t ≡ 1) ⊎ ((t ≡ 2) ⊎ (t ≡ 3))) → t ≤ 3
+first-tags t h = ⊎-elim (λ e. omega arith) (λ i. ⊎-elim (λ e. omega arith) (λ j. ⊎-elim (λ e. omega arith) (λ e. omega arith) j) i) h
+
+kind-by-tag : (d : ℕ) (k : Kind) → kindFields d k .kind ≡ 1 + tagOf the-type k
+unfolding kindFields
+kind-by-tag d (Renew o n e w) = refl
+kind-by-tag d (Grant o n x e w y (Value v)) = refl
+kind-by-tag d (Grant o n x e w y Same) = refl
+kind-by-tag d (Invalidate o e w) = refl
+kind-by-tag d (Ack o e w) = refl
+kind-by-tag d (Offer v n e) = refl
+kind-by-tag d (Dropped v n e) = refl
+kind-by-tag d (Batch v n e m) = refl
+kind-by-tag d (Cleared v n e m) = refl
+
+module _ (d : ℕ) (k : Kind) where
+  pub about-volume : (tagOf the-type k ≡ 4) ⊎ ((tagOf the-type k ≡ 5) ⊎ ((tagOf the-type k ≡ 6) ⊎ (tagOf the-type k ≡ 7))) → 5 ≤ kindFields d k .kind
+  about-volume h = omega (arith, kind-by-tag d k, last-tags (tagOf the-type k) h)
+
+  pub not-about-volume : (tagOf the-type k ≡ 0) ⊎ ((tagOf the-type k ≡ 1) ⊎ ((tagOf the-type k ≡ 2) ⊎ (tagOf the-type k ≡ 3))) → 5 ≤ kindFields d k .kind → ⊥
+  not-about-volume h g = omega (arith, kind-by-tag d k, first-tags (tagOf the-type k) h)
 
 module _ (f : Fields) (x y : ℕ) (p : Payload) where
   pub with-value : (v : ℕ) → p ≡ Value v

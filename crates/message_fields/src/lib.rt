@@ -1,4 +1,5 @@
 // Converts a message to its fields as numbers, by its kind, and back.
+ghost use Prim.Native.Nat.{_≤_};
 ghost use mathlib.Core.Path.{_≡_};
 ghost use Rattle.protocol.specs.declared.message.Kind.the-variants.{Grant};
 ghost use Rattle.message_fields.specs.Fields.{row, kindFields, fieldsOf, payloadIn, setKindIn, kindIn, messageIn, sound};
@@ -74,9 +75,41 @@ fn with_lease(f: Fields, volume_expiry: u32, object_expiry: u32, payload: Payloa
     }
 }
 
+// Returns the fields of a kind from 5 on: "OFFER and DROPPED volume, number and epoch." 02, A6: "BATCH (kind 7) with number, epoch and the noted set, bit k
+// for object k, in the version field", "CLEARED (kind 8) with number, epoch and set; in both the object byte names the volume". The last arm is never taken.
+fn volume_fields(client: u8, kind: Kind) -> Fields
+    requires { ⌜ 5 ≤ kindFields client kind .kind ⌝ }
+    ensures { λ r. ⌜ r ≡ kindFields client kind ⌝ }
+{
+    match kind {
+        Kind::Offer {
+            volume,
+            number,
+            epoch,
+        } => without_lease(5, client, volume, number, epoch, 0),
+        Kind::Dropped {
+            volume,
+            number,
+            epoch,
+        } => without_lease(6, client, volume, number, epoch, 0),
+        Kind::Batch {
+            volume,
+            number,
+            epoch,
+            set,
+        } => without_lease(7, client, volume, number, epoch, set),
+        Kind::Cleared {
+            volume,
+            number,
+            epoch,
+            set,
+        } => without_lease(8, client, volume, number, epoch, set),
+        _ => without_lease(0, client, 0, 0, 0, 0),
+    }
+}
+
 // Returns the fields of a message by its kind, "1 to 6 in the order RENEW, GRANT, INVALIDATE, ACK, OFFER, DROPPED": "RENEW has object, number, epoch and
-// version; GRANT every field; INVALIDATE and ACK object, epoch and version; OFFER and DROPPED volume, number and epoch." 02, A6: "BATCH (kind 7) with number,
-// epoch and the noted set, bit k for object k, in the version field", "CLEARED (kind 8) with number, epoch and set; in both the object byte names the volume".
+// version; GRANT every field; INVALIDATE and ACK object, epoch and version; OFFER and DROPPED volume, number and epoch."
 fn kind_fields(client: u8, kind: Kind) -> Fields
     ensures { λ r. ⌜ r ≡ kindFields client kind ⌝ }
 {
@@ -109,28 +142,7 @@ fn kind_fields(client: u8, kind: Kind) -> Fields
             epoch,
             version,
         } => without_lease(4, client, object, 0, epoch, version),
-        Kind::Offer {
-            volume,
-            number,
-            epoch,
-        } => without_lease(5, client, volume, number, epoch, 0),
-        Kind::Dropped {
-            volume,
-            number,
-            epoch,
-        } => without_lease(6, client, volume, number, epoch, 0),
-        Kind::Batch {
-            volume,
-            number,
-            epoch,
-            set,
-        } => without_lease(7, client, volume, number, epoch, set),
-        Kind::Cleared {
-            volume,
-            number,
-            epoch,
-            set,
-        } => without_lease(8, client, volume, number, epoch, set),
+        _ => volume_fields(client, kind),
     }
 }
 
