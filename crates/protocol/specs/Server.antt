@@ -177,6 +177,7 @@ volumesRestarted s t =
 abbrev pub objectsRestarted : Tables → Objects
 objectsRestarted t = withVersion (withValue freshObjects (t .objects .value)) (t .objects .version)
 
+-- 02, A6: "A server restart loses notes."
 unfoldable pub serverRestarted : Setup → Tables → Tables
 serverRestarted s t =
     withHolders (withObjects (withSessions (withVolumes t (volumesRestarted s t)) freshSessions) (objectsRestarted t)) freshHolders

@@ -44,10 +44,11 @@ unreachableAt t d v = getD (t .sessions .unreachable) (byVolume d v) false
 abbrev pub offerAt : Tables → ℕ → ℕ → ℕ
 offerAt t d v = getD (t .sessions .offer) (byVolume d v) 0
 
--- 02, A6: "its list of notes for that volume", and "the batch last sent"
+-- 02, A6: "its list of notes for that volume", as a set
 abbrev pub notesAt : Tables → ℕ → ℕ → ℕ
 notesAt t d v = getD (t .sessions .notes) (byVolume d v) 0
 
+-- the number of "the batch last sent"; 0 is none
 abbrev pub batchAt : Tables → ℕ → ℕ → ℕ
 batchAt t d v = getD (t .sessions .batch) (byVolume d v) 0
 

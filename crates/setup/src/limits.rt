@@ -1,10 +1,11 @@
 // The limits that 01 names ("Tables", "Questions at the gate").
 
-// the most clients, volumes and objects that a setup has; of objects, 02, A6: "objects now end at 28"
+// the most clients and volumes that a setup has
 pub const CLIENTS: usize = 16;
 
 pub const VOLUMES: usize = 8;
 
+// the most objects that it has: "objects now end at 28" (02, A6)
 pub const OBJECTS: usize = 28;
 
 // the places that the tables have for the objects, and for the objects of each client
