@@ -8,11 +8,11 @@ use Rattle.bytes_layout.specs.Number.{bytesOf, fourBytes, length-bytes}
 use Rattle.protocol.specs.declared.setup.Setup.{Setup}
 use Rattle.protocol.specs.declared.step.Step.{Step}
 
--- "setup (48 bytes: dash, volume and object counts, a 0, tv, t, m, 32 volume bytes, unused ones 0)". 02, A6: "d in setup, 1 to 65,535, in the last four
--- volume bytes"
+-- "setup (48 bytes: dash, volume and object counts, a 0, tv, t, m, ..)"
 unfoldable pub setupFront : Setup → List ℕ
 setupFront s = fourBytes (s .clients) (s .volumes) (s .objects) 0 ++ (bytesOf 4 (s .tv) ++ (bytesOf 4 (s .t) ++ bytesOf 4 (s .m)))
 
+-- "32 volume bytes, unused ones 0"; 02, A6: "d in setup, 1 to 65,535, in the last four volume bytes"
 abbrev pub setupBytes : Setup → List ℕ
 setupBytes s = setupFront s ++ (s .volume ++ bytesOf 4 (s .delay))
 
