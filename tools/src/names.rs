@@ -6,7 +6,7 @@ use model::message::{Kind, Message};
 use crate::voice::Voice;
 
 /// The kinds, in the order of their numbers in a frame.
-pub const KINDS: [&str; 6] = ["RENEW", "GRANT", "INVALIDATE", "ACK", "OFFER", "DROPPED"];
+pub const KINDS: [&str; 8] = ["RENEW", "GRANT", "INVALIDATE", "ACK", "OFFER", "DROPPED", "BATCH", "CLEARED"];
 
 pub fn kind(kind: &Kind) -> &'static str {
     KINDS[usize::from(kind.code()) - 1]
@@ -15,7 +15,7 @@ pub fn kind(kind: &Kind) -> &'static str {
 /// Returns the direction of a kind, by its name: `to` a client, or `from` one.
 pub fn way(kind: &str) -> &'static str {
     match kind {
-        "GRANT" | "INVALIDATE" | "OFFER" => "to",
+        "GRANT" | "INVALIDATE" | "OFFER" | "BATCH" => "to",
         _ => "from",
     }
 }
@@ -23,7 +23,7 @@ pub fn way(kind: &str) -> &'static str {
 /// Returns what a kind is about, by its name: an object or a volume.
 pub fn about(kind: &str) -> &'static str {
     match kind {
-        "OFFER" | "DROPPED" => "volume",
+        "OFFER" | "DROPPED" | "BATCH" | "CLEARED" => "volume",
         _ => "object",
     }
 }
@@ -34,6 +34,7 @@ pub fn item(message: &Message) -> u8 {
         Kind::Renew { object, .. } | Kind::Invalidate { object, .. } | Kind::Ack { object, .. } => object,
         Kind::Grant(grant) => grant.object,
         Kind::Offer { volume, .. } | Kind::Dropped { volume, .. } => volume,
+        Kind::Batch(batch) | Kind::Cleared(batch) => batch.volume,
     }
 }
 
@@ -50,6 +51,7 @@ pub fn label(message: &Message) -> String {
             format!("{name} {number}")
         }
         Kind::Grant(grant) => format!("{name} {}", grant.number),
+        Kind::Batch(batch) | Kind::Cleared(batch) => format!("{name} {}", batch.number),
         Kind::Invalidate { object, version, .. } | Kind::Ack { object, version, .. } => {
             format!("{name} object {object} version {version}")
         }
@@ -81,6 +83,9 @@ pub fn fields(message: &Message, voice: &Voice) -> String {
         Kind::Offer { volume, epoch, .. } | Kind::Dropped { volume, epoch, .. } => {
             format!("volume {volume}, epoch {epoch}")
         }
+        Kind::Batch(batch) | Kind::Cleared(batch) => {
+            format!("volume {}, epoch {}, {}", batch.volume, batch.epoch, objects(batch.set))
+        }
         Kind::Grant(grant) => {
             let value = grant.value.map_or("no value".into(), |value| format!("value {value}"));
             let (volume, object) = (voice.ticks(grant.volume_expiry), voice.ticks(grant.object_expiry));
@@ -98,10 +103,20 @@ pub fn whole(message: &Message, voice: &Voice) -> String {
 
 /// Returns "client 1", "clients 0, 2" or "nobody".
 pub fn clients(set: u16) -> String {
-    let numbers: Vec<String> = members(set.into()).map(|client| client.to_string()).collect();
+    listed("client", set.into()).unwrap_or("nobody".into())
+}
+
+/// Returns "object 1", "objects 0, 2" or "no object".
+pub fn objects(set: u32) -> String {
+    listed("object", set).unwrap_or("no object".into())
+}
+
+/// Returns the numbers in a set after the word for them, if there are any.
+fn listed(word: &str, set: u32) -> Option<String> {
+    let numbers: Vec<String> = members(set).map(|number| number.to_string()).collect();
     match numbers.len() {
-        0 => "nobody".into(),
-        1 => format!("client {}", numbers[0]),
-        _ => format!("clients {}", numbers.join(", ")),
+        0 => None,
+        1 => Some(format!("{word} {}", numbers[0])),
+        _ => Some(format!("{word}s {}", numbers.join(", "))),
     }
 }

@@ -56,6 +56,7 @@ fn out_of_range(out: &OutOfRange) -> String {
         Field::VolumeLease => "ticks of a volume lease".into(),
         Field::ObjectLease => "ticks of an object lease".into(),
         Field::Timeout => "ticks of the timeout".into(),
+        Field::Delay => "ticks of the delay".into(),
         Field::VolumeOf(object) => format!("volume of object {object}"),
     };
     match (least, most) {

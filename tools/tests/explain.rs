@@ -94,7 +94,7 @@ fn each_example_tells_why() {
 
 #[test]
 fn refusals_name_what_is_there() {
-    let text = "clients 2 volumes 1 objects 1\nvolume lease 10 object lease 100 timeout 3\nvolume 0 objects 0\n\
+    let text = "clients 2 volumes 1 objects 1\nvolume lease 10 object lease 100 timeout 3\ndelay 1\nvolume 0 objects 0\n\
         restart server\nask client 0 object 0\nread client 2 object 0\ndeliver 1\nkind 77 client 0 object 0 place 0 clock 0 value 0\n";
     let explained = listing(&parse(text.as_bytes()).unwrap());
     let lines: Vec<&str> = explained.lines().skip(2).collect();

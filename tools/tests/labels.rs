@@ -74,6 +74,7 @@ fn longest(message: &mut Message) {
         Kind::Offer { number, epoch, .. } | Kind::Dropped { number, epoch, .. } => {
             (*number, *epoch) = (u32::MAX, u32::MAX)
         }
+        Kind::Batch(batch) | Kind::Cleared(batch) => (batch.number, batch.epoch) = (u32::MAX, u32::MAX),
         Kind::Invalidate { version, epoch, .. } | Kind::Ack { version, epoch, .. } => {
             (*version, *epoch) = (u32::MAX, u32::MAX)
         }
@@ -239,7 +240,10 @@ fn writes_name_whose_lease_fixes_their_end() {
 }
 
 fn receiver(message: &Message) -> String {
-    let from_server = matches!(message.kind, Kind::Grant(_) | Kind::Invalidate { .. } | Kind::Offer { .. });
+    let from_server = matches!(
+        message.kind,
+        Kind::Grant(_) | Kind::Invalidate { .. } | Kind::Offer { .. } | Kind::Batch(_)
+    );
     if from_server {
         format!("client {}", message.client)
     } else {

@@ -72,9 +72,9 @@ fn the_cause_has_the_models_time() {
     assert!(counts.into_iter().all(|count| count > 15), "{counts:?}");
 }
 
-const LONG_OBJECT_LEASES: &str = "volume lease 10 object lease 100 timeout 3";
-const LONG_VOLUME_LEASES: &str = "volume lease 20 object lease 8 timeout 3";
-const EQUAL_LEASES: &str = "volume lease 20 object lease 20 timeout 3";
+const LONG_OBJECT_LEASES: &str = "volume lease 10 object lease 100 timeout 3\ndelay 1";
+const LONG_VOLUME_LEASES: &str = "volume lease 20 object lease 8 timeout 3\ndelay 1";
+const EQUAL_LEASES: &str = "volume lease 20 object lease 20 timeout 3\ndelay 1";
 
 /// Checks what is told about a write of object 0 after these steps. Client 0
 /// holds object 0 from time 0 on.

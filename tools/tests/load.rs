@@ -16,6 +16,7 @@ const TEXT: &str = "\
 note \"the long ride\"
 clients 3 volumes 2 objects 4
 volume lease 10 object lease 100 timeout 3
+delay 1
 volume 0 objects 0 1
 volume 1 objects 2 3
 ";

@@ -65,7 +65,7 @@ fn notes_of_any_characters() {
 #[test]
 fn lines_of_any_words() {
     const SETUP: &str =
-        "dashes 2 regions 1 notices 2\nregion lease 10 notice lease 100 timeout 3\nregion 0 notices 0 1\n";
+        "dashes 2 regions 1 notices 2\nregion lease 10 notice lease 100 timeout 3\ndelay 1\nregion 0 notices 0 1\n";
     const WORDS: &str = "clock read ask write deliver lose double restart kind join client dash object notice value place \
         server GRANT RENEW INVALIDATE ACK OFFER DROPPED to from => done shown ask first completed refused 0 1 2 64 256 # second last 11th volume region =>done";
     const LINES: [&str; 11] = [

@@ -19,6 +19,7 @@ note \"a # in a note\"   # no comment of a step
 clients 2 volumes 1 objects 1
 # About the leases.
 volume lease 10 object lease 100 timeout 3
+delay 1
 volume 0 objects 0
 
 # Both hold it:

@@ -73,7 +73,7 @@ messages under way
 #[test]
 fn marks_offers_requests_and_ends() {
     let text =
-        "clients 2 volumes 2 objects 1\nvolume lease 10 object lease 100 timeout 3\nvolume 1 objects 0\n\
+        "clients 2 volumes 2 objects 1\nvolume lease 10 object lease 100 timeout 3\ndelay 1\nvolume 1 objects 0\n\
         join client 0 object 0\nclock 10\nask client 1 object 0\ndeliver 0\n";
     let ended = run_program(EXPLAIN, &["--tables", "10"], text.as_bytes());
     let output = String::from_utf8(ended.output).unwrap();

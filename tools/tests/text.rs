@@ -7,6 +7,7 @@ use tools::text::{note, parse, print, script, steps, to_file};
 const SETUP: &str = "\
 clients 2 volumes 3 objects 4
 volume lease 10 object lease 100 timeout 3
+delay 1
 volume 0 objects 0 3
 volume 2 objects 1 2
 ";

@@ -15,6 +15,7 @@ const RUNTEXT: &str = env!("CARGO_BIN_EXE_runtext");
 const SETUP: &str = "\
 dashes 2 regions 1 notices 1
 region lease 10 notice lease 100 timeout 3
+delay 1
 region 0 notices 0
 ";
 
@@ -115,7 +116,7 @@ const TICK: &str = "one tick is 250 ms";
 fn the_length_of_a_tick_changes_no_byte() {
     let steps = "\njoin client 0 object 0\nclock 3\nread client 0 object 0\n";
     let plain =
-        "clients 2 volumes 1 objects 1\nvolume lease 10 object lease 100 timeout 3\nvolume 0 objects 0\n";
+        "clients 2 volumes 1 objects 1\nvolume lease 10 object lease 100 timeout 3\ndelay 1\nvolume 0 objects 0\n";
     let canonical = format!("{plain}{TICK}\n{steps}");
     let lines: Vec<&str> = plain.lines().collect();
     for place in 0..=lines.len() {
@@ -162,7 +163,7 @@ fn a_bad_length_of_a_tick_is_told() {
 #[test]
 fn explain_tells_the_time_beside_the_ticks() {
     let text =
-        "clients 1 volumes 1 objects 1\nvolume lease 10 object lease 100 timeout 3\none tick is 1 min\n\
+        "clients 1 volumes 1 objects 1\nvolume lease 10 object lease 100 timeout 3\ndelay 1\none tick is 1 min\n\
         volume 0 objects 0\njoin client 0 object 0\nclock 90\nread client 0 object 0\n";
     let ended = run_program(EXPLAIN, &[], text.as_bytes());
     let explained = String::from_utf8(ended.output).unwrap();

@@ -13,6 +13,7 @@ use tools::text::{parse, print, script};
 const SETUP: &str = "\
 clients 2 volumes 1 objects 2
 volume lease 10 object lease 100 timeout 3
+delay 1
 volume 0 objects 0 1
 ";
 
@@ -118,7 +119,7 @@ fn newer_before_older_needs_no_place() {
 /// An OFFER and a DROPPED are about a volume.
 #[test]
 fn offers_are_told_apart_by_their_volumes() {
-    let setup = "clients 1 volumes 2 objects 2\nvolume lease 10 object lease 100 timeout 3\n\
+    let setup = "clients 1 volumes 2 objects 2\nvolume lease 10 object lease 100 timeout 3\ndelay 1\n\
         volume 0 objects 0\nvolume 1 objects 1\n";
     let asked = "ask client 0 object 0\nask client 0 object 1\ndeliver 0\ndeliver 0\n";
     let last = |line: &str| {

@@ -31,6 +31,7 @@ output, whole or not at all. A text has lines as these, in this order:
   note "two clients, one object"         # or: note hex 00 ff ..; any number of lines
   clients 2 volumes 1 objects 1
   volume lease 10 object lease 100 timeout 3
+  delay 1
   volume 0 objects 0                     # a line for each volume that has objects
 
   read client 0 object 0 => ask first    # what is expected of a step, wherever you like

@@ -18,6 +18,7 @@ pub fn reasons(moment: &Moment, message: &Message) -> Vec<String> {
         Kind::Ack { object, epoch, version } => ack(moment, client, object.into(), epoch, version),
         Kind::Offer { volume, epoch, .. } => offer(moment, client, volume, epoch),
         Kind::Dropped { volume, number, epoch } => dropped(moment, client, volume.into(), number, epoch),
+        Kind::Batch(_) | Kind::Cleared(_) => Vec::new(),
     });
     reasons.extend(sends(moment));
     reasons.extend(completed(moment));

@@ -44,6 +44,9 @@ impl About {
             Kind::Offer { volume, .. } | Kind::Dropped { volume, .. } => {
                 About { volume: Some(volume.into()), ..client }
             }
+            Kind::Batch(batch) | Kind::Cleared(batch) => {
+                About { volume: Some(batch.volume.into()), ..client }
+            }
         }
     }
 

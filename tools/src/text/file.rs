@@ -33,8 +33,9 @@ fn written(call: impl FnOnce(&mut [u8]) -> Result<usize, Refused>) -> Result<Vec
 }
 
 fn setup_bytes(setup: &Setup) -> [u8; SETUP_BYTES] {
-    let Setup { clients, volumes, objects, volume_lease, object_lease, timeout, volume_of } = *setup;
-    gevtsomi::Setup { clients, volumes, objects, volume_lease, object_lease, timeout, volume_of }.bytes()
+    let Setup { clients, volumes, objects, volume_lease, object_lease, timeout, delay, volume_of } = *setup;
+    gevtsomi::Setup { clients, volumes, objects, volume_lease, object_lease, timeout, delay, volume_of }
+        .bytes()
 }
 
 fn record(step: &Step) -> [u8; STEP_BYTES] {

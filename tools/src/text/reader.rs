@@ -24,6 +24,7 @@ enum Part {
     Note,
     Counts,
     Ticks,
+    Delay,
     Volumes,
     Steps,
 }
@@ -107,24 +108,26 @@ impl Reader {
         match self.part {
             Part::Counts => self.setup.read_counts(&mut words),
             Part::Ticks => self.setup.read_ticks(&mut words),
+            Part::Delay => self.setup.read_delay(&mut words),
             Part::Volumes => self.setup.read_volume(&mut words),
             _ => note::parse(&line.trim_start()["note".len()..], &mut self.note),
         }
     }
 
     /// Returns the line's part, if it may come now: parts come in order, and
-    /// counts and ticks have one line each. Whether one is missing is checked
+    /// counts, ticks and delay have one line each. Whether one is missing is checked
     /// at the end, so that a misspelt line is reported once.
     fn next_part(&self, first: &str, line: &str) -> Result<Part, Wrong> {
         let expected = match self.part {
             Part::Note => format!("a note or {}", setup::COUNTS),
             Part::Counts => setup::TICKS.into(),
-            Part::Ticks => setup::VOLUME.into(),
+            Part::Ticks => setup::DELAY.into(),
+            Part::Delay => setup::VOLUME.into(),
             Part::Volumes if self.last == Part::Volumes => setup::VOLUME.into(),
             Part::Volumes => format!("{} or {}", setup::VOLUME, steps::A_STEP),
             Part::Steps => steps::A_STEP.into(),
         };
-        let once = [Part::Counts, Part::Ticks].contains(&self.part);
+        let once = [Part::Counts, Part::Ticks, Part::Delay].contains(&self.part);
         match part_of(first, line) {
             Some(part) if part > self.last => Err(Wrong::new(quoted(first), NO_STEP)),
             Some(part) if part > self.part || part == self.part && !once => Ok(part),
@@ -193,6 +196,7 @@ fn part_of(first: &str, line: &str) -> Option<Part> {
         "clients" => Some(Part::Counts),
         "volume" if line.split_whitespace().nth(1) == Some("lease") => Some(Part::Ticks),
         "volume" => Some(Part::Volumes),
+        "delay" => Some(Part::Delay),
         _ if first.split('"').next() == Some("note") => Some(Part::Note),
         _ if actions::FIRST_WORDS.contains(&first) => Some(Part::Steps),
         _ => None,

@@ -1,20 +1,22 @@
-//! Setup lines, read and written: the counts, the ticks, then each volume's
-//! objects.
+//! Setup lines, read and written: the counts, the ticks, the delay, then each
+//! volume's objects.
 
-use model::limits::{CLIENTS, OBJECTS, OBJECT_LEASE, TIMEOUT, VOLUMES, VOLUME_LEASE};
+use model::limits::{CLIENTS, DELAY as DELAY_TICKS, OBJECTS, OBJECT_LEASE, TIMEOUT, VOLUMES, VOLUME_LEASE};
 use model::setup::Setup;
 
 use super::words::{Words, Wrong};
 
 pub const COUNTS: &str = "`clients C volumes V objects O`";
 pub const TICKS: &str = "`volume lease TV object lease T timeout M`";
+pub const DELAY: &str = "`delay D`";
 pub const VOLUME: &str = "`volume V objects O ...`";
 
 pub fn lines(setup: &Setup) -> Vec<String> {
-    let Setup { clients, volumes, objects, volume_lease, object_lease, timeout, .. } = setup;
+    let Setup { clients, volumes, objects, volume_lease, object_lease, timeout, delay, .. } = setup;
     let mut lines = vec![
         format!("clients {clients} volumes {volumes} objects {objects}"),
         format!("volume lease {volume_lease} object lease {object_lease} timeout {timeout}"),
+        format!("delay {delay}"),
     ];
     for volume in 0..usize::from(*volumes) {
         let inside = (0..usize::from(*objects)).filter(|&object| setup.volume(object) == volume);
@@ -31,6 +33,7 @@ pub fn lines(setup: &Setup) -> Vec<String> {
 pub struct Partial {
     pub counts: Option<(u8, u8, u8)>,
     pub ticks: Option<(u32, u32, u32)>,
+    pub delay: Option<u32>,
     volume_of: [Option<u8>; OBJECTS],
 }
 
@@ -59,6 +62,14 @@ impl Partial {
         Ok(())
     }
 
+    pub fn read_delay(&mut self, words: &mut Words) -> Result<(), Wrong> {
+        words.word("delay")?;
+        let delay = words.number("ticks", 1, DELAY_TICKS.into())? as u32;
+        words.end()?;
+        self.delay = Some(delay);
+        Ok(())
+    }
+
     /// Reads a volume's objects. After a bad line of counts the largest counts
     /// are assumed, so that one mistake is reported once.
     pub fn read_volume(&mut self, words: &mut Words) -> Result<(), Wrong> {
@@ -84,11 +95,19 @@ impl Partial {
         let missing = |line: &str| Wrong::new("no such line before", line);
         let (clients, volumes, objects) = self.counts.ok_or_else(|| missing(COUNTS))?;
         let (volume_lease, object_lease, timeout) = self.ticks.ok_or_else(|| missing(TICKS))?;
+        let delay = self.delay.ok_or_else(without_delay)?;
         let mut volume_of = [0; OBJECTS];
         for (object, volume) in volume_of.iter_mut().enumerate().take(objects.into()) {
             let without = || Wrong::new(format!("no volume of object {object} before"), VOLUME);
             *volume = self.volume_of[object].ok_or_else(without)?;
         }
-        Ok(Setup { clients, volumes, objects, volume_lease, object_lease, timeout, volume_of })
+        Ok(Setup { clients, volumes, objects, volume_lease, object_lease, timeout, delay, volume_of })
     }
+}
+
+/// Returns what a text from before delayed invalidations is told: the line to
+/// add.
+fn without_delay() -> Wrong {
+    let add = format!("the line `delay 1`, or more ticks up to {DELAY_TICKS}, after the line with `timeout`");
+    Wrong::new("no delay before", add)
 }
