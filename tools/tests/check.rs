@@ -67,9 +67,9 @@ fn every_wrong_expectation_is_found() {
 fn every_failure_is_told_in_words() {
     let text = TEXT.replace("ask first", "shown 7").replace("completed 1", "done");
     let failures = [
-        "line 10, step 12, clock 10, read client 0 object 0: FAILED: expected shown 7, found ask first: volume \
+        "line 11, step 12, clock 10, read client 0 object 0: FAILED: expected shown 7, found ask first: volume \
          lease ended at 10",
-        "line 11, step 13, clock 11, clock 11: FAILED: expected done, found completed 1 write: object 0 becomes 7, \
+        "line 12, step 13, clock 11, clock 11: FAILED: expected done, found completed 1 write: object 0 becomes 7, \
          version 2, latest end 10 passed, client 0 marked unreachable",
     ];
     let told = failures.map(String::from).to_vec();
@@ -111,7 +111,7 @@ fn the_program_gives_a_verdict_for_each_text() {
     let output = String::from_utf8(wrong.output).unwrap();
     assert!(
         output.starts_with(
-            "standard input: 1 of 5 expectations failed\nstandard input: line 6, step 8, clock 0, "
+            "standard input: 1 of 5 expectations failed\nstandard input: line 7, step 8, clock 0, "
         ),
         "{output}"
     );
@@ -125,7 +125,7 @@ fn the_program_gives_a_verdict_for_each_text() {
 fn no_steps_are_not_counted() {
     let none = run_program(RUNTEXT, &["check", "nowhere"], b"");
     assert!(none.errors.starts_with("cannot read nowhere: ") && none.errors.lines().count() == 1);
-    let setup: String = TEXT.lines().take(3).map(|line| format!("{line}\n")).collect();
+    let setup: String = TEXT.lines().take(4).map(|line| format!("{line}\n")).collect();
     let empty = run_program(RUNTEXT, &["check"], setup.as_bytes());
     assert_eq!((empty.status, empty.errors.as_str()), (0, ""));
     assert_eq!(run_program(RUNTEXT, &["encode"], setup.as_bytes()).errors, "");

@@ -48,7 +48,7 @@ fn a_bad_line_leaves_nothing_written() {
     assert_eq!((bad.status, bad.output.len()), (1, 0));
     assert_eq!(
         bad.errors,
-        "line 20: found `it`, expected a message as `GRANT to client 0`, or a place in the queue from 0 to 255\n"
+        "line 21: found `it`, expected a message as `GRANT to client 0`, or a place in the queue from 0 to 255\n"
     );
 }
 

@@ -61,7 +61,7 @@ fn the_short_lines_of_documents_are_lines() {
     let begins = |line: &&str| ["one tick", "deliver ", "lose "].iter().any(|begin| line.starts_with(begin));
     let lines: Vec<&str> = quoted.filter(begins).collect();
     assert!(lines.len() >= 4, "{lines:?}");
-    let setup: String = first_run().lines().take(4).map(|line| format!("{line}\n")).collect();
+    let setup: String = first_run().lines().take(5).map(|line| format!("{line}\n")).collect();
     for line in lines.iter().filter(|line| !line.ends_with(" P")) {
         assert!(script(format!("{setup}{line}\n").as_bytes()).is_ok(), "{line}");
     }

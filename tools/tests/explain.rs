@@ -114,9 +114,9 @@ fn the_program_takes_a_run_file_or_its_text() {
     let (by_file, by_text) = (run_program(EXPLAIN, &[], &file), run_program(EXPLAIN, &[], text.as_bytes()));
     assert_eq!((by_file.status, by_text.status), (0, 0));
     assert_eq!(by_file.errors, "15 steps, 1 refused: 1 with 4 (a time out of range)\n");
-    // The first step of the text itself is on line 5.
+    // The first step of the text itself is on line 6.
     let lined =
-        |(place, line): (usize, &str)| line.replacen(" (", &format!(" (line {}, ", place + 5), 1) + "\n";
+        |(place, line): (usize, &str)| line.replacen(" (", &format!(" (line {}, ", place + 6), 1) + "\n";
     let expected: String =
         String::from_utf8(by_file.output.clone()).unwrap().lines().enumerate().map(lined).collect();
     assert_eq!(String::from_utf8(by_text.output).unwrap(), expected);

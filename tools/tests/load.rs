@@ -67,12 +67,12 @@ fn a_step_is_a_bad_line_beside_others() {
     assert_eq!(
         bad.errors,
         "line 3: found `61`, expected ticks from 1 to 60\n\
-         line 7: found `clock`, expected no step: the seed gives the steps\n\
-         line 9: found `restart`, expected no step: the seed gives the steps\n\
-         line 10: found `2`, expected a volume from 0 to 1\n"
+         line 8: found `clock`, expected no step: the seed gives the steps\n\
+         line 10: found `restart`, expected no step: the seed gives the steps\n\
+         line 11: found `2`, expected a volume from 0 to 1\n"
     );
     let unknown = load(&["--seed", "1", "--steps", "20"], &(TEXT.to_string() + "x\n"));
-    assert_eq!(unknown.errors, "line 6: found `x`, expected `volume V objects O ...`\n");
+    assert_eq!(unknown.errors, "line 7: found `x`, expected `volume V objects O ...`\n");
     let empty = load(&["--seed", "1", "--steps", "20"], "");
     assert_eq!(empty.errors, "line 1: found no such line before, expected `clients C volumes V objects O`\n");
 }

@@ -47,23 +47,23 @@ fn explain_keeps_lines_words_and_comments() {
 # About the leases.
 # Both hold it:
 # client 0
-1 (line 11, clock 0) join client 0 object 0, ask client 0 object 0: done: sends RENEW 1 from client 0 (object 0, \
+1 (line 12, clock 0) join client 0 object 0, ask client 0 object 0: done: sends RENEW 1 from client 0 (object 0, \
 epoch 0, version 0) at place 0 # first
-2 (line 11, clock 0) join client 0 object 0, deliver 0: done: RENEW 1";
+2 (line 12, clock 0) join client 0 object 0, deliver 0: done: RENEW 1";
     let explained = told(&scenario(TEXT));
     assert!(explained.starts_with(expected), "{explained}");
     let expected = "\
-8 (line 12, clock 0) write object 0 value 7: done, as expected: stands, latest end 10 by the volume lease of client \
+8 (line 13, clock 0) write object 0 value 7: done, as expected: stands, latest end 10 by the volume lease of client \
 0; waits for client 0; sends INVALIDATE object 0 version 2 to client 0 at place 0
 #
 # Lost on the way.
-9 (line 15, clock 0) lose INVALIDATE to client 0 at place 0: done: INVALIDATE object 0 version 2 to client 0 (epoch \
+9 (line 16, clock 0) lose INVALIDATE to client 0 at place 0: done: INVALIDATE object 0 version 2 to client 0 (epoch \
 1) is lost
-10 (line 16, clock 0) read client 0 object 0: FAILED: expected shown 7, found shown 0: version 1; volume lease to \
+10 (line 17, clock 0) read client 0 object 0: FAILED: expected shown 7, found shown 0: version 1; volume lease to \
 10; object lease to 100 # not yet
-11 (line 17, clock 11) clock 11: completed 1 write, as expected: object 0 becomes 7, version 2, latest end 10 \
+11 (line 18, clock 11) clock 11: completed 1 write, as expected: object 0 becomes 7, version 2, latest end 10 \
 passed, client 0 marked unreachable
-12 (line 18, clock 11) ask client 1 object 0: done: sends RENEW 1 from client 1 (object 0, epoch 0, version 0) at \
+12 (line 19, clock 11) ask client 1 object 0: done: sends RENEW 1 from client 1 (object 0, epoch 0, version 0) at \
 place 0
 # The end.
 still under way: 0 RENEW 1 from client 1 object 0
@@ -76,7 +76,7 @@ still under way: 0 RENEW 1 from client 1 object 0
 fn each_step_knows_its_line() {
     let scenario = scenario(TEXT);
     let numbers: Vec<usize> = (1..=12).map(|step| scenario.line(step).unwrap().number).collect();
-    assert_eq!(numbers, [11, 11, 11, 11, 11, 11, 11, 12, 15, 16, 17, 18]);
+    assert_eq!(numbers, [12, 12, 12, 12, 12, 12, 12, 13, 16, 17, 18, 19]);
     assert_eq!((scenario.together(1), scenario.together(7), scenario.together(9)), (1..=7, 1..=7, 9..=9));
     assert_eq!((1..=12).filter(|&step| scenario.joins(step)).collect::<Vec<_>>(), [1, 2, 3, 4, 5, 6, 7]);
     let expected: Vec<(usize, bool)> =

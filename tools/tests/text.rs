@@ -16,7 +16,7 @@ fn troubles(text: &str) -> Vec<String> {
     parse(text.as_bytes()).unwrap_err().iter().map(Trouble::to_string).collect()
 }
 
-/// Returns the only trouble of a text whose setup is right and takes four
+/// Returns the only trouble of a text whose setup is right and takes five
 /// lines.
 fn trouble(line: &str) -> String {
     let troubles = troubles(&format!("{SETUP}{line}\n"));
@@ -57,7 +57,7 @@ fn every_expectation_and_short_form_both_ways() {
         "clock 10 => done",
         "read client 0 object 3 => shown 18446744073709551615",
         "read client 0 object 3 => ask first",
-        "write object 3 value 7 => completed 32",
+        "write object 3 value 7 => completed 28",
         "deliver 9 => refused 3",
         "deliver RENEW from client 0",
         "lose GRANT to client 255 => done",
@@ -65,6 +65,8 @@ fn every_expectation_and_short_form_both_ways() {
         "deliver ACK from client 1 => completed 1",
         "deliver OFFER to client 1",
         "lose DROPPED from client 1",
+        "deliver BATCH to client 1",
+        "double last CLEARED from client 0 volume 2",
         "deliver INVALIDATE to client 0 object 1",
         "lose second GRANT to client 0 => done",
         "double last OFFER to client 1 volume 2",
@@ -88,7 +90,7 @@ fn the_papers_words_are_understood() {
     let paper = paper.replace("dashs", "dashes");
     assert!(paper.contains("dashes 2 regions 3 notices 4\nregion lease 10 notice lease 100"));
     assert_eq!(script(paper.as_bytes()).unwrap().print(), plain);
-    assert_eq!(trouble("read dash 0 dash 3"), "line 5: found `dash`, expected `object`");
+    assert_eq!(trouble("read dash 0 dash 3"), "line 6: found `dash`, expected `object`");
 }
 
 #[test]
@@ -116,7 +118,7 @@ fn an_arrow_needs_no_space() {
         assert_eq!(script(text.as_bytes()).unwrap().print(), spaced);
     }
     assert_eq!(trouble("clock 1=>"), trouble("clock 1 =>"));
-    assert_eq!(trouble("clock=>done"), "line 5: found `=>`, expected a time from 0 to 4294967295");
+    assert_eq!(trouble("clock=>done"), "line 6: found `=>`, expected a time from 0 to 4294967295");
 }
 
 #[test]
@@ -184,7 +186,7 @@ fn a_bad_step_is_told() {
         ("lose ACK client 0", "found `client`, expected `from`"),
         (
             "deliver second",
-            "found the end of the line, expected a message: RENEW, GRANT, INVALIDATE, ACK, OFFER, DROPPED",
+            "found the end of the line, expected a message: RENEW, GRANT, INVALIDATE, ACK, OFFER, DROPPED, BATCH, CLEARED",
         ),
         ("lose last 3", "found `3`, expected a message: RENEW, "),
         (
@@ -192,6 +194,9 @@ fn a_bad_step_is_told() {
             "found `65th`, expected a message as `GRANT to client 0`, or a place",
         ),
         ("deliver GRANT to client 0 volume 0", "found `volume`, expected `object`"),
+        ("deliver BATCH from client 0", "found `from`, expected `to`"),
+        ("lose CLEARED to client 0", "found `to`, expected `from`"),
+        ("deliver BATCH to client 0 object 0", "found `object`, expected `volume`"),
         (
             "deliver GRANT to client 0 object 256",
             "found `256`, expected a number of the object from 0 to 255",
@@ -199,16 +204,16 @@ fn a_bad_step_is_told() {
         ("deliver grant to client 0", "found `grant`, expected a message as `GRANT to client 0`, or a place"),
         ("join client 0 object 0 => done", "found `=>`, expected the end of the line"),
         ("clock 1 =>", "found the end of the line, expected `done`, `shown V`, `ask first`, "),
-        ("clock 1 => completed 0", "found `0`, expected a number of writes from 1 to 32"),
+        ("clock 1 => completed 0", "found `0`, expected a number of writes from 1 to 28"),
         ("clock 1 => refused 7", "found `7`, expected a refusal's number from 1 to 6"),
         ("clock 1 => ask last", "found `last`, expected `first`"),
         ("clock 1 => done 1", "found `1`, expected the end of the line"),
     ] {
         let told = trouble(line);
-        assert!(told.starts_with(&format!("line 5: {wrong}")), "{told}");
+        assert!(told.starts_with(&format!("line 6: {wrong}")), "{told}");
     }
-    assert_eq!(trouble("\nclock 4 5"), format!("line 6: found `5`, {end}"));
-    assert_eq!(trouble("restart server 1"), format!("line 5: found `1`, {end}"));
+    assert_eq!(trouble("\nclock 4 5"), format!("line 7: found `5`, {end}"));
+    assert_eq!(trouble("restart server 1"), format!("line 6: found `1`, {end}"));
 }
 
 #[test]
@@ -220,13 +225,21 @@ fn a_bad_note_or_setup_is_told() {
     assert_eq!(first("note hex 0 11"), "line 1: found `0`, expected two hex digits");
     assert_eq!(first("note hex +1"), "line 1: found `+1`, expected two hex digits");
     assert_eq!(first("note text"), "line 1: found `text`, expected text in quotes, or `hex` and bytes");
-    assert_eq!(trouble("note \"late\"").split(',').next(), Some("line 5: found `note`"));
-    assert_eq!(trouble("volume 3 objects 0"), "line 5: found `3`, expected a volume from 0 to 2");
-    assert!(trouble("volume 1 objects 3").starts_with("line 5: found object 3 again, after volume 0"));
+    assert_eq!(trouble("note \"late\"").split(',').next(), Some("line 6: found `note`"));
+    assert_eq!(trouble("volume 3 objects 0"), "line 6: found `3`, expected a volume from 0 to 2");
+    assert!(trouble("volume 1 objects 3").starts_with("line 6: found object 3 again, after volume 0"));
     let bad = SETUP.replace("clients 2", "clients 17");
     assert_eq!(troubles(&bad), ["line 1: found `17`, expected a number of clients from 1 to 16"]);
     let bad = SETUP.replace("timeout 3", "timeout 61");
     assert_eq!(troubles(&bad), ["line 2: found `61`, expected ticks from 1 to 60"]);
+    for delay in ["0", "65536"] {
+        let bad = SETUP.replace("delay 1", &format!("delay {delay}"));
+        assert_eq!(troubles(&bad), [format!("line 3: found `{delay}`, expected ticks from 1 to 65535")]);
+    }
+    let bad = SETUP.replace("delay 1", "delay 1\ndelay 2");
+    assert_eq!(troubles(&bad), ["line 4: found `delay`, expected it once, after the line with `timeout`"]);
+    let late = SETUP.replace("delay 1\n", "") + "delay 1\n";
+    assert_eq!(troubles(&late), ["line 5: found `delay`, expected it once, after the line with `timeout`"]);
 }
 
 #[test]
@@ -236,9 +249,13 @@ fn a_missing_line_is_told_at_the_first_step() {
         let left = [&lines[..place], &lines[place + 1..], &["clock 1", "clock 2"]].concat();
         troubles(&left.join("\n"))
     };
-    assert_eq!(without(0), ["line 4: found no such line before, expected `clients C volumes V objects O`"]);
-    assert!(without(1)[0].starts_with("line 4: found no such line before, expected `volume lease"));
-    assert_eq!(without(3), ["line 4: found no volume of object 1 before, expected `volume V objects O ...`"]);
+    assert_eq!(without(0), ["line 5: found no such line before, expected `clients C volumes V objects O`"]);
+    assert!(without(1)[0].starts_with("line 5: found no such line before, expected `volume lease"));
+    assert_eq!(
+        without(2),
+        ["line 5: found no delay before, expected the line `delay 1`, or more ticks up to 65535, after the line with `timeout`"]
+    );
+    assert_eq!(without(4), ["line 5: found no volume of object 1 before, expected `volume V objects O ...`"]);
     assert_eq!(troubles("").len(), 1);
 }
 
@@ -246,7 +263,7 @@ fn a_missing_line_is_told_at_the_first_step() {
 fn every_bad_line_is_told_once() {
     let text = format!("{SETUP}clock\nclock 1\nread\n").replace("lease 100", "leese 100");
     let lines: Vec<usize> = parse(text.as_bytes()).unwrap_err().iter().map(|trouble| trouble.line).collect();
-    assert_eq!(lines, [2, 5, 7]);
+    assert_eq!(lines, [2, 6, 8]);
 }
 
 #[test]
@@ -262,14 +279,14 @@ fn bytes_that_are_no_text_are_told() {
 fn the_file_keeps_its_limits() {
     let steps = |count: usize| format!("{SETUP}{}", "clock 0\n".repeat(count));
     assert_eq!(parse(steps(4_000).as_bytes()).unwrap().steps.len(), 4_000);
-    assert_eq!(troubles(&steps(4_001)), ["line 4005: found step 4001, expected at most 4000 steps"]);
+    assert_eq!(troubles(&steps(4_001)), ["line 4006: found step 4001, expected at most 4000 steps"]);
     let noted = |len: usize| format!("note \"{}\"\n{SETUP}", "n".repeat(len));
     assert_eq!(to_file(&parse(noted(65_480).as_bytes()).unwrap()).len(), 65_536);
     assert!(troubles(&noted(65_481))[0].contains("found a note of 65481 bytes, expected at most 65480"));
     assert_eq!(
         troubles(&(noted(65_470) + "clock 0\n")),
-        ["line 6: found step 1 after a note of 65470 bytes, expected a note of at most 65464 bytes with so many steps"]
+        ["line 7: found step 1 after a note of 65470 bytes, expected a note of at most 65464 bytes with so many steps"]
     );
     let joins = format!("{}{}", steps(3_999), "join client 0 object 0\n");
-    assert_eq!(troubles(&joins), ["line 4004: found step 4001, expected at most 4000 steps"]);
+    assert_eq!(troubles(&joins), ["line 4005: found step 4001, expected at most 4000 steps"]);
 }

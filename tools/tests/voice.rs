@@ -60,9 +60,9 @@ fn the_first_word_of_the_setup_decides() {
         Vocabulary::Field
     );
     let read = told(&scenario(&format!("{SETUP}read client 0 notice 0\n")));
-    assert_eq!(read, "1 (line 4, clock 0) read client 0 notice 0: ask first: no copy; no region lease\n");
+    assert_eq!(read, "1 (line 5, clock 0) read client 0 notice 0: ask first: no copy; no region lease\n");
     let read = told(&scenario(&format!("{mixed}read dash 0 notice 0\n")));
-    assert_eq!(read, "1 (line 4, clock 0) read dash 0 notice 0: ask first: no copy; no volume lease\n");
+    assert_eq!(read, "1 (line 5, clock 0) read dash 0 notice 0: ask first: no copy; no volume lease\n");
 }
 
 /// Failures, bad lines, what cannot be met and the count of refused steps.
@@ -76,19 +76,19 @@ fn check_answers_in_the_users_words() {
     let (output, errors) = check("read dash 0 notice 0 => shown 1\nread dash 9 notice 0\n");
     assert_eq!(
         output.lines().last().unwrap(),
-        "standard input: line 4, step 1, clock 0, read dash 0 notice 0: FAILED: expected shown 1, found ask first: no \
+        "standard input: line 5, step 1, clock 0, read dash 0 notice 0: FAILED: expected shown 1, found ask first: no \
          copy; no region lease"
     );
     assert_eq!(errors, "2 steps, 1 refused: 1 with 3 (no such dash, notice or place)\n");
     assert_eq!(
         check("ask dash 0 notice 0\nlose OFFER to dash 0\n").1,
-        "line 5: found no OFFER to dash 0 under way, expected one that is: 0 RENEW 1 from dash 0 notice 0\n\
+        "line 6: found no OFFER to dash 0 under way, expected one that is: 0 RENEW 1 from dash 0 notice 0\n\
          1 step, none refused\n"
     );
-    assert_eq!(check("read dash 0 client 0\n").1, "line 4: found `client`, expected `notice`\n");
+    assert_eq!(check("read dash 0 client 0\n").1, "line 5: found `client`, expected `notice`\n");
     assert_eq!(
         check("region 0 notices 0\n").1,
-        "line 4: found notice 0 again, after region 0, expected a notice from 0 to 0, each in one region\n"
+        "line 5: found notice 0 again, after region 0, expected a notice from 0 to 0, each in one region\n"
     );
     let misspelt = run_program(RUNTEXT, &["check"], SETUP.replace("dashes", "dashs").as_bytes());
     assert_eq!(
@@ -142,20 +142,20 @@ fn a_bad_length_of_a_tick_is_told() {
         troubles[0].to_string()
     };
     for (line, told) in [
-        ("one tick is s", "line 4: found `s`, expected a number of units from 1 to 4294967295"),
-        ("one tick is 0 s", "line 4: found `0`, expected a number of units from 1 to 4294967295"),
-        ("one tick is 1", "line 4: found the end of the line, expected `ms`, `s`, `min` or `h`"),
-        ("one tick is 1 second", "line 4: found `second`, expected `ms`, `s`, `min` or `h`"),
-        ("one tick is 1 s => done", "line 4: found `=>`, expected the end of the line"),
-        ("one tick takes 1 s", "line 4: found `takes`, expected `is`"),
+        ("one tick is s", "line 5: found `s`, expected a number of units from 1 to 4294967295"),
+        ("one tick is 0 s", "line 5: found `0`, expected a number of units from 1 to 4294967295"),
+        ("one tick is 1", "line 5: found the end of the line, expected `ms`, `s`, `min` or `h`"),
+        ("one tick is 1 second", "line 5: found `second`, expected `ms`, `s`, `min` or `h`"),
+        ("one tick is 1 s => done", "line 5: found `=>`, expected the end of the line"),
+        ("one tick takes 1 s", "line 5: found `takes`, expected `is`"),
         (
             "one tick is 1 s\none tick is 1 s",
-            "line 5: found a second length of a tick, expected `one tick is N s` once",
+            "line 6: found a second length of a tick, expected `one tick is N s` once",
         ),
     ] {
         assert_eq!(trouble(line), told);
     }
-    assert!(trouble("clock 1\none tick is 1 s").starts_with("line 5: found `one`, expected a step: "));
+    assert!(trouble("clock 1\none tick is 1 s").starts_with("line 6: found `one`, expected a step: "));
 }
 
 /// For every run: wherever a time is given in ticks, it is given in its unit,
@@ -167,7 +167,7 @@ fn explain_tells_the_time_beside_the_ticks() {
         volume 0 objects 0\njoin client 0 object 0\nclock 90\nread client 0 object 0\n";
     let ended = run_program(EXPLAIN, &[], text.as_bytes());
     let explained = String::from_utf8(ended.output).unwrap();
-    let last = "9 (line 7, clock 90 = 1 h 30 min) read client 0 object 0: ask first: volume lease ended at 10 = 10 min\n";
+    let last = "9 (line 8, clock 90 = 1 h 30 min) read client 0 object 0: ask first: volume lease ended at 10 = 10 min\n";
     assert!(explained.ends_with(last), "{explained}");
     for number in 0..120 {
         let scenario = scenario(&format!("{TICK}\n{}", print(&run(43, number))));

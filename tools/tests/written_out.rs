@@ -21,7 +21,7 @@ volume 0 objects 0 1
 fn steps(lines: &str) -> Vec<String> {
     let run = parse(format!("{SETUP}{lines}").as_bytes());
     let run = run.unwrap_or_else(|troubles| panic!("{}", troubles[0]));
-    print(&run).lines().skip(4).map(String::from).collect()
+    print(&run).lines().skip(5).map(String::from).collect()
 }
 
 fn trouble(lines: &str) -> String {
@@ -44,7 +44,7 @@ fn a_join_is_what_it_takes() {
 
 #[test]
 fn a_join_that_cannot_work_says_why() {
-    let stopped = "line 6: found the join stopped at step ";
+    let stopped = "line 7: found the join stopped at step ";
     let end = ", expected a step that leads to a GRANT";
     assert_eq!(
         trouble("join client 0 object 0\nwrite object 0 value 7\njoin client 1 object 0\n"),
@@ -101,7 +101,7 @@ fn one_of_several_messages_is_taken() {
         ("last GRANT to client 0", "no last GRANT to client 0 under way, "),
     ] {
         let trouble = trouble(&format!("{asks}lose {message}\n"));
-        assert!(trouble.starts_with(&format!("line 9: found {told}")), "{trouble}");
+        assert!(trouble.starts_with(&format!("line 10: found {told}")), "{trouble}");
     }
 }
 
@@ -129,7 +129,7 @@ fn offers_are_told_apart_by_their_volumes() {
     assert_eq!(last("lose OFFER to client 0 volume 1").unwrap(), Step::lose(1));
     assert_eq!(
         last("lose OFFER to client 0 object 1").unwrap_err()[0].to_string(),
-        "line 9: found `object`, expected `volume`"
+        "line 10: found `object`, expected `volume`"
     );
 }
 
@@ -137,11 +137,11 @@ fn offers_are_told_apart_by_their_volumes() {
 fn without_such_a_message_those_under_way_are_told() {
     assert_eq!(
         trouble("deliver GRANT to client 0\n"),
-        "line 4: found no GRANT to client 0 under way, expected one, but no message is under way"
+        "line 5: found no GRANT to client 0 under way, expected one, but no message is under way"
     );
     assert_eq!(
         trouble("ask client 0 object 0\nask client 1 object 0\ndeliver RENEW from client 0\nlose RENEW from client 0\n"),
-        "line 7: found no RENEW from client 0 under way, expected one that is: 0 RENEW 1 from client 1 object 0, \
+        "line 8: found no RENEW from client 0 under way, expected one that is: 0 RENEW 1 from client 1 object 0, \
          1 OFFER 1 to client 0 volume 0"
     );
 }

@@ -131,6 +131,7 @@ impl Reader {
         match part_of(first, line) {
             Some(part) if part > self.last => Err(Wrong::new(quoted(first), NO_STEP)),
             Some(part) if part > self.part || part == self.part && !once => Ok(part),
+            Some(Part::Delay) => Err(Wrong::new(quoted(first), setup::DELAY_PLACE)),
             _ => Err(Wrong::new(quoted(first), expected)),
         }
     }

@@ -9,6 +9,7 @@ use super::words::{Words, Wrong};
 pub const COUNTS: &str = "`clients C volumes V objects O`";
 pub const TICKS: &str = "`volume lease TV object lease T timeout M`";
 pub const DELAY: &str = "`delay D`";
+pub const DELAY_PLACE: &str = "it once, after the line with `timeout`";
 pub const VOLUME: &str = "`volume V objects O ...`";
 
 pub fn lines(setup: &Setup) -> Vec<String> {
