@@ -1,5 +1,7 @@
 //! Takes a command's arguments apart: options first; what is left are files.
 
+use std::fmt::Display;
+use std::ops::RangeInclusive;
 use std::str::FromStr;
 
 use crate::command::Failure;
@@ -46,11 +48,16 @@ impl Arguments {
     }
 
     /// Takes out `name NUMBER` and returns the number, which must be there and
-    /// fit in 32 bits.
-    pub fn needed(&mut self, name: &str) -> Result<u32, Failure> {
-        let expected = format!("a number from 0 to {}", u32::MAX);
-        let missing = || Failure::Usage(format!("{name}: found nothing, expected {expected}"));
-        self.number(name, &expected)?.ok_or_else(missing)
+    /// in this range.
+    pub fn needed(&mut self, name: &str, range: RangeInclusive<u32>) -> Result<u32, Failure> {
+        let expected = format!("a number from {} to {}", range.start(), range.end());
+        let wrong =
+            |found: &dyn Display| Failure::Usage(format!("{name}: found {found}, expected {expected}"));
+        match self.number(name, &expected)? {
+            None => Err(wrong(&"nothing")),
+            Some(number) if range.contains(&number) => Ok(number),
+            Some(number) => Err(wrong(&number)),
+        }
     }
 
     pub fn flag(&mut self, name: &str) -> bool {

@@ -27,5 +27,6 @@ pub mod text;
 pub mod tick;
 pub mod timeline;
 pub mod trace;
+pub mod upgrade;
 pub mod vocabulary;
 pub mod voice;

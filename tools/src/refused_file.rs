@@ -2,12 +2,16 @@
 //! none.
 
 use gevtsomi::Refused;
-use model::limits::{BAD_FILE, FILE_BYTES, STEPS};
+use model::limits::{BAD_FILE, FILE_BYTES, OBJECTS, STEPS};
 use model::runfile::{distance, Fault};
 use model::setup::{Field, OutOfRange};
 use model::step_record::Step;
 
 use crate::text::steps::line;
+
+/// The most objects of a file from before delayed invalidations, whose last
+/// four volume bytes were not the delay.
+const OBJECTS_BEFORE: u32 = 32;
 
 pub fn told(fault: &Fault) -> String {
     format!("run file refused ({BAD_FILE}): {}", reason(fault))
@@ -59,10 +63,24 @@ fn out_of_range(out: &OutOfRange) -> String {
         Field::Delay => "ticks of the delay".into(),
         Field::VolumeOf(object) => format!("volume of object {object}"),
     };
+    if (out.field, found) == (Field::Delay, 0) {
+        return "delay is 0: a file from before delayed invalidations; `runtext upgrade --delay D OLD -o NEW` rewrites it".into();
+    }
+    if out.field == Field::Objects && has_too_many_objects(found) {
+        return format!(
+            "{field}: found {found}, expected 1 to {most}; more were allowed before delayed invalidations"
+        );
+    }
     match (least, most) {
         (0, 0) => format!("{field}: found {found}, expected 0"),
         _ => format!("{field}: found {found}, expected {least} to {most}"),
     }
+}
+
+/// Returns whether a file from before delayed invalidations may have so many
+/// objects, and a file of today may not.
+pub fn has_too_many_objects(found: u32) -> bool {
+    (OBJECTS as u32 + 1..=OBJECTS_BEFORE).contains(&found)
 }
 
 /// Returns the first nonzero field that the step's kind does not use.

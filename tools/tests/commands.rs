@@ -66,8 +66,8 @@ fn help_and_wrong_calls() {
     assert_eq!(help.status, 0);
     assert!(help.output.starts_with(b"runtext: "));
     for (arguments, told) in [
-        (&[][..], "found no argument, expected encode, check, format, decode or load"),
-        (&["code"], "found \"code\", expected encode, check, format, decode or load"),
+        (&[][..], "found no argument, expected encode, check, format, decode, load or upgrade"),
+        (&["code"], "found \"code\", expected encode, check, format, decode, load or upgrade"),
         (&["encode", "one", "two"], "found 2 files, expected one or standard input"),
         (&["encode", "--expand"], "unknown option \"--expand\""),
         (&["encode", "-o"], "-o: found nothing after it, expected a file to write"),

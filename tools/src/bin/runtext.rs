@@ -15,6 +15,7 @@ use tools::refused_file::no_workload;
 use tools::scenario::Scenario;
 use tools::text::script::Script;
 use tools::text::{print, to_file, workload_file};
+use tools::upgrade;
 
 const HELP: &str = r#"runtext: the text form of runs
 
@@ -24,6 +25,7 @@ const HELP: &str = r#"runtext: the text form of runs
   runtext decode [FILE]              run file to text, in canonical form
   runtext load --seed S --steps N [FILE]
                                      text without steps to run file, with those of a workload
+  runtext upgrade --delay D [OLD]    run file from before delayed invalidations to one with a delay
 
 Without a FILE, standard input is read. -o OUT writes a file instead of standard
 output, whole or not at all. A text has lines as these, in this order:
@@ -72,6 +74,13 @@ same remainder by 2^e, so that with 4 and 4 no object is asked by two clients. A
 count that is a power of two is gone through in a fixed order: each of 4 objects
 is drawn every 4th step.
 
+upgrade rewrites a run file from before delayed invalidations, which has no delay
+and is refused today: runtext upgrade --delay D OLD -o NEW. Note, setup and steps
+stay as they are, and D, 1 to 65535 ticks, is added. Its listing is the same as
+before unless a write meets a client whose volume lease has ended while its
+object lease lives. A file with 29 to 32 objects cannot be rewritten: objects end
+at 28 today. To an old text add the line `delay D` by hand.
+
 check tells how many expectations hold and every one that fails. encode, check
 and load end with a line on standard error that counts refused steps. A bad line
 is told with its number, what was found and what was expected; then nothing is
@@ -79,7 +88,7 @@ written and the exit status is 1, as it is where an expectation fails (2 is a
 wrong call).
 "#;
 
-const FORMS: &str = "encode, check, format, decode or load";
+const FORMS: &str = "encode, check, format, decode, load or upgrade";
 
 fn main() -> ExitCode {
     command::main(HELP, |arguments| {
@@ -96,6 +105,7 @@ fn main() -> ExitCode {
                 Ok(print(&run).into())
             }
             "load" => load(arguments),
+            "upgrade" => upgrade(arguments),
             other => Err(Failure::Usage(format!("found {other:?}, expected {FORMS}"))),
         }
     })
@@ -119,13 +129,21 @@ fn format(mut arguments: Arguments) -> Result<Output, Failure> {
 }
 
 fn load(mut arguments: Arguments) -> Result<Output, Failure> {
-    let (seed, steps) = (arguments.needed("--seed")?, arguments.needed("--steps")?);
+    let any = 0..=u32::MAX;
+    let (seed, steps) = (arguments.needed("--seed", any.clone())?, arguments.needed("--steps", any)?);
     let input = Input::read(arguments.file()?.as_deref())?;
     let Script { note, setup, voice, .. } = input.without_steps()?;
     let file = workload_file(seed, &note, &setup, steps)
         .map_err(|refused| input.failure(&[no_workload(refused, note.len(), steps)]))?;
     let told = counted(proved::answers_of(&file)).map(|line| voice.said(&line));
     Ok(Output { told: told.into_iter().collect(), ..file.into() })
+}
+
+fn upgrade(mut arguments: Arguments) -> Result<Output, Failure> {
+    let delay = arguments.needed("--delay", upgrade::DELAYS)?;
+    let input = Input::read(arguments.file()?.as_deref())?;
+    let file = upgrade::upgraded(&input.bytes, delay).map_err(|reason| input.failure(&[reason]))?;
+    Ok(file.into())
 }
 
 /// Returns a verdict for each text, even if one before it could not be read.
