@@ -42,6 +42,53 @@ fn a_join_is_what_it_takes() {
     assert_eq!(steps("join client 0 object 0\nrestart server\njoin client 0 object 0\n").len(), 15);
 }
 
+/// Returns the kinds of the messages that the last line delivers.
+fn delivered_by_the_last(lines: &str) -> Vec<&'static str> {
+    let scenario = Scenario::from(script(format!("{SETUP}{lines}").as_bytes()).unwrap());
+    assert!(scenario.stopped().is_none(), "{:?}", scenario.stopped());
+    let last = scenario.together(scenario.run.steps.len());
+    let mut kinds = Vec::new();
+    scenario.walk(|moment| {
+        let taken = moment.taken().filter(|_| last.contains(&moment.number));
+        kinds.extend(taken.map(|message| kind(&message.kind)));
+    });
+    kinds
+}
+
+/// At 12 the object is written and noted for client 0, whose volume lease ended
+/// at 10.
+#[test]
+fn a_join_of_a_client_with_notes_takes_the_batch() {
+    let noted = "join client 0 object 0\nclock 12\nwrite object 0 value 7 => completed 1\n";
+    let batch = ["RENEW", "BATCH", "CLEARED", "RENEW", "GRANT"];
+    for object in [0, 1] {
+        let join = format!("join client 0 object {object}\n");
+        assert_eq!(delivered_by_the_last(&format!("{noted}{join}")), batch);
+        let read = format!("{noted}{join}read client 0 object 0 => ");
+        let read = read + if object == 0 { "shown 7\n" } else { "ask first\n" };
+        let scenario = Scenario::from(script(format!("{SETUP}{read}").as_bytes()).unwrap());
+        assert!(tools::check::verdict(&scenario).holds());
+    }
+    // With a message under way, the round is at place 1.
+    let written = steps(&format!("{noted}ask client 1 object 0\njoin client 0 object 0\n"));
+    let round = ["ask client 0 object 0", "deliver 1", "deliver 1", "deliver 1"];
+    assert_eq!(written[10..], [&round[..], &["ask client 0 object 0", "deliver 1", "deliver 1"]].concat());
+    // The second join has no notes to hear of.
+    let again = format!("{noted}join client 0 object 0\njoin client 0 object 0\n");
+    assert_eq!(delivered_by_the_last(&again), ["RENEW", "GRANT"]);
+}
+
+/// The delay after 10 is over, so the next clock step marks the client, which
+/// drops its notes. A restart of the client gets an OFFER at once.
+#[test]
+fn a_join_of_a_client_marked_with_notes_takes_the_offer() {
+    let noted = "join client 0 object 0\nclock 12\nwrite object 0 value 7\n";
+    let offer = ["RENEW", "OFFER", "DROPPED", "RENEW", "GRANT"];
+    for between in ["clock 12\n", "restart client 0\n", "restart server\n"] {
+        assert_eq!(delivered_by_the_last(&format!("{noted}{between}join client 0 object 0\n")), offer);
+    }
+}
+
 #[test]
 fn a_join_that_cannot_work_says_why() {
     let stopped = "line 7: found the join stopped at step ";

@@ -94,17 +94,18 @@ impl<'a> Writer<'a> {
     }
 }
 
-/// Returns the next step of a join. A client that drops its leases asks once
-/// more; a GRANT ends the join.
+/// Returns the next step of a join. A client that drops its leases, or erases
+/// what was noted for it, asks once more; a GRANT ends the join.
 fn following(moment: &Moment, ask: Step) -> Result<Option<Step>, Wrong> {
     let sent = moment.sent().first().map(|message| message.kind);
     match (moment.taken().map(|message| message.kind), sent) {
         (None, Some(Kind::Renew { .. }))
-        | (Some(Kind::Renew { .. }), Some(Kind::Grant(_) | Kind::Offer { .. }))
-        | (Some(Kind::Offer { .. }), Some(Kind::Dropped { .. })) => {
+        | (Some(Kind::Renew { .. }), Some(Kind::Grant(_) | Kind::Offer { .. } | Kind::Batch(_)))
+        | (Some(Kind::Offer { .. }), Some(Kind::Dropped { .. }))
+        | (Some(Kind::Batch(_)), Some(Kind::Cleared(_))) => {
             Ok(Some(Step::deliver((moment.after.tables.queue.len - 1) as u8)))
         }
-        (Some(Kind::Dropped { .. }), None) => Ok(Some(ask)),
+        (Some(Kind::Dropped { .. } | Kind::Cleared(_)), None) => Ok(Some(ask)),
         (Some(Kind::Grant(_)), None) => Ok(None),
         _ => {
             let stopped = format!("the join stopped at step {}", explain::line(moment));
