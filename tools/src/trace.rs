@@ -81,6 +81,10 @@ impl<'a> Moment<'a> {
         &self.after.tables.server
     }
 
+    pub fn clients(&self) -> std::ops::Range<usize> {
+        0..usize::from(self.setup.clients)
+    }
+
     pub fn objects(&self) -> std::ops::Range<usize> {
         0..usize::from(self.setup.objects)
     }

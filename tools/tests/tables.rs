@@ -48,6 +48,8 @@ server, object leases
   0       0       100 alive
   1       0       100 alive
 
+server, notes: none
+
 clients, requests
   client  next number  standing request
   0       3            none

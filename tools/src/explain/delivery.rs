@@ -4,6 +4,7 @@
 
 use model::message::{Kind, Message};
 
+use super::notes;
 use super::steps::{completed, sends, waits};
 use crate::names::whole;
 use crate::trace::Moment;
@@ -18,14 +19,18 @@ pub fn reasons(moment: &Moment, message: &Message) -> Vec<String> {
         Kind::Ack { object, epoch, version } => ack(moment, client, object.into(), epoch, version),
         Kind::Offer { volume, epoch, .. } => offer(moment, client, volume, epoch),
         Kind::Dropped { volume, number, epoch } => dropped(moment, client, volume.into(), number, epoch),
-        Kind::Batch(_) | Kind::Cleared(_) => Vec::new(),
+        Kind::Batch(batch) => notes::of_batch(moment, client, &batch),
+        Kind::Cleared(batch) => notes::of_cleared(moment, client, &batch),
     });
+    if let Kind::Renew { .. } = message.kind {
+        reasons.extend(notes::dropped(moment, "dropped"));
+    }
     reasons.extend(sends(moment));
     reasons.extend(completed(moment));
     reasons
 }
 
-fn nothing(why: impl AsRef<str>) -> Vec<String> {
+pub fn nothing(why: impl AsRef<str>) -> Vec<String> {
     vec![format!("nothing: {}", why.as_ref())]
 }
 
@@ -43,6 +48,7 @@ fn renew(moment: &Moment, client: usize, object: usize, number: u32, epoch: u32)
         Some(Kind::Invalidate { object, .. }) => {
             vec![format!("the write of object {object} still waits for client {client}")]
         }
+        Some(Kind::Batch(_)) => notes::of_renew(moment, client, volume),
         Some(_) => Vec::new(),
     }
 }
@@ -58,11 +64,11 @@ fn grant_stored(moment: &Moment, client: usize) -> Vec<String> {
 
 /// Returns whether the delivery changed the client's request. An answer that
 /// the client takes ends it; any other leaves it.
-fn request_changed(moment: &Moment, client: usize) -> bool {
+pub fn request_changed(moment: &Moment, client: usize) -> bool {
     moment.after.requests(moment.setup)[client] != *moment.request_before(client)
 }
 
-fn standing(moment: &Moment, client: usize) -> String {
+pub fn standing(moment: &Moment, client: usize) -> String {
     match moment.request_before(client).standing {
         None => format!("client {client} has no standing request"),
         Some(standing) => format!("client {client} waits for number {}", standing.number),

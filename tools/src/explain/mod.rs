@@ -3,6 +3,7 @@
 
 mod delivery;
 mod lines;
+mod notes;
 mod refusal;
 mod steps;
 mod table;

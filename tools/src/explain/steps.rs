@@ -4,6 +4,7 @@ use model::limits::QUEUE;
 use model::message::Message;
 use model::tables::{alive, Write};
 
+use super::notes;
 use crate::latest_end;
 use crate::names::{clients, label, routed, whole};
 use crate::trace::Moment;
@@ -66,7 +67,8 @@ pub fn write(moment: &Moment) -> Vec<String> {
     let server = moment.server();
     // A write without a cause does not stand.
     let Some(cause) = latest_end::cause(moment) else {
-        return vec![format!("nobody to wait for, stored as version {}", server.version[object])];
+        let stored = format!("nobody to wait for, stored as version {}", server.version[object]);
+        return [vec![stored], notes::of_write(moment)].concat();
     };
     let write = &server.write[object];
     let end = moment.voice.ticks(write.latest_end);
@@ -77,6 +79,7 @@ pub fn write(moment: &Moment) -> Vec<String> {
     if lost > 0 {
         reasons.push(format!("{lost} of its INVALIDATE lost, the queue has {QUEUE}"));
     }
+    reasons.extend(notes::of_write(moment));
     reasons
 }
 
@@ -120,6 +123,7 @@ pub fn clock(moment: &Moment) -> Vec<String> {
         }
         reasons.push(words);
     }
+    reasons.extend(notes::dropped(moment, "dropped"));
     let server = moment.server();
     for object in moment.objects().filter(|&object| server.stands(object)) {
         let write = &server.write[object];
@@ -150,7 +154,8 @@ pub fn restart_server(moment: &Moment) -> Vec<String> {
     let cut_off = |(object, write): (usize, &Write)| {
         format!("write of object {object}, value {}, cut off", write.value)
     };
-    volumes.chain(moment.ended().into_iter().map(cut_off)).collect()
+    let writes = moment.ended().into_iter().map(cut_off);
+    volumes.chain(writes).chain(notes::dropped(moment, "lost")).collect()
 }
 
 pub fn restart_client(moment: &Moment) -> Vec<String> {

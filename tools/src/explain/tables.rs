@@ -6,7 +6,7 @@ use model::state::State;
 use model::tables::alive;
 
 use super::table;
-use crate::names::{clients, whole};
+use crate::names::{clients, objects, whole};
 use crate::voice::Voice;
 
 /// Returns all tables of a state, one below the other.
@@ -19,6 +19,7 @@ pub fn print(setup: &Setup, state: &State, voice: &Voice) -> String {
         view.server_clients(),
         view.server_volume_leases(),
         view.server_object_leases(),
+        view.server_notes(),
         view.requests(),
         view.client_volumes(),
         view.copies(),
@@ -36,6 +37,14 @@ struct View<'a> {
 /// Makes a row of numbers and words.
 macro_rules! row {
     ($($cell:expr),+) => { vec![$($cell.to_string()),+] };
+}
+
+/// Returns "number 3", or "none" for 0.
+fn number(number: u32) -> String {
+    match number {
+        0 => "none".into(),
+        _ => format!("number {number}"),
+    }
 }
 
 impl View<'_> {
@@ -117,13 +126,22 @@ impl View<'_> {
         let row = |(client, volume): (usize, usize)| {
             let (expiry, offer) = (server.volume_expiry[volume][client], server.offer[volume][client]);
             let marked = server.unreachable[volume] >> client & 1 == 1;
-            let offered = if offer == 0 { "none".into() } else { format!("number {offer}") };
             let mark = if marked { "unreachable" } else { "none" };
             let holds = expiry != 0 || offer != 0 || marked;
-            holds.then(|| row![client, volume, self.expiry(expiry), mark, offered])
+            holds.then(|| row![client, volume, self.expiry(expiry), mark, number(offer)])
         };
         let rows: Vec<_> = self.pairs(self.each_volume()).filter_map(row).collect();
         self.table("server, volume leases", &["client", "volume", "lease to", "mark", "offer"], &rows)
+    }
+
+    fn server_notes(&self) -> String {
+        let server = &self.state.tables.server;
+        let row = |(client, volume): (usize, usize)| {
+            let (notes, batch) = (server.notes[volume][client], server.batch[volume][client]);
+            (notes != 0 || batch != 0).then(|| row![client, volume, objects(notes), number(batch)])
+        };
+        let rows: Vec<_> = self.pairs(self.each_volume()).filter_map(row).collect();
+        self.table("server, notes", &["client", "volume", "noted", "batch"], &rows)
     }
 
     fn server_object_leases(&self) -> String {
