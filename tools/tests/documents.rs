@@ -7,7 +7,7 @@ use std::path::Path;
 
 use common::{example, run_program};
 use tools::explain::listing;
-use tools::text::{actions, from_file, script};
+use tools::text::{actions, from_file, parse, script};
 
 const EXPLAIN: &str = env!("CARGO_BIN_EXE_explain");
 const RUNTEXT: &str = env!("CARGO_BIN_EXE_runtext");
@@ -94,12 +94,22 @@ fn the_failed_line_is_of_the_first_run() {
     assert!(explained.contains(block.unwrap()), "{explained}");
 }
 
-/// The lines that begin with a step's number are from 01's own example.
+/// Returns the explained listing of a run that notes an object.
+fn with_a_note() -> String {
+    let steps = "join client 0 object 0\nread client 0 object 0\nclock 5\nclock 10\nclock 12\nwrite object 0 value 7\n";
+    let setup: String = first_run().lines().take(5).map(|line| format!("{line}\n")).collect();
+    listing(&parse(format!("{setup}{steps}").as_bytes()).unwrap())
+}
+
+/// The lines that begin with a step's number are from 01's own example, except
+/// for the one with a note.
 #[test]
 fn the_explained_lines_are_of_an_example() {
     let explained = listing(&from_file(&example("0-document.run")).unwrap());
     let help = String::from_utf8(run_program(EXPLAIN, &["--help"], b"").output).unwrap();
     let readme = document("README.md");
+    let noted = readme.lines().find(|line| line.contains("whose volume lease ended"));
+    assert!(with_a_note().lines().any(|line| Some(line) == noted), "{noted:?}");
     let block =
         readme.split("```\n").skip(1).step_by(2).find(|block| block.starts_with("10 (clock 0) write"));
     let of_help = help.lines().filter_map(|line| line.strip_prefix("  1"));

@@ -20,16 +20,43 @@ fn taken(form: &str, name: &str) -> Ended {
     run_program(RUNTEXT, &[form], &stored(name))
 }
 
+/// What a text without a delay is told, after the number of a line.
+const ADD_THE_DELAY: &str =
+    "found no delay before, expected the line `delay 1`, or more ticks up to 65535, after the line with `timeout`\n";
+
 /// The gate holds `roadrun` to the same listing.
 #[test]
-fn the_run_file_of_01_is_read() {
+fn the_run_file_with_a_delay_is_read() {
     let mut lines = vec![0; LISTING_BYTES];
-    let len = list(&stored("run-file-of-01.run"), &mut lines).expect("a run file");
-    assert_eq!(lines[..len], stored("run-file-of-01.listing"));
-    let text = taken("decode", "run-file-of-01.run");
+    let len = list(&stored("run-file-with-delay.run"), &mut lines).expect("a run file");
+    assert_eq!(lines[..len], stored("run-file-with-delay.listing"));
+    let text = taken("decode", "run-file-with-delay.run");
     assert_eq!((text.status, text.errors.as_str()), (0, ""));
     let back = run_program(RUNTEXT, &["encode"], &text.output);
-    assert_eq!(back.output, stored("run-file-of-01.run"));
+    assert_eq!(back.output, stored("run-file-with-delay.run"));
+}
+
+/// It has no delay. The library's refusal is the listing's.
+#[test]
+fn the_run_file_of_01_is_refused() {
+    let mut lines = vec![0; LISTING_BYTES];
+    let refused = list(&stored("run-file-of-01.run"), &mut lines).expect_err("a refusal");
+    let listing = format!("step answer value\n0 4 {}\n", refused.number);
+    assert_eq!(listing.as_bytes(), stored("run-file-of-01.listing"));
+    let ended = taken("decode", "run-file-of-01.run");
+    assert_eq!((ended.status, ended.output.len()), (1, 0));
+    assert_eq!(
+        ended.errors,
+        "run file refused (9): setup, delay is 0: a file from before delayed invalidations; `runtext upgrade --delay D OLD \
+         -o NEW` rewrites it\n"
+    );
+}
+
+/// The result is the file of the same run today.
+#[test]
+fn the_run_file_of_01_can_be_rewritten() {
+    let new = run_program(RUNTEXT, &["upgrade", "--delay", "1"], &stored("run-file-of-01.run"));
+    assert_eq!((new.status, new.output), (0, example("4-client-switched-off.run")));
 }
 
 #[test]
@@ -49,28 +76,57 @@ fn the_frame_of_01_is_read() {
     assert_eq!((encode(&message, &mut back), &back[..]), (Ok(()), &frame[..]));
 }
 
-/// Both are the same run, and the second one's expectations hold.
 #[test]
-fn the_first_texts_are_read() {
-    for name in ["text-of-exact-steps.runtext", "text-with-names.runtext"] {
-        let file = taken("encode", name);
-        assert_eq!((file.status, file.errors.as_str()), (0, "21 steps, none refused\n"), "{name}");
-        assert_eq!(file.output, stored("run-file-of-01.run"), "{name}");
-    }
-    assert_eq!(
-        taken("check", "text-with-names.runtext").output,
-        b"standard input: all 5 expectations hold\n"
-    );
+fn the_frame_of_a_batch_is_read() {
+    // Objects 0, 5 and 27.
+    let kind = Kind::Batch { volume: 3, number: 7, epoch: 4, objects: 1 | 1 << 5 | 1 << 27 };
+    let (message, frame) = (Message { client: 2, kind }, stored("frame-of-batch.frame"));
+    assert_eq!(decode(&frame), Ok(message));
+    let mut back = [0; FRAME_BYTES];
+    assert_eq!((encode(&message, &mut back), &back[..]), (Ok(()), &frame[..]));
 }
 
-/// Its line 23 cannot be met, nor could it when it was written.
 #[test]
-fn the_text_with_ticks_is_refused_where_it_stops() {
-    let file = taken("encode", "text-with-ticks.runtext");
+fn the_text_with_a_delay_is_read() {
+    let file = taken("encode", "text-with-delay.runtext");
+    assert_eq!((file.status, file.errors.as_str()), (0, "23 steps, none refused\n"));
+    assert_eq!(file.output, stored("run-file-with-delay.run"));
+    let checked = taken("check", "text-with-delay.runtext");
+    assert_eq!(checked.output, b"standard input: all 8 expectations hold\n");
+}
+
+/// Each is told the line to add; its first step is on the line that is named.
+#[test]
+fn texts_without_a_delay_are_told_the_line() {
+    for (name, line) in
+        [("text-of-exact-steps.runtext", 7), ("text-with-names.runtext", 6), ("text-with-ticks.runtext", 10)]
+    {
+        let ended = taken("encode", name);
+        assert_eq!((ended.status, ended.output.len()), (1, 0), "{name}");
+        assert_eq!(ended.errors, format!("line {line}: {ADD_THE_DELAY}"), "{name}");
+    }
+}
+
+/// Returns a stored text with the line that it is told to add.
+fn with_the_line(name: &str) -> Vec<u8> {
+    let text = String::from_utf8(stored(name)).expect("text");
+    text.replace("timeout 3\n", "timeout 3\ndelay 1\n").into_bytes()
+}
+
+/// With that line, the first two are the same run as today's example.
+#[test]
+fn texts_with_the_line_are_read() {
+    for name in ["text-of-exact-steps.runtext", "text-with-names.runtext"] {
+        let file = run_program(RUNTEXT, &["encode"], &with_the_line(name));
+        assert_eq!((file.status, file.errors.as_str()), (0, "21 steps, none refused\n"), "{name}");
+        assert_eq!(file.output, example("4-client-switched-off.run"), "{name}");
+    }
+    // Its line 23, now 24, could never be met.
+    let file = run_program(RUNTEXT, &["encode"], &with_the_line("text-with-ticks.runtext"));
     assert_eq!((file.status, file.output.len()), (1, 0));
     assert_eq!(
         file.errors,
-        "line 23: found no GRANT to dash 1 under way, expected one that is: 0 ACK notice 0 version 2 from dash 0\n"
+        "line 24: found no GRANT to dash 1 under way, expected one that is: 0 ACK notice 0 version 2 from dash 0\n"
     );
 }
 

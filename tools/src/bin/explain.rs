@@ -29,7 +29,9 @@ roadrun's answer in words, and what in the model's tables shows why:
 
 A write that is accepted and stands tells what fixes its latest end, as in
 "latest end 10 by the volume lease of client 0": the clients whose lease ends
-then, with the lesser of the two, else the guard, else the timeout.
+then, with the lesser of the two, else the guard, else the timeout. It also tells
+for whom it does not wait although they have an object lease: their volume lease
+has ended, and the object is noted for them, unless they are marked unreachable.
 
 The answers: done (0), shown V (1), ask first (2), completed N writes (3),
 refused N (4). Standard error ends with a line that counts the refused steps.

@@ -33,7 +33,7 @@ output, whole or not at all. A text has lines as these, in this order:
   note "two clients, one object"         # or: note hex 00 ff ..; any number of lines
   clients 2 volumes 1 objects 1
   volume lease 10 object lease 100 timeout 3
-  delay 1
+  delay 1                                # ticks, see below
   volume 0 objects 0                     # a line for each volume that has objects
 
   read client 0 object 0 => ask first    # what is expected of a step, wherever you like
@@ -54,15 +54,22 @@ output, whole or not at all. A text has lines as these, in this order:
 `#` begins a comment; numbers are decimal. Expectations are done, shown V, ask
 first, completed N and refused N. A step of an unknown kind has all its fields:
 kind 12 client 0 object 0 place 0 clock 0 value 0. The messages are RENEW, ACK,
-DROPPED from a client and GRANT, INVALIDATE, OFFER to one; deliver, lose and
-double take them by name: the first under way, or with a word before it the
-second, third, .. or last. `object 0` behind it takes one about that object, as
-`volume 0` does of an OFFER or a DROPPED. --expand writes names and joins out as
-exact steps. A line `one tick is 250 ms` before the first step (or s, min, h) is
+DROPPED, CLEARED from a client and GRANT, INVALIDATE, OFFER, BATCH to one;
+deliver, lose and double take them by name: the first under way, or with a word
+before it the second, third, .. or last. `object 0` behind it takes one about
+that object, as `volume 0` does of an OFFER, DROPPED, BATCH or CLEARED. --expand
+writes names and joins out as exact steps. A line `one tick is 250 ms` before the first step (or s, min, h) is
 for explain and picture, which then tell the time beside the ticks; no byte of
 the run file changes. The paper's dash, region and notice are understood as
 client, volume and object, and a text whose setup begins with them is answered
 in them; format and decode write client, volume and object.
+
+The delay, 1 to 65535 ticks, says how long after its volume lease a client with
+notes stays reachable. A write does not wait for a client whose volume lease has
+ended while its object lease lives: it notes the object. The client's next RENEW
+in the volume is answered by a BATCH, which erases its copies of all that is
+noted; it answers with CLEARED and has to ask again, as `join` does. A text
+without a delay is told the line to add.
 
 load reads note and setup alone. A seed, 0 to 4294967295, gives the same steps
 every time, at most 4000: load for the list of messages, restarts, offers and
