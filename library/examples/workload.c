@@ -6,9 +6,11 @@
 #include <stdlib.h>
 
 /* 3 clients, 2 volumes and 4 objects; volume lease 10, object lease 100, timeout
-   3; objects 0 and 1 in volume 0, 2 and 3 in volume 1; the rest is 0 */
-static const uint8_t setup[GEVTSOMI_SETUP_BYTES] = {3, 2, 4, 0, 10, 0, 0, 0, 100, 0,
-                                                    0, 0, 3, 0, 0,  0, 0, 0, 1,   1};
+   3; objects 0 and 1 in volume 0, 2 and 3 in volume 1; delay 1 */
+static const uint8_t setup[GEVTSOMI_SETUP_BYTES] = {
+    3, 2, 4, 0, 10, 0, 0, 0, 100, 0, 0, 0, 3, 0, 0, 0,
+    0, 0, 1, 1, 0,  0, 0, 0, 0,   0, 0, 0, 0, 0, 0, 0,
+    0, 0, 0, 0, 0,  0, 0, 0, 0,   0, 0, 0, 1, 0, 0, 0};
 /* Not on the stack, which the call needs for itself. */
 static uint8_t file[GEVTSOMI_FILE_BYTES];
 

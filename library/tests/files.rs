@@ -3,14 +3,18 @@
 
 use std::thread;
 
-use gevtsomi::{workload, write, Refused, Setup, Step, FILE_BYTES, STEPS, STEP_BYTES, WRITE_STACK_BYTES};
+use gevtsomi::{
+    workload, write, Refused, Setup, Step, FILE_BYTES, OBJECTS, STEPS, STEP_BYTES, WRITE_STACK_BYTES,
+};
 
 const DOCUMENT: &[u8] = include_bytes!("data/document.run");
 
 const NONE: Step = Step { kind: 0, client: 0, object: 0, place: 0, clock: 0, value: 0 };
 
 fn setup(clients: u8, volumes: u8, objects: u8) -> Setup {
-    Setup { clients, volumes, objects, volume_lease: 10, object_lease: 100, timeout: 3, volume_of: [0; 32] }
+    let (volume_lease, object_lease, timeout, delay) = (10, 100, 3, 1);
+    let volume_of = [0; OBJECTS];
+    Setup { clients, volumes, objects, volume_lease, object_lease, timeout, delay, volume_of }
 }
 
 fn records(steps: &[Step]) -> Vec<u8> {
@@ -98,16 +102,34 @@ fn what_is_no_setup_is_7() {
     let good = setup(1, 1, 1);
     let mut spare = good.bytes();
     spare[3] = 1;
-    let out_of_range = setup(17, 1, 1).bytes();
-    let volume_past_the_count = Setup { volume_of: [1; 32], ..setup(1, 2, 31) }.bytes();
+    let volume_past_the_count = Setup { volume_of: [1; OBJECTS], ..setup(1, 2, 27) }.bytes();
+    let out_of_range = [
+        spare,
+        setup(17, 1, 1).bytes(),
+        setup(1, 1, 29).bytes(),
+        Setup { delay: 0, ..good }.bytes(),
+        Setup { delay: 65_536, ..good }.bytes(),
+        volume_past_the_count,
+    ];
     let longer = [&good.bytes()[..], &[0]].concat();
-    for bad in [&[], &good.bytes()[..47], &longer, &spare, &out_of_range, &volume_past_the_count] {
+    let lengths = [&[], &good.bytes()[..47], &longer];
+    for bad in lengths.into_iter().chain(out_of_range.iter().map(|bytes| &bytes[..])) {
         for room in [0, FILE_BYTES] {
             refused(7, room, |output| write(&[], bad, &document(), output));
             refused(7, room, |output| write(&[], bad, &[0], output));
             refused(7, room, |output| workload(1, &[], bad, 1, output));
             refused(7, room, |output| workload(1, &[], bad, u32::MAX, output));
         }
+    }
+}
+
+/// The delay takes the last four bytes of the setup, lowest first.
+#[test]
+fn both_ends_of_the_delay_are_written() {
+    for (delay, bytes) in [(1, [1, 0, 0, 0]), (65_535, [255, 255, 0, 0])] {
+        let setup = Setup { delay, ..setup(1, 1, 1) }.bytes();
+        let file = written(FILE_BYTES, |output| write(&[], &setup, &[], output));
+        assert_eq!(file[44..48], bytes);
     }
 }
 
@@ -158,7 +180,7 @@ fn steps_of_an_unknown_kind_are_written_as_they_are() {
 /// for itself.
 #[test]
 fn the_stack_that_is_named_is_enough() {
-    let setup = setup(16, 8, 32).bytes();
+    let setup = setup(16, 8, 28).bytes();
     let records = vec![0; STEPS * STEP_BYTES];
     let from_parts = |output: &mut [u8]| write(&[], &setup, &records, output);
     let from_seed = |output: &mut [u8]| workload(1, &[], &setup, STEPS as u32, output);

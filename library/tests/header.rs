@@ -1,7 +1,7 @@
 //! The C header has the same numbers as the package.
 
 use gevtsomi::{
-    decode, list, workload, write, Setup, FILE_BYTES, FRAME_BYTES, LISTING_BYTES, LIST_STACK_BYTES,
+    decode, list, workload, write, Setup, FILE_BYTES, FRAME_BYTES, LISTING_BYTES, LIST_STACK_BYTES, OBJECTS,
     SETUP_BYTES, STEPS, STEP_BYTES, WRITE_STACK_BYTES,
 };
 
@@ -53,7 +53,8 @@ fn its_refusals_are_those_given() {
         volume_lease: 1,
         object_lease: 1,
         timeout: 1,
-        volume_of: [0; 32],
+        delay: 1,
+        volume_of: [0; OBJECTS],
     };
     for (setup, name) in [(&[][..], "GEVTSOMI_BAD_SETUP"), (&setup.bytes(), "GEVTSOMI_NOT_WRITTEN")] {
         let not_written = write(&[], setup, &[], &mut []).unwrap_err();

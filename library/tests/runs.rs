@@ -51,6 +51,16 @@ fn what_is_no_run_file_is_refused() {
     );
 }
 
+/// A file from before delayed invalidations has 0 where the delay is now.
+#[test]
+fn a_file_without_a_delay_is_refused() {
+    for delay in [0, 65_536, u32::MAX] {
+        let mut file = FILE.to_vec();
+        file[44..48].copy_from_slice(&delay.to_le_bytes());
+        refused(&file, LISTING_BYTES, 9);
+    }
+}
+
 /// Calls on a thread with just that much stack, some of which the thread needs
 /// for itself.
 #[test]
