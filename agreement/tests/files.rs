@@ -92,6 +92,7 @@ fn the_examples_listing_is_the_models() {
     let mut setup = [0; 48];
     setup[..13].copy_from_slice(&[3, 2, 4, 0, 10, 0, 0, 0, 100, 0, 0, 0, 3]);
     setup[18..20].copy_from_slice(&[1, 1]);
+    setup[44] = 1;
     let file = workload_file(1, &[], &setup, 20, 56 + 20 * 16).expect("a file");
     assert_eq!(listing(&file), include_bytes!("../../library/examples/workload.txt"));
 }

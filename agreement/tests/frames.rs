@@ -31,6 +31,12 @@ fn of_model(message: &Message) -> model_message::Message {
         Kind::Ack { object, epoch, version } => model_message::Kind::Ack { object, epoch, version },
         Kind::Offer { volume, number, epoch } => model_message::Kind::Offer { volume, number, epoch },
         Kind::Dropped { volume, number, epoch } => model_message::Kind::Dropped { volume, number, epoch },
+        Kind::Batch { volume, number, epoch, objects } => {
+            model_message::Kind::Batch(model_message::Batch { volume, number, epoch, set: objects })
+        }
+        Kind::Cleared { volume, number, epoch, objects } => {
+            model_message::Kind::Cleared(model_message::Batch { volume, number, epoch, set: objects })
+        }
     };
     model_message::Message { client: message.client, kind }
 }
@@ -49,13 +55,15 @@ fn message(rng: &mut Rng) -> Message {
     let item = rng.draw() as u8;
     let [number, epoch, version, volume_expiry, object_expiry] = [(); 5].map(|()| word(rng));
     let value = rng.percent(50).then(|| rng.draw() >> rng.pick(&[0, 8, 63]));
-    let kind = match rng.below(6) {
+    let kind = match rng.below(8) {
         0 => Kind::Renew { object: item, number, epoch, version },
         1 => Kind::Grant { object: item, number, volume_expiry, epoch, version, object_expiry, value },
         2 => Kind::Invalidate { object: item, epoch, version },
         3 => Kind::Ack { object: item, epoch, version },
         4 => Kind::Offer { volume: item, number, epoch },
-        _ => Kind::Dropped { volume: item, number, epoch },
+        5 => Kind::Dropped { volume: item, number, epoch },
+        6 => Kind::Batch { volume: item, number, epoch, objects: version },
+        _ => Kind::Cleared { volume: item, number, epoch, objects: version },
     };
     Message { client: rng.draw() as u8, kind }
 }
@@ -81,7 +89,7 @@ fn any_bytes_are_read_as_the_model_reads_them() {
         let mut frame = [0; FRAME_BYTES];
         encode(&message(&mut rng), &mut frame).expect("room for a frame");
         for _ in 0..rng.below(3) {
-            frame[rng.below(FRAME_BYTES)] = rng.pick(&[0, 1, 2, 7, 255]);
+            frame[rng.below(FRAME_BYTES)] = rng.pick(&[0, 1, 2, 7, 8, 9, 255]);
         }
         let read = decode(&frame);
         let expected = model_frame::decode(&frame);

@@ -3,7 +3,8 @@
 use gevtsomi::{list, Refused, LISTING_BYTES};
 use model::examples;
 use model::gen::{damage, runs};
-use model::listing::listing;
+use model::listing::{listing, listing_with};
+use model::mistakes::Mistakes;
 use model::runfile::read;
 
 const SEEDS: [u64; 2] = [1, 2];
@@ -38,14 +39,21 @@ fn the_librarys_copy_is_the_document() {
     assert_eq!(include_bytes!("../../library/tests/data/document.listing")[..], listing(&file));
 }
 
+/// Many of these runs have a parked client at a write, so the rule before 02's
+/// A6 would list them otherwise.
 #[test]
 fn generated_runs_are_the_models() {
+    let mut parked = 0;
+    let rule_before_a6 = Mistakes::named("waits_for_parked");
     for seed in SEEDS {
         for number in 0..RUNS {
             let file = runs::run(seed, number).file();
-            assert!(listed(&file) == listing(&file), "seed {seed}, run {number}");
+            let lines = listing(&file);
+            assert!(listed(&file) == lines, "seed {seed}, run {number}");
+            parked += usize::from(listing_with(rule_before_a6, &file) != lines);
         }
     }
+    assert!(parked > 400, "{parked}");
 }
 
 /// Refusals are the model's, even where the output has no room for a listing.
