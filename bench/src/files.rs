@@ -3,15 +3,15 @@
 use std::fmt;
 
 use gevtsomi::FILE_BYTES;
-use model::gen::builder::Builder;
+use model::answer::Answer;
+use model::gen::builder::{Builder, BATCH};
 use model::gen::random_steps;
 use model::gen::rng::Rng;
 use model::gen::setups::sized;
 use model::limits::STEPS;
-use model::listing::listing;
 use model::runfile::parts;
 use model::setup::Setup;
-use model::step_record::Step;
+use model::step_record::{Step, WRITE};
 use model::unchecked_writer::{setup_bytes, write};
 
 /// The seed of the workload.
@@ -26,25 +26,28 @@ pub struct Timed {
     pub shown: usize,
     /// The number of writes that did not complete at once.
     pub waited: usize,
+    /// The number of BATCHes delivered.
+    pub batches: usize,
 }
 
 impl fmt::Display for Timed {
     fn fmt(&self, out: &mut fmt::Formatter) -> fmt::Result {
-        let Timed { name, queue, shown, waited, .. } = self;
+        let Timed { name, queue, shown, waited, batches, .. } = self;
         write!(out, "{name}; {queue:.0} messages under way on the average, ")?;
-        write!(out, "{shown} reads shown, {waited} writes that waited")
+        write!(out, "{shown} reads shown, {waited} writes that waited, {batches} BATCHes delivered")
     }
 }
 
 /// Returns runs of the most steps: in the largest setup with the message list
-/// mostly full, and with messages delivered in time; in the smallest setup; and
-/// a workload.
+/// mostly full, with messages delivered in time, and with parked clients; in the
+/// smallest setup; and a workload.
 pub fn runs() -> Vec<Timed> {
     vec![
-        timed("16 clients, 8 volumes, 32 objects, by chance", largest(), by_chance),
-        timed("16 clients, 8 volumes, 32 objects, delivered in time", largest(), in_time),
+        timed("16 clients, 8 volumes, 28 objects, by chance", largest(), by_chance),
+        timed("16 clients, 8 volumes, 28 objects, delivered in time", largest(), in_time),
         timed("1 client, 1 volume, 1 object, by chance", sized(1, 1, 1), by_chance),
         load("3 clients, 2 volumes, 4 objects, a workload"),
+        timed("16 clients, 8 volumes, 28 objects, clients parked", parking(), parked),
     ]
 }
 
@@ -64,7 +67,12 @@ pub fn load_file() -> Vec<u8> {
 
 /// Returns the setup with the most clients, volumes and objects.
 pub fn largest() -> Setup {
-    spread(sized(16, 8, 32))
+    spread(sized(16, 8, 28))
+}
+
+/// Returns the same with time for parked clients to come back.
+fn parking() -> Setup {
+    Setup { delay: 60, ..largest() }
 }
 
 /// Spreads the objects evenly over the volumes.
@@ -78,35 +86,30 @@ fn spread(mut setup: Setup) -> Setup {
 /// Builds a run to the most steps by calling `more`.
 fn timed(name: &'static str, setup: Setup, more: fn(&mut Builder)) -> Timed {
     let mut builder = Builder::new(Rng::new(1), setup);
-    let mut messages = 0;
     while builder.steps.len() < STEPS {
         more(&mut builder);
-        messages += builder.queue_len();
     }
-    described(name, write(&[], &setup, &builder.steps), messages)
+    described(name, write(&[], &setup, &builder.steps))
 }
 
 fn load(name: &'static str) -> Timed {
-    let file = load_file();
-    let mut builder = Builder::new(Rng::new(1), load_setup());
-    let mut messages = 0;
-    for step in parts(&file).expect("a run file").steps() {
-        builder.push(step);
-        messages += builder.queue_len();
-    }
-    described(name, file, messages)
+    described(name, load_file())
 }
 
-/// Counts what a run does. `messages` is the number of messages under way,
-/// added up over the steps.
-fn described(name: &'static str, file: Vec<u8>, messages: usize) -> Timed {
-    let kinds = parts(&file).expect("a run file").steps().map(|step| step.kind);
-    let lines = String::from_utf8(listing(&file)).expect("a listing is text");
-    let answers = lines.lines().skip(1).map(|line| line.split(' ').nth(1));
-    let answered: Vec<_> = kinds.zip(answers).collect();
-    let counted = |kind, answer| answered.iter().filter(|&&pair| pair == (kind, Some(answer))).count();
-    let (shown, waited) = (counted(2, "1"), counted(4, "0"));
-    Timed { name, queue: messages as f64 / STEPS as f64, shown, waited, file }
+/// Counts what a run does.
+fn described(name: &'static str, file: Vec<u8>) -> Timed {
+    let run = parts(&file).expect("a run file");
+    let mut builder = Builder::new(Rng::new(1), run.setup);
+    let (mut messages, mut shown, mut waited, mut batches) = (0, 0, 0, 0);
+    for step in run.steps() {
+        let answer = builder.push(step);
+        messages += builder.queue_len();
+        shown += usize::from(matches!(answer, Answer::Shown(_)));
+        waited += usize::from(step.kind == WRITE && answer == Answer::Done);
+        batches +=
+            usize::from(matches!(answer, Answer::Delivered { message, .. } if message.kind.code() == BATCH));
+    }
+    Timed { name, queue: messages as f64 / STEPS as f64, shown, waited, batches, file }
 }
 
 /// Takes a random step: reads, asks, writes and restarts, with the message list
@@ -132,13 +135,29 @@ fn in_time(builder: &mut Builder) {
     builder.push(step);
 }
 
+/// Takes a step of a run that delivers messages in time to clients that often
+/// park: the clock goes past volume leases, writes are noted, and who asks again
+/// gets a BATCH first. Clients ask for objects of two volumes.
+fn parked(builder: &mut Builder) {
+    let (client, object) = (builder.any_client(), builder.any_object() & 9);
+    let step = match builder.rng.below(100) {
+        0..=9 => Step::read(client, object),
+        10..=29 => Step::ask(client, object),
+        30..=33 => Step::write(object, builder.rng.draw() >> 48),
+        34 => Step::clock(builder.tables().clock + 5),
+        _ if builder.queue_len() > 0 => Step::deliver(0),
+        _ => Step::read(client, object),
+    };
+    builder.push(step);
+}
+
 /// Returns what a run grows by, with a run for each size: messages delivered in
 /// time with more and more clients, and with more and more objects; and an ask
 /// and a loss at the front in turn, with more and more messages under way.
 pub fn growing() -> Vec<(&'static str, Vec<(usize, Vec<u8>)>)> {
     let delivered = |setup| timed("", spread(setup), in_time).file;
-    let clients = [1, 4, 16].map(|n| (n.into(), delivered(sized(n, 8, 32))));
-    let objects = [1, 8, 32].map(|n| (n.into(), delivered(sized(16, n.min(8), n))));
+    let clients = [1, 4, 16].map(|n| (n.into(), delivered(sized(n, 8, 28))));
+    let objects = [1, 8, 28].map(|n| (n.into(), delivered(sized(16, n.min(8), n))));
     let messages = [0, 16, 63].map(|n| (n, under_way(n)));
     vec![("clients", clients.into()), ("objects", objects.into()), ("messages under way", messages.into())]
 }
@@ -184,6 +203,12 @@ mod tests {
     fn copies_are_shown_and_writes_wait_where_messages_are_delivered() {
         let run = &runs()[1];
         assert!(run.shown > 0 && run.waited > 0, "{} and {}", run.shown, run.waited);
+    }
+
+    #[test]
+    fn parked_clients_are_told_of_writes() {
+        let run = &runs()[4];
+        assert!(run.batches > 40 && run.shown > 0, "{} and {}", run.batches, run.shown);
     }
 
     #[test]

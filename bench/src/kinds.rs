@@ -32,7 +32,13 @@ pub fn kinds() -> Vec<Kind> {
     let ask = Step::ask(0, 0);
     vec![
         run("unknown kind", "kind 0, with fields of 0", "4 2", &[], &[Step::default()]),
-        run("clock", "to 0, with no write standing", "0 0", &[], &[Step::clock(0)]),
+        run(
+            "clock",
+            "to 1, where notes age, with no notes and no write standing",
+            "0 0",
+            &[],
+            &[Step::clock(1)],
+        ),
         run("read", "of an object that the client does not hold", "2 0", &[], &[Step::read(0, 0)]),
         run("ask, list full", "the first 64 RENEWs fill the list, all others are lost", "0 0", &[], &[ask]),
         run("write", "of an object that no client holds", "3 1", &[], &[Step::write(0, 7)]),

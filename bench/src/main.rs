@@ -2,13 +2,14 @@
 //! process: time per step, how it grows, time to read and to write a file, peak
 //! memory and stack. `--brief` prints the same tables from a few repetitions,
 //! `--instructions` prints instructions per step, which are the same every
-//! time.
+//! time, and `--messages` the messages that parked clients cost.
 
 mod file_times;
 mod files;
 mod instructions;
 mod kinds;
 mod memory;
+mod messages;
 mod subjects;
 mod timing;
 
@@ -23,7 +24,7 @@ use model::limits::STEPS;
 use subjects::{asking, proved, same, trusting};
 use timing::{medians, Effort, BRIEF, FULL};
 
-const USAGE: &str = "usage: bench [--brief | --instructions]";
+const USAGE: &str = "usage: bench [--brief | --instructions | --messages]";
 
 fn main() -> ExitCode {
     let words: Vec<String> = env::args().skip(1).collect();
@@ -31,6 +32,10 @@ fn main() -> ExitCode {
         [] => report(FULL),
         ["--brief"] => report(BRIEF),
         ["--instructions"] => instructions::report(),
+        ["--messages"] => {
+            messages::report();
+            Ok(())
+        }
         // The program starts itself with these arguments.
         ["peak", subject] => memory::print_peak(subject),
         ["repeat", subject, times] => instructions::repeat(subject, times),
@@ -92,7 +97,7 @@ fn stack_of_a_listing() -> io::Result<u64> {
 }
 
 fn by_kind(effort: Effort) {
-    println!("by kind, 16 clients, 8 volumes, 32 objects: ns a step of library, asking model, other model");
+    println!("by kind, 16 clients, 8 volumes, 28 objects: ns a step of library, asking model, other model");
     for Kind { name, file, .. } in kinds() {
         same(&file);
         let times = medians(effort, &file, &[&proved, &asking, &trusting]);
