@@ -3,16 +3,18 @@ use Prim.Native.Nat.{ℕ, _+_, _-_, _<_, _≤_}
 use native.Mathlib.Omega.{arith}
 use mathlib.Core.Bool.{Bool, cond}
 use mathlib.Core.List.{List}
-use mathlib.Core.Path.{_≡_, _∙_}
+use mathlib.Core.Path.{_≡_, refl, _∙_}
 use lib.ListN.{getD}
-use Rattle.laws.specs.Greatest.{raiseTo}
-use Rattle.laws.specs.Loop.{foldFrom, fold-again}
+use Rattle.laws.specs.Choice.{not-both}
+use Rattle.laws.specs.Greatest.{raiseTo, greatest, greatest-start, greatest-least}
+use Rattle.laws.specs.Loop.{foldFrom, fold-again, fold-keeps}
 use Rattle.laws.specs.Parts.{part-at}
-use Rattle.laws.specs.Sets.{bitAt, setOf, added, set-again}
+use Rattle.laws.specs.Sets.{bitAt, setOf, added, set-again, bit-none}
+use Rattle.protocol.specs.declared.tables.Sessions.{Sessions}
 use Rattle.protocol.specs.Tables.{byVolume, byObject}
 use Rattle.lease_tests.specs.Parts.{waitsBy, outlastBy}
 use Rattle.state_words.specs.Fields.{wordLengths, at, CLOCK, SESSION-EXPIRY, LEASE}
-use Rattle.server_waiting.specs.Waiting.{waitsIn, leasedIn}
+use Rattle.server_waiting.specs.Waiting.{markIfIn, waitsIn, leasedIn}
 
 module _ (w : List ℕ) (v o d : ℕ) (i : v < 8) (j : o < 32) (k : d < 16) where
   waits : waitsBy (getD w 0 0) (getD w (at LEASE + byObject d o) 0) (getD w (at SESSION-EXPIRY + byVolume d v) 0) ≡ waitsIn w v o d
@@ -35,3 +37,12 @@ module _ (w : List ℕ) (v o d : ℕ) (i : v < 8) (j : o < 32) (k : d < 16) wher
   end-again n m e u A r h b q f =
       fold-again (raiseTo (bitAt m) (leasedIn w v o)) n d e u A h
       (rw (b, part-at wordLengths w SESSION-EXPIRY (byVolume d v) (omega arith), part-at wordLengths w LEASE (byObject d o) (omega arith)) at q) f
+
+-- where a write waits for nobody, the loops change nothing
+pub end-none : (f : ℕ → ℕ) (m a n : ℕ) → m ≡ 0 → a ≡ greatest (bitAt m) f a n
+end-none f m a n e =
+    omega (arith, greatest-start (bitAt m) f a a n (omega arith), greatest-least (bitAt m) f a a n (omega arith) (λ k _ t. not-both t (rw e (bit-none k))))
+
+pub marks-none : (m v n : ℕ) (x : Sessions) → m ≡ 0 → x ≡ foldFrom (markIfIn m v) x 0 n
+marks-none m v n x e =
+    fold-keeps (λ (y : Sessions). x ≡ y) (markIfIn m v) (λ y d f. rw (e, bit-none d) f) x 0 n refl

@@ -36,6 +36,9 @@ pub fn mark_waiting(words: &mut Words, waiting: u32, volume: usize, n: usize)
     ensures { λ _. ⌜ sessionsOf (now (words .exit)) ≡ foldFrom (markIfIn waiting volume) (sessionsOf (now (words .entry))) 0 n ⌝ }
     ensures { λ _. ⌜ OnlySessions (now (words .entry)) (now (words .exit)) ⌝ }
 {
+    if waiting == 0 {
+        return;
+    }
     let mut client = 0;
     while client < n {
         let yes = sets::has(waiting, client);

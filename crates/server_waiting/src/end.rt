@@ -25,6 +25,9 @@ pub fn latest_end(
     requires { ⌜ n ≤ CLIENTS ⌝ }
     ensures { λ r. ⌜ r ≡ greatest (bitAt waiting) (leasedIn (now (words .entry)) volume object) least n ⌝ }
 {
+    if waiting == 0 {
+        return least;
+    }
     let mut end = least;
     let mut client = 0;
     while client < n {

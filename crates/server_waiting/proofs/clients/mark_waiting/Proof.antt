@@ -4,6 +4,7 @@ use native.Mathlib.Nat.{sub-zero}
 use Rattle.laws.specs.Loop.{foldFrom, fold-again, fold-end}
 use Rattle.server_marks.specs.SessionWords.{sessionsOf, OnlySessions, only-start, only-again}
 use Rattle.server_waiting.specs.Waiting.{markIfIn}
+use Rattle.server_waiting.proofs.Passes.{marks-none}
 use borrow.Author.Needs.{needs}
 use Rattle.server_waiting.proofs.clients.mark_waiting.Statement.{statement}
 use Rattle.server_waiting.proofs.clients.mark_waiting.Tie as tie
@@ -15,6 +16,9 @@ Inv-loop words₀ waiting volume n client₀ words client =
 
 abbrev μ-loop : tie.MeasureT-loop
 μ-loop words₀ waiting volume n client₀ words client = n - client
+
+returns : tie.Need-returns Inv-loop μ-loop
+returns c = (search marks-none, only-start _)
 
 loop-holds : tie.Need-loop-holds Inv-loop μ-loop
 loop-holds c = (search needs, (only-start _, rw sub-zero))
@@ -41,8 +45,8 @@ loop-again c =
       ),
     )
 
-returns : tie.Need-returns Inv-loop μ-loop
-returns c = (search fold-end, c .before .loop .inv .1 .0)
+returns-2 : tie.Need-returns-2 Inv-loop μ-loop
+returns-2 c = (search fold-end, c .before .loop .inv .1 .0)
 
 pub mark-waiting-spec : {M : Type 1} → statement M
 mark-waiting-spec =
@@ -50,10 +54,11 @@ mark-waiting-spec =
     (tie.spec
     Inv-loop
     μ-loop
+    returns
     loop-holds
     has-requires
     mark-if-requires
     add-client
     loop-less
     loop-again
-    returns)
+    returns-2)

@@ -5,7 +5,7 @@ use Rattle.laws.specs.Greatest.{raiseTo, greatest}
 use Rattle.laws.specs.Loop.{foldFrom, fold-end}
 use Rattle.laws.specs.Sets.{bitAt}
 use Rattle.server_waiting.specs.Waiting.{leasedIn}
-use Rattle.server_waiting.proofs.Passes.{end-again}
+use Rattle.server_waiting.proofs.Passes.{end-again, end-none}
 use borrow.Author.Needs.{needs}
 use Rattle.server_waiting.proofs.end.latest_end.Statement.{statement}
 use Rattle.server_waiting.proofs.end.latest_end.Tie as tie
@@ -17,6 +17,9 @@ Inv-loop words waiting volume object least n end₀ client₀ end client =
 
 abbrev μ-loop : tie.MeasureT-loop
 μ-loop words waiting volume object least n end₀ client₀ end client = n - client
+
+returns : tie.Need-returns Inv-loop μ-loop
+returns c = search end-none
 
 loop-holds : tie.Need-loop-holds Inv-loop μ-loop
 loop-holds c = (search needs, rw sub-zero)
@@ -69,9 +72,9 @@ loop-again c =
     let at-loop = at-has .before .before in
     (search needs, end-again _ _ _ _ (search needs) (search needs) (search needs) _ _ _ _ _ _ (search needs) (at-has .has .ensures) (c .outlast .ensures) (at-loop .loop .inv .1))
 
-returns : tie.Need-returns Inv-loop μ-loop
+returns-2 : tie.Need-returns-2 Inv-loop μ-loop
 unfolding greatest
-returns c = search fold-end
+returns-2 c = search fold-end
 
 pub latest-end-spec : {M : Type 1} → statement M
 latest-end-spec =
@@ -79,6 +82,7 @@ latest-end-spec =
     (tie.spec
     Inv-loop
     μ-loop
+    returns
     loop-holds
     has-requires
     mul-outlast
@@ -95,4 +99,4 @@ latest-end-spec =
     add-client
     loop-less
     loop-again
-    returns)
+    returns-2)
