@@ -7,12 +7,13 @@ use model::gen::builder::Builder;
 use model::gen::rng::Rng;
 use model::gen::runs::Run;
 use model::gen::{random_steps, scenes, setups};
+use model::limits::OBJECTS;
 use tools::text::to_file;
 
 fn main() -> io::Result<()> {
     let count = std::env::args().nth(1).and_then(|count| count.parse().ok()).unwrap_or(200);
-    let mut setup = setups::sized(16, 8, 32);
-    for object in 0..32 {
+    let mut setup = setups::sized(16, 8, OBJECTS as u8);
+    for object in 0..OBJECTS {
         setup.volume_of[object] = (object % 8) as u8;
     }
     let mut b = Builder::new(Rng::new(1), setup);

@@ -169,18 +169,18 @@ fn a_text_that_stops_is_shown_up_to_there() {
     let ended = run_program(PICTURE, &["html"], &text());
     let page = String::from_utf8(ended.output).unwrap();
     assert_eq!(ended.status, 1);
-    let reason = "line 23, deliver GRANT to dash 1: found no GRANT to dash 1 under way";
+    let reason = "line 24, deliver GRANT to dash 1: found no GRANT to dash 1 under way";
     assert!(listed(&page).last().unwrap().starts_with(&format!("stopped at {reason}")));
     assert_eq!(page.matches("<p data-step=").count(), 23);
     assert!(
         ended.errors.contains("3 of 8 expectations failed")
-            && ended.errors.contains("line 23: found no GRANT")
+            && ended.errors.contains("line 24: found no GRANT")
     );
     let picture = run_program(PICTURE, &["svg"], &text());
     let picture_words = bare(&String::from_utf8(picture.output).unwrap());
     assert_eq!(picture.status, 1);
     assert!(
-        picture_words.contains("3 of 8 expectations failed") && picture_words.contains("stopped at line 23,")
+        picture_words.contains("3 of 8 expectations failed") && picture_words.contains("stopped at line 24,")
     );
 }
 
@@ -189,7 +189,7 @@ fn a_text_that_stops_is_shown_up_to_there() {
 fn a_window_has_its_own_lines() {
     let scenario = scenario(&text());
     let part = listed(&page(&scenario, Window { from: 5, to: 9 }));
-    assert!(part[0].starts_with("# Both drive in.") && part[1].starts_with("5 to 7 (line 10, "), "{part:?}");
-    assert!(part.iter().any(|line| line.starts_with("8 to 9 (line 11, ")));
+    assert!(part[0].starts_with("# Both drive in.") && part[1].starts_with("5 to 7 (line 11, "), "{part:?}");
+    assert!(part.iter().any(|line| line.starts_with("8 to 9 (line 12, ")));
     assert!(!part.iter().any(|line| line.contains("stopped at") || line.contains("Made for the page")));
 }

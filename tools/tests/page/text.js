@@ -6,7 +6,7 @@ check('the count of expectations is at the top', () => {
   same(top.length, 2, 'count and reason');
   same(top[0].startsWith('3 of 8 expectations failed, 1 not reached'), true, top[0]);
   same(top[1], lines.at(-1).parentNode.lastElementChild.textContent, 'reason');
-  same(top[1].startsWith('stopped at line 23, deliver GRANT to dash 1: found no GRANT to dash 1 under way'), true, 'reason');
+  same(top[1].startsWith('stopped at line 24, deliver GRANT to dash 1: found no GRANT to dash 1 under way'), true, 'reason');
 });
 
 check('next failed goes to every failed expectation, both ways', () => {
@@ -33,7 +33,7 @@ check('a join is one entry that opens into its steps', () => {
   joins.forEach(join => join.open = false);
   same(joins.map(join => join.querySelectorAll('[data-step]').length), [7, 7], 'steps');
   const entry = joins[0].querySelector('summary').textContent;
-  same(entry, '1 to 7 (line 10, clock 0 = 0 s) join dash 0 notice 0 # the first one', 'entry');
+  same(entry, '1 to 7 (line 11, clock 0 = 0 s) join dash 0 notice 0 # the first one', 'entry');
   same(lines[0].checkVisibility(), false, 'closed');
   choose(9, true);
   same([joins[0].open, joins[1].open, lines[8].checkVisibility()], [false, true, true], 'opened by its step');
