@@ -17,6 +17,8 @@ const HALF_HEAD: f64 = 3.4;
 const RING: f64 = 3.0;
 const CROSS: f64 = 4.5;
 const DIAMOND: f64 = 5.0;
+/// As far as rounding moves two corners towards each other.
+const ROUNDED: f64 = 0.2;
 
 pub fn draw(timeline: &Timeline, layout: &Layout, shown: &[Shown], taken: &mut Taken, svg: &mut Svg) {
     for one in shown {
@@ -70,7 +72,7 @@ fn diamond(svg: &mut Svg, taken: &mut Taken, kind: &str, middle: Point) {
     let Point { x, y } = middle;
     let corners = [at(x - DIAMOND, y), at(x, y - DIAMOND), at(x + DIAMOND, y), at(x, y + DIAMOND)];
     svg.shape(&format!("doubled {kind}"), &corners);
-    let middle = |a: Point, b: Point| at((a.x + b.x) / 2.0, (a.y + b.y) / 2.0);
-    let (from, to) = (middle(corners[0], corners[1]), middle(corners[2], corners[3]));
-    taken.take(Tile::line(from, to, DIAMOND * 2.0_f64.sqrt()));
+    let half = (DIAMOND + ROUNDED) / 2.0;
+    let (from, to) = (at(x - half, y - half), at(x + half, y + half));
+    taken.take(Tile::line(from, to, 2.0 * half * 2.0_f64.sqrt()));
 }
