@@ -74,7 +74,9 @@ fn longest(message: &mut Message) {
         Kind::Offer { number, epoch, .. } | Kind::Dropped { number, epoch, .. } => {
             (*number, *epoch) = (u32::MAX, u32::MAX)
         }
-        Kind::Batch(batch) | Kind::Cleared(batch) => (batch.number, batch.epoch) = (u32::MAX, u32::MAX),
+        Kind::Batch(batch) | Kind::Cleared(batch) => {
+            (batch.number, batch.epoch, batch.set) = (u32::MAX, u32::MAX, u32::MAX)
+        }
         Kind::Invalidate { version, epoch, .. } | Kind::Ack { version, epoch, .. } => {
             (*version, *epoch) = (u32::MAX, u32::MAX)
         }
@@ -96,7 +98,10 @@ fn assert_readable(picture: &str, name: &str) {
         assert_eq!(crossing(&part), None, "{name}, {}", part.name);
         match part.name.as_str() {
             "header" => assert_in_columns(&part, name),
-            "lanes" => assert_in_bars(&part, name),
+            "lanes" => {
+                assert_in_bars(&part, name);
+                assert_eq!(overlaid(&part), None, "{name}");
+            }
             _ => (),
         }
     }
@@ -164,6 +169,20 @@ fn pictures_of_texts_are_readable() {
     }
 }
 
+/// Returns two bars that overlap, if there are any: notes are in the row of the
+/// volume's lease.
+fn overlaid(lanes: &Part) -> Option<String> {
+    let bars = ["notes", "volume-lease", "object-lease", "guard", "write", "write cut-off"];
+    let mut bars: Vec<&Shape> =
+        lanes.shapes.iter().filter(|shape| bars.contains(&shape.class.as_str())).collect();
+    let top = |bar: &Shape| bar.bounds().0 .1;
+    let left = |bar: &Shape| bar.bounds().0 .0;
+    bars.sort_by(|one, other| top(one).total_cmp(&top(other)).then(left(one).total_cmp(&left(other))));
+    let mut pairs = bars.windows(2).filter(|pair| top(pair[0]) == top(pair[1]));
+    let met = pairs.find(|pair| pair[0].bounds().1 .0 > left(pair[1]) + 0.2);
+    met.map(|pair| format!("{:?} lies over {:?}", pair[0], pair[1]))
+}
+
 /// The same pictures are found wrong if labels have no grounds, or if lines are
 /// drawn after them.
 #[test]
@@ -212,12 +231,13 @@ fn the_widest_picture_is_below_16_000_pixels() {
     }
 }
 
-/// Returns the words on each write's bar.
-fn writes(lanes: &Part) -> impl Iterator<Item = &str> {
-    let written =
-        |group: &&Vec<String>| group.iter().any(|element| element.starts_with("<rect class=\"ground write"));
-    let texts = lanes.groups.iter().filter(written).flatten().filter(|element| element.starts_with("<text "));
-    texts.map(|element| element.split_once('>').unwrap().1.strip_suffix("</text>").unwrap())
+/// Returns the words on the bars of a class.
+fn on_bars<'a>(lanes: &'a Part, class: &str) -> Vec<&'a str> {
+    let ground = format!("<rect class=\"ground {class}");
+    let labelled = |group: &&Vec<String>| group.iter().any(|element| element.starts_with(&ground));
+    let texts =
+        lanes.groups.iter().filter(labelled).flatten().filter(|element| element.starts_with("<text "));
+    texts.map(|element| element.split_once('>').unwrap().1.strip_suffix("</text>").unwrap()).collect()
 }
 
 /// In the examples there is room for it. A short bar shows it instead of the
@@ -225,7 +245,7 @@ fn writes(lanes: &Part) -> impl Iterator<Item = &str> {
 #[test]
 fn writes_name_whose_lease_fixes_their_end() {
     let all: Vec<Part> = examples().map(|run| lanes(&svg(&run, whole(&Timeline::new(&run))))).collect();
-    let told: Vec<Vec<&str>> = all.iter().map(|lanes| writes(lanes).collect()).collect();
+    let told: Vec<Vec<&str>> = all.iter().map(|lanes| on_bars(lanes, "write")).collect();
     assert!(told.iter().all(|writes| !writes.is_empty()));
     assert!(told.iter().flatten().all(|words| words.contains(" by ")), "{told:?}");
     for (example, words) in [
@@ -333,5 +353,5 @@ fn every_mark_is_in_the_legend() {
     {
         assert!(legend.contains(&format!("class=\"{class}")), "{class}");
     }
-    assert!(drawn.contains("latest-rest"));
+    assert!(drawn.contains("latest-rest") && drawn.contains("notes"), "{drawn:?}");
 }

@@ -4,8 +4,10 @@ mod common;
 
 use common::{example, run_program};
 use model::gen::runs::{run, Run};
+use model::message::{Kind, Message};
 use tools::picture::layout::Window;
 use tools::text::from_file;
+use tools::timeline::spans::Span;
 use tools::timeline::tracks::Track;
 use tools::timeline::Timeline;
 
@@ -87,13 +89,77 @@ fn every_message_and_read_is_there() {
         let (picture, timeline) = (svg(&run, whole(&run)), Timeline::new(&run));
         let answered =
             |answer: u8| timeline.steps.iter().filter(|view| view.answer.numbers().0 == answer).count();
-        assert_eq!(count(&picture, "arrow "), timeline.flights.len() + 4, "run {number}");
+        assert_eq!(count(&picture, "arrow "), timeline.flights.len() + 6, "run {number}");
         assert_eq!(count(&picture, "shown\""), answered(1) + 1);
         assert_eq!(count(&picture, "ask-first\""), answered(2) + 1);
         assert_eq!(count(&picture, "refused\""), 2 * (answered(4) + 1));
         let copies = timeline.flights.iter().filter(|flight| flight.copy_of.is_some()).count();
         assert_eq!(count(&picture, "doubled "), copies + 1);
     }
+}
+
+/// Returns the title of a BATCH or CLEARED, up to its end.
+fn title_of_set(message: &Message) -> Option<(&'static str, String)> {
+    let (kind, way, batch) = match message.kind {
+        Kind::Batch(batch) => ("batch", "to", batch),
+        Kind::Cleared(batch) => ("cleared", "from", batch),
+        _ => return None,
+    };
+    let (name, number, client) = (kind.to_uppercase(), batch.number, message.client);
+    let fields = format!("volume {}, epoch {}, {}", batch.volume, batch.epoch, objects(batch.set));
+    Some((kind, format!("<title>{name} {number} {way} client {client} ({fields})\n")))
+}
+
+fn objects(set: u32) -> String {
+    let numbers = (0..28).filter(|object| set >> object & 1 == 1);
+    let numbers: Vec<String> = numbers.map(|object: u32| object.to_string()).collect();
+    let ending = if numbers.len() == 1 { "" } else { "s" };
+    format!("object{ending} {}", numbers.join(", "))
+}
+
+/// Both kinds have arrows of their own, also in the legend, and tell when pointed
+/// at which objects they are about; where there is room, so do their labels.
+#[test]
+fn batches_name_their_objects() {
+    let mut counts = [0; 3];
+    for number in (2..150).filter(|number| number % 50 > 1) {
+        let run = run(24, number);
+        let (picture, timeline) = (svg(&run, whole(&run)), Timeline::new(&run));
+        let sets = timeline.flights.iter().filter_map(|flight| title_of_set(&flight.message));
+        let sets: Vec<_> = sets.collect();
+        assert!(sets.iter().all(|(_, title)| picture.contains(title)), "run {number}: {sets:?}");
+        let sent = ["batch", "cleared"].map(|kind| sets.iter().filter(|set| set.0 == kind).count());
+        let drawn = ["arrow batch", "arrow cleared"].map(|class| count(&picture, class));
+        assert_eq!(drawn, sent.map(|sent| sent + 1), "run {number}");
+        let labels = ["message batch", "message cleared"].map(|class| texts(&picture, class));
+        let named = labels.into_iter().flatten().filter(|label| label.contains(" object")).count();
+        counts = [counts[0] + sent[0], counts[1] + sent[1], counts[2] + named];
+    }
+    assert!(counts.iter().all(|&count| count > 10), "{counts:?}");
+}
+
+/// Each span of notes is a bar that tells when pointed at whose notes they are
+/// and of which objects; the legend has one, too.
+#[test]
+fn notes_name_their_objects() {
+    let mut sizes = [0; 2];
+    for number in (2..150).filter(|number| number % 50 > 1) {
+        let run = run(25, number);
+        let (picture, timeline) = (svg(&run, whole(&run)), Timeline::new(&run));
+        let title = |span: &Span| match span.track {
+            Track::Notes(client, volume) => Some(format!(
+                "<title>server's notes for client {client} in volume {volume}: {}",
+                objects(span.detail.value as u32)
+            )),
+            _ => None,
+        };
+        let titles: Vec<String> = timeline.spans.iter().filter_map(title).collect();
+        assert!(titles.iter().all(|title| picture.contains(title)), "run {number}: {titles:?}");
+        assert_eq!(picture.matches("<rect class=\"notes\"").count(), titles.len() + 1, "run {number}");
+        let several = titles.iter().filter(|title| title.contains(": objects ")).count();
+        sizes = [sizes[0] + several, sizes[1] + titles.len() - several];
+    }
+    assert!(sizes[0] > 5 && sizes[1] > 100, "{sizes:?}");
 }
 
 /// A write that is pointed at says the same about its latest end as its line.

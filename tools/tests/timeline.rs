@@ -5,6 +5,7 @@ use std::collections::BTreeMap;
 
 use model::gen::runs::{run, Run};
 use tools::timeline::flights::{End, Flights};
+use tools::timeline::tracks::Track;
 use tools::timeline::{tracks, Timeline};
 use tools::trace::walk;
 
@@ -87,6 +88,35 @@ fn spans_cover_what_the_tables_hold() {
             assert_eq!(covered, tracks::of(moment.setup, moment.after));
         });
     }
+}
+
+/// The notes and batches shown after a step are those of the server's tables.
+/// Meanwhile the client has no lease on the volume, whose row they use.
+#[test]
+fn notes_are_the_servers() {
+    let (mut noted, mut sent) = (0, 0);
+    for number in (0..200).filter(|number| number % 50 > 1) {
+        let run = run(10, number);
+        let spans = Timeline::new(&run).spans;
+        walk(&run, |moment| {
+            let (step, server) = (moment.number, moment.server());
+            let now = |track| {
+                let mut of_track = spans.iter().filter(|span| span.track == track && span.from <= step);
+                of_track.find(|span| span.to.is_none_or(|to| step < to)).map(|span| span.detail)
+            };
+            let pairs = (0..16).flat_map(|client| moment.volumes().map(move |volume| (client, volume)));
+            for (client, volume) in pairs {
+                let (set, batch) = (server.notes[volume][client], server.batch[volume][client]);
+                let shown = now(Track::Notes(client, volume));
+                let told = shown.map_or((0, 0), |notes| (notes.value, notes.version));
+                assert_eq!(told, (set.into(), batch), "run {number}, step {step}");
+                let lease = now(Track::VolumeLease(client, volume));
+                assert!(shown.is_none() || lease.is_none(), "run {number}, step {step}");
+                (noted, sent) = (noted + usize::from(set != 0), sent + usize::from(batch != 0));
+            }
+        });
+    }
+    assert!(noted > 500 && sent > 100, "{noted} {sent}");
 }
 
 #[test]

@@ -84,17 +84,20 @@ fn mark(svg: &mut Svg, span: &Span, bar: Bar) {
         svg.line(class, at(bar.from, bar.top + down), at(bar.to, bar.top + down))
     };
     match span.track {
-        Track::ServerVolumeLease(..) | Track::ServerObjectLease(..) => bar.draw(svg, "noted", 2.0, 2.0),
+        Track::ServerVolumeLease(..) | Track::ServerObjectLease(..) => bar.draw(svg, "recorded", 2.0, 2.0),
         Track::Copy(..) => line(svg, "copy", 16.3),
         Track::Unreachable(..) => line(svg, "unreachable", 18.3),
-        track => bar.draw(svg, lease(track), 4.0, 11.0),
+        track => bar.draw(svg, coloured(track), 4.0, 11.0),
     }
 }
 
-fn lease(track: Track) -> &'static str {
+/// Returns the class of a bar that is not a write's. Notes are in the row of the
+/// volume's lease: there are none while it lives.
+fn coloured(track: Track) -> &'static str {
     match track {
         Track::Guard(_) => "guard",
         Track::VolumeLease(..) => "volume-lease",
+        Track::Notes(..) => "notes",
         _ => "object-lease",
     }
 }
@@ -103,7 +106,9 @@ fn lease(track: Track) -> &'static str {
 fn class(timeline: &Timeline, layout: &Layout, span: &Span) -> Option<&'static str> {
     match span.track {
         Track::Write(_) => Some(writes::class(timeline, layout, span)),
-        Track::Guard(_) | Track::VolumeLease(..) | Track::ObjectLease(..) => Some(lease(span.track)),
+        Track::Guard(_) | Track::VolumeLease(..) | Track::Notes(..) | Track::ObjectLease(..) => {
+            Some(coloured(span.track))
+        }
         _ => None,
     }
 }
@@ -118,14 +123,14 @@ fn done(timeline: &Timeline, layout: &Layout, step: usize) -> f64 {
 }
 
 /// Returns where a bar ends. If its time runs out inside a clock step, it ends
-/// inside that column.
+/// inside that column; writes and notes end only when a step ends them.
 fn end(timeline: &Timeline, layout: &Layout, span: &Span) -> f64 {
     let Some(step) = span.to else {
         return layout.left(timeline.steps.len() + 1);
     };
-    let write = matches!(span.track, Track::Write(_));
+    let by_step = matches!(span.track, Track::Write(_) | Track::Notes(..));
     match timeline.passed(step, span.detail.until) {
-        Some(part) if !write => layout.left(step) + part * COLUMN,
+        Some(part) if !by_step => layout.left(step) + part * COLUMN,
         _ => done(timeline, layout, step),
     }
 }

@@ -231,6 +231,7 @@ pub fn row(track: Track) -> Row {
         Track::Guard(volume) => Row::Guard(volume),
         Track::Write(object) => Row::Write(object),
         Track::ServerVolumeLease(client, volume)
+        | Track::Notes(client, volume)
         | Track::Unreachable(client, volume)
         | Track::VolumeLease(client, volume) => Row::Volume(client, volume),
         Track::ServerObjectLease(client, object)

@@ -10,7 +10,7 @@ pub const SIGN: f64 = 34.0;
 /// Draws a sign in the room from x on, around the middle line y.
 type Sign = fn(&mut Svg, f64, f64);
 
-const SIGNS: [(&str, Sign); 20] = [
+const SIGNS: [(&str, Sign); 23] = [
     ("ask", |svg, x, y| svg.circle("asked", at(x + 14.0, y), 3.0)),
     ("read shown, with its value", |svg, x, y| svg.circle("shown", at(x + 14.0, y), 6.0)),
     ("ask first", |svg, x, y| {
@@ -24,7 +24,10 @@ const SIGNS: [(&str, Sign); 20] = [
     ("volume lease of the client", |svg, x, y| svg.rect("volume-lease", at(x, y - 5.5), 28.0, 11.0)),
     ("object lease of the client", |svg, x, y| svg.rect("object-lease", at(x, y - 5.5), 28.0, 11.0)),
     ("copy held", |svg, x, y| svg.line("copy", at(x, y), at(x + 28.0, y))),
-    ("the same lease as the server notes it", |svg, x, y| svg.rect("noted", at(x, y - 1.0), 28.0, 2.0)),
+    ("the same lease as the server records it", |svg, x, y| svg.rect("recorded", at(x, y - 1.0), 28.0, 2.0)),
+    ("server's notes for the client: objects written while it was parked", |svg, x, y| {
+        svg.rect("notes", at(x, y - 5.5), 28.0, 11.0)
+    }),
     ("marked unreachable", |svg, x, y| svg.line("unreachable", at(x, y), at(x + 28.0, y))),
     ("guard after a restart of the server", |svg, x, y| svg.rect("guard", at(x, y - 5.5), 28.0, 11.0)),
     ("write, from acceptance; red: its latest end", |svg, x, y| {
@@ -40,10 +43,9 @@ const SIGNS: [(&str, Sign); 20] = [
         svg.line("latest", at(x + 27.0, y - 7.5), at(x + 27.0, y + 7.5));
     }),
     ("write cut off by a restart", |svg, x, y| svg.rect("write cut-off", at(x, y - 5.5), 28.0, 11.0)),
-    ("message, received", |svg, x, y| {
-        svg.line("arrow ack", at(x, y), at(x + 24.0, y));
-        svg.shape("head ack", &[at(x + 28.0, y), at(x + 19.0, y - 3.4), at(x + 19.0, y + 3.4)]);
-    }),
+    ("message, received", |svg, x, y| received(svg, "ack", x, y)),
+    ("BATCH: notes sent to the client", |svg, x, y| received(svg, "batch", x, y)),
+    ("CLEARED: the client has erased these copies", |svg, x, y| received(svg, "cleared", x, y)),
     ("message lost, with its receiver", |svg, x, y| {
         svg.line("arrow invalidate lost", at(x, y), at(x + 22.0, y));
         svg.cross("lost-mark", at(x + 22.0, y), 4.5);
@@ -57,6 +59,13 @@ const SIGNS: [(&str, Sign); 20] = [
         svg.circle("under-way renew", at(x + 25.0, y), 3.0);
     }),
 ];
+
+/// Draws the arrow of a message of this kind.
+fn received(svg: &mut Svg, kind: &str, x: f64, y: f64) {
+    svg.line(&format!("arrow {kind}"), at(x, y), at(x + 24.0, y));
+    let corners = [at(x + 28.0, y), at(x + 19.0, y - 3.4), at(x + 19.0, y + 3.4)];
+    svg.shape(&format!("head {kind}"), &corners);
+}
 
 /// Returns the words of each sign, and the sign by itself.
 pub fn signs(voice: &Voice) -> impl Iterator<Item = (String, String)> + '_ {

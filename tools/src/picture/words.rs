@@ -1,13 +1,13 @@
 //! The words of messages and bars, on themselves and when pointed at.
 
-use model::message::Message;
+use model::message::{Kind, Message};
 
 use super::letters::{cut, LABEL};
 use crate::latest_end::Cause;
 use crate::names;
 use crate::timeline::flights::{End, Flight};
 use crate::timeline::spans::Span;
-use crate::timeline::tracks::Track;
+use crate::timeline::tracks::{Detail, Track};
 use crate::timeline::{StepView, Timeline};
 use crate::voice::Voice;
 
@@ -42,7 +42,13 @@ pub fn addressed(voice: &Voice, message: &Message) -> Vec<String> {
 
 /// Returns a message's labels if the receiver is named elsewhere.
 pub fn anonymous(voice: &Voice, message: &Message) -> Vec<String> {
-    vec![voice.said(&names::label(message)), names::kind(&message.kind).into()]
+    let label = names::label(message);
+    let with_objects = match message.kind {
+        Kind::Batch(batch) | Kind::Cleared(batch) => Some(format!("{label} {}", names::objects(batch.set))),
+        _ => None,
+    };
+    let wordings = with_objects.into_iter().chain([label, names::kind(&message.kind).into()]);
+    wordings.map(|words| voice.said(&words)).collect()
 }
 
 /// Returns the label of a message at this place in the queue.
@@ -89,6 +95,7 @@ pub fn wordings(timeline: &Timeline, span: &Span) -> Vec<String> {
             format!("value {value}, to {until}"),
             format!("to {until}"),
         ],
+        Track::Notes(_, volume) => noted(span.detail, volume),
         Track::Write(object) => {
             let (whole, short) = (by(timeline, span, Cause::words), by(timeline, span, Cause::short));
             vec![
@@ -106,10 +113,40 @@ pub fn wordings(timeline: &Timeline, span: &Span) -> Vec<String> {
     wordings.iter().map(|words| timeline.voice.said(words)).collect()
 }
 
+/// Returns the labels of notes: the objects, and the batch that told the client
+/// of them.
+fn noted(notes: Detail, volume: usize) -> Vec<String> {
+    let objects = names::objects(notes.value as u32);
+    let numbers = objects.trim_start_matches(|c: char| !c.is_ascii_digit());
+    let alone = [format!("notes: {objects}"), format!("notes {numbers}"), numbers.into()];
+    let wordings = match notes.version {
+        0 => vec![format!("volume {volume} notes: {objects}")],
+        batch => vec![
+            format!("volume {volume} notes: {objects}, batch {batch}"),
+            format!("notes: {objects}, batch {batch}"),
+            format!("notes {numbers}, batch {batch}"),
+        ],
+    };
+    wordings.into_iter().chain(alone).collect()
+}
+
 pub fn span_title(timeline: &Timeline, span: &Span) -> String {
     let what = timeline.voice.said(&span_words(timeline, span));
     let last = span.to.map_or("the end".into(), |to| format!("step {}", timeline.step(to).line));
     format!("{what}\nfrom step {}\nto {last}", timeline.step(span.from).line)
+}
+
+/// Returns the noted objects, the batch that told the client of them, and when
+/// they age.
+fn told_notes(timeline: &Timeline, notes: Detail) -> String {
+    let objects = names::objects(notes.value as u32);
+    let batch = match notes.version {
+        0 => String::new(),
+        number => format!(", sent in BATCH {number}"),
+    };
+    let aged = notes.until.checked_add(timeline.setup.delay);
+    let aged = aged.map_or(String::new(), |time| format!(", to age at {}", timeline.voice.ticks(time)));
+    format!("{objects}{batch}{aged}")
 }
 
 fn span_words(timeline: &Timeline, span: &Span) -> String {
@@ -122,10 +159,14 @@ fn span_words(timeline: &Timeline, span: &Span) -> String {
             format!("write of object {object}: value {value}, version {version}, latest end {until} {by}")
         }
         Track::ServerVolumeLease(client, volume) => {
-            format!("server's note: volume {volume} lease of client {client} to {until}")
+            format!("server's record: volume {volume} lease of client {client} to {until}")
         }
         Track::ServerObjectLease(client, object) => {
-            format!("server's note: object {object} lease of client {client} to {until}")
+            format!("server's record: object {object} lease of client {client} to {until}")
+        }
+        Track::Notes(client, volume) => {
+            let whose = format!("server's notes for client {client} in volume {volume}");
+            format!("{whose}: {}", told_notes(timeline, span.detail))
         }
         Track::Unreachable(client, volume) => {
             format!("client {client} marked unreachable in volume {volume}")

@@ -1,5 +1,6 @@
 //! A run over time: its steps, the path of each message, and how long each
-//! lease, copy, write, guard and mark lasted, all read from the model's tables.
+//! lease, copy, write, guard, note and mark lasted, all read from the model's
+//! tables.
 
 pub mod flights;
 pub mod spans;
