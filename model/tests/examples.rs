@@ -54,6 +54,7 @@ fn each_mistake_changes_exactly_its_line() {
         ("5-old-messages", "offer_any_number", "55 1 0", "55 2 0"),
         ("6-never-held", "latest_end_by_old_rule", "22 3 1", "22 0 0"),
         ("6-never-held", "latest_end_by_greater", "22 3 1", "22 0 0"),
+        ("7-parked", "waits_for_parked", "18 3 1", "18 0 0"),
     ] {
         let expected = vec![(honest.to_string(), wrong.to_string())];
         assert_eq!(differences(example, Mistakes::named(mistake)), expected, "{example}, {mistake}");

@@ -183,6 +183,17 @@ fn overlaid(lanes: &Part) -> Option<String> {
     met.map(|pair| format!("{:?} lies over {:?}", pair[0], pair[1]))
 }
 
+/// A bar of notes that begins where the lease still lives would be found.
+#[test]
+fn notes_over_a_lease_are_found() {
+    let run = examples().last().unwrap();
+    let picture = svg(&run, whole(&Timeline::new(&run)));
+    assert_eq!(overlaid(&lanes(&picture)), None);
+    let (before, notes) = picture.split_once("<rect class=\"notes\" x=\"").unwrap();
+    let moved = format!("{before}<rect class=\"notes\" x=\"350{}", &notes[notes.find('"').unwrap()..]);
+    assert!(overlaid(&lanes(&moved)).unwrap().contains("notes"));
+}
+
 /// The same pictures are found wrong if labels have no grounds, or if lines are
 /// drawn after them.
 #[test]
@@ -257,6 +268,14 @@ fn writes_name_whose_lease_fixes_their_end() {
     ] {
         assert!(told[example].contains(&words), "{:?}", told[example]);
     }
+}
+
+#[test]
+fn notes_name_their_objects_and_batch() {
+    let run = examples().last().unwrap();
+    let lanes = lanes(&svg(&run, whole(&Timeline::new(&run))));
+    let told = ["volume 0 notes: object 0", "notes 0, batch 3", "volume 0 notes: object 0, batch 4"];
+    assert_eq!(on_bars(&lanes, "notes"), told);
 }
 
 fn receiver(message: &Message) -> String {

@@ -193,3 +193,26 @@ fn a_window_has_its_own_lines() {
     assert!(part.iter().any(|line| line.starts_with("8 to 9 (line 12, ")));
     assert!(!part.iter().any(|line| line.contains("stopped at") || line.contains("Made for the page")));
 }
+
+/// Notes and batches are about a client and a volume, so that the page can leave
+/// them out with the others.
+#[test]
+fn notes_and_batches_can_be_left_out() {
+    let scenario = scenario(&example("7-parked.runtext"));
+    let page = page(&scenario, whole(&scenario));
+    let about = |inside: &str| -> Vec<&str> {
+        let groups =
+            page.split("<g").skip(1).filter(|group| group.split("</g>").next().unwrap().contains(inside));
+        groups.map(|group| group.split('>').next().unwrap()).collect()
+    };
+    assert_eq!(about("<rect class=\"notes\""), [" data-client=\"0\" data-volume=\"0\""; 3]);
+    for (class, count) in [("<line class=\"arrow batch", 2), ("<line class=\"arrow cleared", 1)] {
+        let about = about(class);
+        assert!(about.iter().all(|it| it.ends_with(" data-client=\"0\" data-volume=\"0\"")), "{about:?}");
+        assert_eq!(about.len(), count);
+    }
+    let steps = ["26", "29", "31"].map(|step| {
+        format!("<p data-step=\"{step}\" data-client=\"0\" data-volume=\"0\" data-answer=\"done\"")
+    });
+    assert!(steps.iter().all(|step| page.contains(step)));
+}

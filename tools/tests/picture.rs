@@ -162,6 +162,23 @@ fn notes_name_their_objects() {
     assert!(sizes[0] > 5 && sizes[1] > 100, "{sizes:?}");
 }
 
+/// A write that waits for nobody has no bar: its value is at its step, and the
+/// note of the parked client begins there.
+#[test]
+fn a_write_that_a_parked_client_does_not_hold_up_has_no_bar() {
+    let run = from_file(&example("7-parked.run")).unwrap();
+    let picture = svg(&run, whole(&run));
+    let rows: Vec<&str> = texts(&picture, "row-name").collect();
+    assert!(rows.contains(&"write, object 1") && !rows.contains(&"write, object 0"), "{rows:?}");
+    assert!(texts(&picture, "value completed-text").eq(["7"]));
+    let title = "<title>server's notes for client 0 in volume 0: object 0, to age at 110\nfrom step 18 ";
+    assert!(picture.contains(title));
+    let title = "<title>server's notes for client 0 in volume 0: object 0, sent in BATCH 4, to age at 110\n\
+                 from step 24 ";
+    let last = picture.split_once(title).unwrap().1.split_once("</title>").unwrap().0;
+    assert!(last.lines().nth(1).unwrap().starts_with("to step 29 "), "{last}");
+}
+
 /// A write that is pointed at says the same about its latest end as its line.
 #[test]
 fn every_write_tells_what_fixes_its_end() {

@@ -1,5 +1,6 @@
 //! The runs in the repository's examples folder: 01's own, one for each line of
-//! the customer's test sheet, and the notice desk's of 02, A3.
+//! the customer's test sheet, the notice desk's of 02, A3, and the parked
+//! client's of A6.
 
 use crate::gen::runs::Run;
 use crate::gen::setups::sized;
@@ -20,6 +21,7 @@ pub fn all() -> Vec<Example> {
         example("4-client-switched-off", "line 4 of the sheet", (2, 1, 1), client_switched_off()),
         example("5-old-messages", "line 5 of the sheet", (4, 1, 4), old_messages()),
         example("6-never-held", "request A3, the notice desk", (2, 1, 2), never_held()),
+        parked(),
     ]
 }
 
@@ -123,4 +125,22 @@ fn never_held() -> Vec<Step> {
     let write = [Step::write(0, 7), Step::lose(0), Step::clock(10), Step::read(0, 0), Step::clock(12)];
     let end = [Step::clock(13), Step::read(0, 0), Step::read(1, 1)];
     [&hold(0, 0, 0)[..], &late, &hold(1, 1, 0), &write, &end].concat()
+}
+
+/// Client 0 is parked, and its lease on object 0 lives. Object 0 is written and
+/// noted for it; then it comes back and asks twice. The write of object 1 waits
+/// for client 1, which is awake. The delay is long enough for the note to last.
+/// By the rule before A6 the write of object 0 waits for client 0, and the
+/// places of the messages are such that an ACK ends it where the ACK of client 1
+/// ends the other one now.
+fn parked() -> Example {
+    let (read, ask, d) = (Step::read(0, 0), Step::ask(0, 0), Step::deliver);
+    let park = [read, Step::clock(60), read];
+    let back = [Step::write(0, 7), ask, ask, Step::write(1, 8)];
+    let batch = [d(0), d(1), d(0), d(1), d(1), read];
+    let again = [ask, d(1), d(1), d(0), d(0), read];
+    let steps = [&hold(0, 0, 0)[..], &park, &hold(1, 1, 0), &back, &batch, &again].concat();
+    let mut example = example("7-parked", "request A6, a parked dash", (2, 1, 2), steps);
+    example.run.setup.delay = 100;
+    example
 }
