@@ -34,7 +34,8 @@ fn write_front(out: &mut [u8], at: usize, setup: Setup)
     bytes_layout::write_u32(out, at + 12, setup.m);
 }
 
-// Writes a setup, the delay "in the last four volume bytes" (02, A6). The last two clauses are for callers, which cannot see that a setup has a volume byte for each object that there can be.
+// Writes a setup, the delay "in the last four volume bytes" (02, A6). The last two clauses are for callers, which cannot see that a setup has a volume byte
+// for each object that there can be.
 pub fn write_setup(out: &mut [u8], at: usize, setup: Setup) -> usize
     requires { ⌜ at + SETUP ≤ length (now out) ⌝ }
     requires { ⌜ inRange setup ≡ true ⌝ }

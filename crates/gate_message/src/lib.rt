@@ -1,3 +1,3 @@
 // Question 1 for one message and for one set of objects, passed by value (01, "Questions at the gate").
 pub mod messages;
-pub mod volumes;
+pub mod object_sets;

@@ -2,7 +2,7 @@ ghost use mathlib.Core.Bool.{true};
 ghost use mathlib.Core.Path.{_≡_};
 ghost use Rattle.protocol.specs.Setup.{inRange};
 ghost use Rattle.protocol.specs.Sound.{kindSound, messageSound};
-use crate::volumes::set_sound;
+use crate::object_sets::set_sound;
 use protocol::message::Kind;
 use protocol::message::Message;
 use protocol::setup::Setup;

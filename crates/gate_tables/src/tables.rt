@@ -8,7 +8,7 @@ ghost use Rattle.protocol.specs.Sound.{volumeSound, objectSound, sessionsSound,
 ghost use Rattle.state_words.specs.View.{tablesOf, numbersOf};
 ghost use Rattle.setup.specs.Limits.{CLIENTS, OBJECTS, VOLUMES};
 use crate::messages;
-use gate_message::volumes::set_sound;
+use gate_message::object_sets::set_sound;
 use protocol::setup::Setup;
 use setup::limits;
 use setup::limits::SLOTS;

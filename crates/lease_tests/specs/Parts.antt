@@ -7,7 +7,7 @@ use Rattle.protocol.specs.declared.setup.Setup.{Setup}
 use Rattle.protocol.specs.Setup.{volumeOf}
 use Rattle.protocol.specs.Leases.{serverAlive}
 
--- v is the volume of object o, with the bounds that hold for a setup in range
+-- v is the volume of object o, with the bounds that hold for a setup in range; a row of the tables has 32 places
 pub record Placed (s : Setup) (o v : ℕ) : Type 0 where
   pub is : v ≡ volumeOf s o
   pub exists : v < s .volumes

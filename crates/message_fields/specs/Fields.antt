@@ -42,7 +42,7 @@ setKindIn f =
     cond (eqb (f .kind) 7) (Batch (f .object) (f .number) (f .epoch) (f .version))
     (cond (eqb (f .kind) 8) (Cleared (f .object) (f .number) (f .epoch) (f .version)) (Renew (f .object) (f .number) (f .epoch) (f .version)))
 
--- "kind (1 to 6 in the order RENEW, GRANT, INVALIDATE, ACK, OFFER, DROPPED)"
+-- "kind (1 to 6 in the order RENEW, GRANT, INVALIDATE, ACK, OFFER, DROPPED)"; 7 and 8 by `setKindIn`
 unfoldable pub kindIn : Fields → Kind
 kindIn f =
     cond (eqb (f .kind) 2) (Grant (f .object) (f .number) (f .«volume_expiry») (f .epoch) (f .version) (f .«object_expiry») (payloadIn f))

@@ -109,7 +109,8 @@ fn volume_fields(client: u8, kind: Kind) -> Fields
 }
 
 // Returns the fields of a message by its kind, "1 to 6 in the order RENEW, GRANT, INVALIDATE, ACK, OFFER, DROPPED": "RENEW has object, number, epoch and
-// version; GRANT every field; INVALIDATE and ACK object, epoch and version; OFFER and DROPPED volume, number and epoch."
+// version; GRANT every field; INVALIDATE and ACK object, epoch and version; OFFER and DROPPED volume, number and epoch." Kinds from 5 on, which are about a
+// volume, are left to `volume_fields`.
 fn kind_fields(client: u8, kind: Kind) -> Fields
     ensures { λ r. ⌜ r ≡ kindFields client kind ⌝ }
 {

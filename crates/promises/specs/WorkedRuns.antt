@@ -148,8 +148,10 @@ kept xs =
     let t = ran tiny (freshWorld tiny) xs .tables in
     (notesAt t 0 0, batchAt t 0 0, unreachableAt t 0 0, messages (t .queue))
 
--- the object is noted; the RENEW is answered by the BATCH, that by the CLEARED, which drops the note; then the client asks again and is shown the new value
+-- the write completes at once and the object is noted; the RENEW is answered by the BATCH, that by the CLEARED, which drops the note; then the client asks
+-- again and is shown the new value
 pub parked-client : (kept parked ≡ (1, 0, false, []))
+    × (history tiny parked ≡ completion 0 ∷ acceptance 0 7 13 ∷ clockStep 10 ∷ [])
     × (kept (parked ++ (ask 0 0 ∷ deliver ∷ [])) ≡ (1, 3, false, message 0 (Batch 0 3 1 1) ∷ []))
     × (kept (parked ++ (ask 0 0 ∷ deliver ∷ deliver ∷ [])) ≡ (1, 3, false, message 0 (Cleared 0 3 1 1) ∷ []))
     × (kept (parked ++ (ask 0 0 ∷ deliver ∷ deliver ∷ deliver ∷ [])) ≡ (0, 0, false, []))
@@ -158,4 +160,4 @@ pub parked-client : (kept parked ≡ (1, 0, false, []))
     × (kept (parked ++ (clock 10 ∷ [])) ≡ (1, 0, false, []))
     × (kept (parked ++ (clock 11 ∷ [])) ≡ (0, 0, true, []))
 unfolding tiny parked ran step clock write told historyFrom events happening foldFrom anyFrom allFrom firstFrom removeAt storeEach greatest inRange objectsIn bitAt setOf sets.removed added less allIn pushed removed freshTables serverAlive clientAlive clientClock guardPassed endOver waits delays delayed latestEnd opened awaited notified waited ready due agedIn aged clockSet deserted posted released completed settled settling written noted offered batched lowestWaited volumeRenewed objectRenewed granted mustDrop renewedBy renewed ackTaken acked ackStaged dropTaken disowned dropped dropStaged clearTaken notesDropped notesCleared serverRestarted showable stands forgotten swept sweptAll queueSound tablesSound copiesSound requestsSound sound known exists timely vacant growable refusalOfStep refusal grantReceived invalidateReceived offerReceived batchReceived received readDecided askDecided deliverDecided performed decided target decision stepped
-parked-client = (refl, refl, refl, refl, refl, refl, refl)
+parked-client = (refl, refl, refl, refl, refl, refl, refl, refl)

@@ -1,6 +1,6 @@
 -- 01, "Steps" and "Messages received" of a client, and its restart.
 -- c is a copy, r the request and u the views of the client d; in a message n is the number, e the epoch, w the version, x the volume expiry, y the
--- object expiry and p the payload.
+-- object expiry, p the payload and m the set.
 use Prim.Native.Nat.{ℕ, _+_, _-_, _<_}
 use mathlib.Core.Bool.{Bool, true, false, cond, not, _&&_}
 use mathlib.Core.List.{List}

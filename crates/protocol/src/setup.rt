@@ -15,6 +15,6 @@ pub struct Setup {
     pub m: u32,
     // each object's volume; 0 past the count of objects
     pub volume: [u8; 28],
-    // how long past its volume lease a client keeps its notes, before it is marked unreachable, 1 to 65,535
+    // how long after a client's volume lease has ended the server keeps its notes, before it marks the client unreachable, 1 to 65,535
     pub delay: u32,
 }

@@ -86,7 +86,7 @@ pub record Dropping (s : Setup) (w : World) (d o n : ℕ) : Type 0 where
   pub knows : viewEpochAt (w .tables) d (volumeOf s o) ≡ epochAt (w .tables) (volumeOf s o)
   pub next : requestAt (w .requests) d .next ≡ n + 1
 
--- the server has cleared the client: it may ask again, and is connected
+-- the server has taken the DROPPED: the client may ask again, and is connected
 pub record Reconnected (s : Setup) (w : World) (d o n : ℕ) : Type 0 where
   pub idle : Idle s w d o true
   pub next : requestAt (w .requests) d .next ≡ n + 1

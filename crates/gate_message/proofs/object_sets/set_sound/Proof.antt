@@ -1,7 +1,7 @@
 use borrow.Author.Needs.{needs}
 use Rattle.gate_message.proofs.Members.{none-sound, some-sound}
-use Rattle.gate_message.proofs.volumes.set_sound.Statement.{statement}
-use Rattle.gate_message.proofs.volumes.set_sound.Tie as tie
+use Rattle.gate_message.proofs.object_sets.set_sound.Statement.{statement}
+use Rattle.gate_message.proofs.object_sets.set_sound.Tie as tie
 
 returns : tie.Need-returns
 returns c = search none-sound

@@ -5,8 +5,8 @@ use Rattle.laws.specs.Sets.{setOf}
 use Rattle.protocol.specs.Setup.{inVolume}
 use Rattle.protocol.specs.Ranges.{ranges}
 use Rattle.gate_message.proofs.Members.{object-again, objects-end}
-use Rattle.gate_message.proofs.volumes.objects_in.Statement.{statement}
-use Rattle.gate_message.proofs.volumes.objects_in.Tie as tie
+use Rattle.gate_message.proofs.object_sets.objects_in.Statement.{statement}
+use Rattle.gate_message.proofs.object_sets.objects_in.Tie as tie
 
 abbrev Inv-loop : tie.InvT-loop
 Inv-loop v s objects set₀ o₀ set o = (o ≤ s .objects) × (set ≡ setOf (inVolume s v) o)
