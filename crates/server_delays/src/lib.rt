@@ -1,4 +1,4 @@
-// The notes that a write makes (02, A6): for whom it is put off instead of being waited for.
+// The notes that a write makes (02, A6): whose invalidation is put off instead of being waited for.
 ghost use mathlib.Core.Path.{_≡_};
 ghost use mathlib.Core.Bool.{true, cond};
 ghost use Prim.Native.Nat.{_<_};
@@ -33,7 +33,7 @@ fn put_off_if(words: &mut Words, yes: bool, client: usize, volume: usize, object
     }
 }
 
-// Notes the object for the client if its write is put off there: "a reachable dash with a live object lease and a dead volume lease".
+// Notes the object for the client if its invalidation is put off: "a reachable dash with a live object lease and a dead volume lease".
 fn delay_one(setup: Setup, words: &mut Words, object: usize, client: usize)
     requires { ⌜ inRange setup ≡ true ⌝ }
     requires { ⌜ object < setup .objects ⌝ }
@@ -52,7 +52,7 @@ fn delay_one(setup: Setup, words: &mut Words, object: usize, client: usize)
     put_off_if(&mut *words, yes, client, volume, object);
 }
 
-// Notes the object for each client that its write is put off for.
+// Notes the object for each client whose invalidation is put off.
 pub fn delay(setup: Setup, words: &mut Words, object: usize)
     requires { ⌜ inRange setup ≡ true ⌝ }
     requires { ⌜ object < setup .objects ⌝ }

@@ -1,4 +1,4 @@
-// Marking a client unreachable in a volume, which every rule that marks does in the same way.
+// Marking a client unreachable in a volume, for every rule that does.
 ghost use mathlib.Core.Path.{_≡_};
 ghost use mathlib.Core.Bool.{cond};
 ghost use Prim.Native.Nat.{_<_};

@@ -20,7 +20,7 @@ use state_words::network;
 use state_words::server;
 
 // Opens the write of `value`: stores which clients it waits for and its latest end (02, A3), "the greatest of clock + m, guard, and, over the waiting
-// dashes, ..", and notes it for those that it is put off for (02, A6).
+// dashes, ..", and notes it for those whose invalidation is put off (02, A6).
 fn begin(setup: Setup, words: &mut Words, values: &mut Values, object: usize, value: u64)
     requires { ⌜ inRange setup ≡ true ⌝ }
     requires { ⌜ tablesOf (now words) (now values) .clock ≤ clockLimit ⌝ }
