@@ -29,7 +29,7 @@ use Rattle.protocol.specs.Reached.{ran-on, run-sound, run-safe, shows-posted}
 use Rattle.promises.specs.UntilShown.Policy.{ask, deliver, isDropped, policy, Quiet, connected, ShownAfter, ShownInTime}
 use Rattle.promises.specs.UntilShown.Steps.{asking, delivering, ask-accepted, ask-leaves, read-shows, deliver-accepted, deliver-leaves}
 use Rattle.promises.specs.UntilShown.Phases.{Only, Idle, Offered, Dropping, Granted, Showing}
-use Rattle.promises.specs.UntilShown.Moves.{asks, grants, offers, drops-leases, clears, shows}
+use Rattle.promises.specs.UntilShown.Moves.{asks, grants, offers, drops-leases, reconnects, shows}
 
 -- ---- the policy from a world on: m steps, however many more it may take, and then the copy may be shown
 module _ (s : Setup) (i : inRange s ≡ true) (d o : ℕ) (hd : d < s .clients) (ho : o < s .objects) where
@@ -103,7 +103,7 @@ module _ (s : Setup) (i : inRange s ≡ true) (d o : ℕ) (hd : d < s .clients) 
 
   from-dropping : (w : World) (n : ℕ) → SoundWorld s w → n + 1 < 4294967295 → Dropping s w d o n → From w false 4
   from-dropping w n k l h =
-      goes-on w _ 3 k (h .dropped) (λ j. let c = clears s range w k d o hd ho n h in from-connected _ j (c .idle) (omega (arith, c .next)))
+      goes-on w _ 3 k (h .dropped) (λ j. let c = reconnects s range w k d o hd ho n h in from-connected _ j (c .idle) (omega (arith, c .next)))
 
   from-offered : (w : World) (n : ℕ) → SoundWorld s w → n + 1 < 4294967295 → Offered s w d o n → From w false 5
   from-offered w n k l h = goes-on w _ 4 k (h .offer) (λ j. from-dropping _ n j l (drops-leases s range w k d o hd ho n h))

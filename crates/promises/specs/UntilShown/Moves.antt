@@ -194,9 +194,9 @@ module _ (s : Setup) (range : Ranges s) (w : World) (k : SoundWorld s w) (d o : 
     dropped-leaves a =
         rw (answers-offer a, none-completes s (dropped s (taken (w .tables) 0) d v) o (a .vacant), set-getD (w .copies), set-getD (w .requests), swept-keep s)
 
-    pub clears : Dropping s w d o n → Reconnected s (delivering s w d (Dropped v n (epochAt (w .tables) v))) d o n
+    pub reconnects : Dropping s w d o n → Reconnected s (delivering s w d (Dropped v n (epochAt (w .tables) v))) d o n
     unfolding dropped
-    clears a =
+    reconnects a =
         rw (dropped-leaves a)
         (record {
           idle = record {
