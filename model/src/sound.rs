@@ -9,26 +9,81 @@ use crate::copies::ObjectCopy;
 use crate::limits::{CLIENTS, CLOCK_MAX, EXPIRY_MAX, QUEUE, VOLUMES};
 use crate::message::{Batch, Kind, Message};
 use crate::requests::Request;
+use crate::rules::Papers;
 use crate::setup::Setup;
 use crate::tables::{ClientVolumes, Server, Tables};
 
+/// The set of each volume's objects.
+pub type ObjectsOf = [u32; VOLUMES];
+
 pub fn sound(setup: &Setup, tables: &Tables, copies: &[ObjectCopy], requests: &[Request]) -> bool {
-    setup.in_range() && tables_sound(setup, tables, copies, requests)
+    Papers.sound(setup, tables, copies, requests)
 }
 
-fn tables_sound(setup: &Setup, tables: &Tables, copies: &[ObjectCopy], requests: &[Request]) -> bool {
-    let objects_of = setup.objects_by_volume();
-    copies.len() == setup.copy_count()
-        && requests.len() == setup.clients as usize
-        && tables.clock <= CLOCK_MAX
-        && tables.queue.len <= QUEUE
-        && server_sound(setup, &tables.server)
-        && notes_sound(setup, &tables.server.notes, &objects_of)
-        && clients_sound(setup, &tables.clients)
-        && copies_sound(copies)
-        && requests.iter().all(|request| request_sound(setup, request))
-        && tables.queue.messages().iter().all(|message| message_sound(setup, message, &objects_of))
+/// The parts that A6 of 02 added to are methods, so that a mistake can replace
+/// them.
+pub trait SoundRules {
+    fn sound(&self, setup: &Setup, tables: &Tables, copies: &[ObjectCopy], requests: &[Request]) -> bool {
+        self.setup_sound(setup) && self.tables_sound(setup, tables, copies, requests)
+    }
+
+    fn tables_sound(
+        &self,
+        setup: &Setup,
+        tables: &Tables,
+        copies: &[ObjectCopy],
+        requests: &[Request],
+    ) -> bool {
+        let objects_of = setup.objects_by_volume();
+        copies.len() == setup.copy_count()
+            && requests.len() == setup.clients as usize
+            && tables.clock <= CLOCK_MAX
+            && tables.queue.len <= QUEUE
+            && server_sound(setup, &tables.server)
+            && self.notes_sound(setup, &tables.server.notes, &objects_of)
+            && clients_sound(setup, &tables.clients)
+            && copies_sound(copies)
+            && requests.iter().all(|request| request_sound(setup, request))
+            && tables.queue.messages().iter().all(|message| self.message_sound(setup, message, &objects_of))
+    }
+
+    fn setup_sound(&self, setup: &Setup) -> bool {
+        setup.in_range()
+    }
+
+    /// "A set bit that is no object of its volume makes tables unsound."
+    fn notes_sound(&self, setup: &Setup, notes: &[[u32; CLIENTS]; VOLUMES], objects_of: &ObjectsOf) -> bool {
+        let asked: [u32; CLIENTS] = mask(setup.clients.into());
+        let mut bad = 0;
+        for (row, objects) in notes[..setup.volumes.into()].iter().zip(objects_of) {
+            for (set, asked) in row.iter().zip(&asked) {
+                bad |= set & asked & !objects;
+            }
+        }
+        bad == 0
+    }
+
+    fn message_sound(&self, setup: &Setup, message: &Message, objects_of: &ObjectsOf) -> bool {
+        message.client < setup.clients
+            && match message.kind {
+                Kind::Renew { object, .. } | Kind::Invalidate { object, .. } | Kind::Ack { object, .. } => {
+                    object < setup.objects
+                }
+                Kind::Grant(grant) => {
+                    grant.object < setup.objects
+                        && grant.volume_expiry <= EXPIRY_MAX
+                        && grant.object_expiry <= EXPIRY_MAX
+                }
+                Kind::Offer { volume, .. } | Kind::Dropped { volume, .. } => volume < setup.volumes,
+                // "In messages too."
+                Kind::Batch(Batch { volume, set, .. }) | Kind::Cleared(Batch { volume, set, .. }) => {
+                    volume < setup.volumes && set & !objects_of[usize::from(volume)] == 0
+                }
+            }
+    }
 }
+
+impl SoundRules for Papers {}
 
 fn server_sound(setup: &Setup, server: &Server) -> bool {
     let volumes = setup.volumes as usize;
@@ -50,18 +105,6 @@ fn writes_sound(setup: &Setup, server: &Server) -> bool {
         .all(|object| server.write[object].latest_end <= EXPIRY_MAX && server.version[object] < u32::MAX)
 }
 
-/// "A set bit that is no object of its volume makes tables unsound."
-fn notes_sound(setup: &Setup, notes: &[[u32; CLIENTS]; VOLUMES], objects_of: &[u32; VOLUMES]) -> bool {
-    let asked: [u32; CLIENTS] = mask(setup.clients.into());
-    let mut bad = 0;
-    for (row, objects) in notes[..setup.volumes.into()].iter().zip(objects_of) {
-        for (set, asked) in row.iter().zip(&asked) {
-            bad |= set & asked & !objects;
-        }
-    }
-    bad == 0
-}
-
 fn clients_sound(setup: &Setup, clients: &ClientVolumes) -> bool {
     rows_in_bound(&clients.expiry[..setup.clients as usize], setup.volumes as usize)
 }
@@ -72,25 +115,6 @@ fn copies_sound(copies: &[ObjectCopy]) -> bool {
 
 fn request_sound(setup: &Setup, request: &Request) -> bool {
     request.next >= 1 && request.standing.is_none_or(|standing| standing.object < setup.objects)
-}
-
-fn message_sound(setup: &Setup, message: &Message, objects_of: &[u32; VOLUMES]) -> bool {
-    message.client < setup.clients
-        && match message.kind {
-            Kind::Renew { object, .. } | Kind::Invalidate { object, .. } | Kind::Ack { object, .. } => {
-                object < setup.objects
-            }
-            Kind::Grant(grant) => {
-                grant.object < setup.objects
-                    && grant.volume_expiry <= EXPIRY_MAX
-                    && grant.object_expiry <= EXPIRY_MAX
-            }
-            Kind::Offer { volume, .. } | Kind::Dropped { volume, .. } => volume < setup.volumes,
-            // "In messages too."
-            Kind::Batch(Batch { volume, set, .. }) | Kind::Cleared(Batch { volume, set, .. }) => {
-                volume < setup.volumes && set & !objects_of[usize::from(volume)] == 0
-            }
-        }
 }
 
 fn none_zero(values: &[u32]) -> bool {

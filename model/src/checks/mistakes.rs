@@ -5,6 +5,7 @@
 use crate::answer::Answer;
 use crate::cases::RowRules;
 use crate::rules::{Papers, Rules};
+use crate::sound::SoundRules;
 use crate::step_record::Step;
 use crate::world::World;
 
@@ -14,10 +15,12 @@ use crate::world::World;
 pub struct Mistakes {
     step: fn(&mut World, &Step) -> Answer,
     pub(crate) rows: &'static dyn RowRules,
+    pub(crate) sound: &'static dyn SoundRules,
 }
 
 impl Mistakes {
-    pub const NONE: Mistakes = Mistakes { step: |world, step| Papers.step(world, step), rows: &Papers };
+    pub const NONE: Mistakes =
+        Mistakes { step: |world, step| Papers.step(world, step), rows: &Papers, sound: &Papers };
 
     /// The mistakes that change the listings of runs.
     pub const IN_RUNS: &'static [(&'static str, Mistakes)] = Self::EACH.split_at(SHOWN).0;
@@ -52,17 +55,23 @@ mod parked;
 mod rows;
 mod server;
 mod server_restart;
+mod sound;
 mod writes;
 
 use {
     ageing::*, batch_client::*, batch_server::*, client::*, gate::*, grant::*, latest_end::*, network::*,
-    notes::*, parked::*, rows::*, server::*, server_restart::*, writes::*,
+    notes::*, parked::*, rows::*, server::*, server_restart::*, sound::*, writes::*,
 };
 
 /// The mistakes that runs show, then those that only other tables show: first
-/// those about the model's rules, then those about rows.
+/// those about the model's rules, then those about question 1 and about rows.
 macro_rules! list {
-    (in runs { $($shown:ident,)* } not in runs { $($hidden:ident,)* } rows { $($row:ident,)* }) => {
+    (
+        in runs { $($shown:ident,)* }
+        not in runs { $($hidden:ident,)* }
+        sound { $($sound:ident,)* }
+        rows { $($row:ident,)* }
+    ) => {
         const SHOWN: usize = [$(stringify!($shown),)*].len();
 
         impl Mistakes {
@@ -71,6 +80,7 @@ macro_rules! list {
             pub const EACH: &'static [(&'static str, Mistakes)] = &[
                 $((stringify!($shown), about_rules!($shown)),)*
                 $((stringify!($hidden), about_rules!($hidden)),)*
+                $((stringify!($sound), Mistakes { sound: &$sound, ..Mistakes::NONE }),)*
                 $((stringify!($row), Mistakes { rows: &$row, ..Mistakes::NONE }),)*
             ];
         }
@@ -263,6 +273,23 @@ list! {
         dropped_voids_batch,
         restart_keeps_notes,
         restart_keeps_batch,
+    }
+
+    sound {
+        // The delay of the setup (02, A6). A run's was asked about by the reader.
+        delay_of_0,
+        delay_above_most,
+        delay_low_half,
+
+        // Sets in the tables and in messages (02, A6). Those of a run have only
+        // objects of their volume.
+        notes_not_asked,
+        notes_of_any_volume,
+        notes_past_objects,
+        batch_set_not_asked,
+        cleared_set_not_asked,
+        sets_of_any_volume,
+        sets_above_28,
     }
 
     rows {

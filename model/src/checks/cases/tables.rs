@@ -8,7 +8,6 @@ use crate::limits::{CLIENTS, OBJECTS, QUEUE, UNSOUND};
 use crate::mistakes::Mistakes;
 use crate::requests::{Request, Standing, NO_REQUESTS};
 use crate::setup::Setup;
-use crate::sound::sound;
 use crate::step_record::Step;
 use crate::tables::Tables;
 use crate::world::World;
@@ -82,7 +81,7 @@ impl CaseTables {
         let requests = self.requests_lent.min(self.requests.len());
         let (setup, tables) = (&self.setup, &mut self.tables);
         let (copies, requests) = (&mut self.copies[..copies], &mut self.requests[..requests]);
-        if !sound(setup, tables, copies, requests) {
+        if !rules.sound.sound(setup, tables, copies, requests) {
             return Answer::Refused(UNSOUND);
         }
         rules.step(&mut World { setup, tables, copies, requests }, record)
