@@ -58,6 +58,13 @@ mistakes! {
     /// Asks about it after the sizes, as if asking for room first.
     SetupAskedAfterSizes,
     SpareNotAsked,
+    /// Lets 29 to 32 objects through, as before A6.
+    ObjectsTo32,
+    /// Lets a delay of 0 through, which files from before A6 have.
+    DelayFrom0,
+    /// Asks only about the lower half of the delay.
+    DelayHalfAsked,
+    DelayBigEndian,
     /// Takes the first 48 bytes of more.
     SetupCut,
     /// Answers 10 for a setup of another length.
@@ -91,10 +98,21 @@ impl Rule<Mistake> {
         if self.has(SetupCut) {
             setup.truncate(48);
         }
-        if self.has(SpareNotAsked) && setup.len() > 3 {
-            setup[3] = 0;
+        self.has(SetupNotAsked) || setup.len() == 48 && read_setup(&self.asked_about(setup)).is_ok()
+    }
+
+    /// Returns the 48 bytes that are asked about instead of the setup's.
+    fn asked_about(self, mut setup: Vec<u8>) -> Vec<u8> {
+        let (front, delay) = setup.split_at_mut(44);
+        match self.0 {
+            Some(SpareNotAsked) => front[3] = 0,
+            Some(ObjectsTo32) if front[2] <= 32 => front[2] = front[2].min(28),
+            Some(DelayFrom0) if delay == [0; 4] => delay[0] = 1,
+            Some(DelayHalfAsked) => delay[2..].fill(0),
+            Some(DelayBigEndian) => delay.reverse(),
+            _ => (),
         }
-        self.has(SetupNotAsked) || setup.len() == 48 && read_setup(&setup).is_ok()
+        setup
     }
 
     /// Returns whether steps, file and output fit.
