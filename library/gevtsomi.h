@@ -1,7 +1,7 @@
 /*
- * The lease system of document 01 for C and C++. It lists whole runs, writes
- * run files from their parts or from a seed, and converts messages to and from
- * frames.
+ * The lease system of documents 01 and 02 for C and C++. It lists whole runs,
+ * writes run files from their parts or from a seed, and converts messages to
+ * and from frames.
  *
  * The work is done by the proved code in libgevtsomi.a. It allocates nothing,
  * does no input or output and keeps nothing from call to call, so threads may
@@ -42,12 +42,13 @@ extern "C" {
 
 /* What a call returns when it is not refused. */
 #define GEVTSOMI_DONE 0
-/* Not a setup, or one out of range. */
+/* Not a setup, or one out of range; also one from before version 0.6.0, whose
+   delay is 0. */
 #define GEVTSOMI_BAD_SETUP 7
 /* Not a frame, or fields that no message has; or an output that is too short
    for the frame, the fields or the listing. */
 #define GEVTSOMI_NO_FRAME_OR_ROOM 8
-/* Not a run file. */
+/* Not a run file; also one from before version 0.6.0, whose delay is 0. */
 #define GEVTSOMI_NO_RUN_FILE 9
 /* No run file has these parts, or the output is too short for the file. */
 #define GEVTSOMI_NOT_WRITTEN 10
@@ -59,8 +60,9 @@ extern "C" {
 #define GEVTSOMI_LIST_STACK_BYTES 147456
 #define GEVTSOMI_WRITE_STACK_BYTES 278528
 
-/* The lengths of a setup and a step in a run file, and the most steps in one.
-   Numbers of more than a byte are little endian. A setup has, from byte
+/* The lengths of a setup and a step in a run file, the most objects of a setup,
+   and the most steps in a file. Numbers of more than a byte are little endian.
+   A setup has, from byte
 
     0  clients, 1 to 16
     1  volumes, 1 to 8
@@ -70,8 +72,8 @@ extern "C" {
     8  how many ticks an object lease lasts, 1 to 1,000,000, in 4
    12  how many ticks a write waits for messages at least, 1 to 60, in 4
    16  the volume of each object, 0 past the object count, in 28
-   44  how many ticks after the end of its volume lease the server still keeps
-       notes for a client, 1 to 65,535, in 4
+   44  delay: how many ticks after the end of a client's volume lease the server
+       keeps notes for it before it marks it unreachable, 1 to 65,535, in 4
 
    and a step, with 0 in the fields that its kind does not use,
 
@@ -85,6 +87,7 @@ extern "C" {
     8  value, for kind 4, in 8 */
 #define GEVTSOMI_SETUP_BYTES 48
 #define GEVTSOMI_STEP_BYTES 16
+#define GEVTSOMI_OBJECTS 28
 #define GEVTSOMI_STEPS 4000
 
 /* The length of a frame. */
@@ -101,10 +104,17 @@ enum gevtsomi_kind {
     GEVTSOMI_CLEARED
 };
 
-/* A frame's fields, in its order; those that the kind lacks are 0. The item is
-   the volume of an OFFER, a DROPPED, a BATCH or a CLEARED, and the object of
-   any other kind. The version of a BATCH or a CLEARED is a set of objects, bit
-   k for object k. */
+/* A frame's fields, in its order. Every kind has kind and client; of the others
+
+   RENEW              has item, number, epoch and version
+   GRANT              has all; the value is 0 if none is present
+   INVALIDATE, ACK    have item, epoch and version
+   OFFER, DROPPED     have item, number and epoch
+   BATCH, CLEARED     have item, number, epoch and, in the version, a set of
+                      objects, bit k for object k, any 32 bits
+
+   and the rest is 0. The item is the volume of an OFFER, a DROPPED, a BATCH or
+   a CLEARED, and the object of any other kind. */
 enum gevtsomi_field {
     GEVTSOMI_KIND,
     GEVTSOMI_CLIENT,

@@ -18,11 +18,11 @@ pub const WRITE_STACK_BYTES: usize = 278_528;
 /// # Errors
 ///
 /// 7 if `setup` is not 48 bytes long, its fourth byte is not 0 or a field is
-/// out of range. Then 10 if the length of `records` is not a multiple of 16,
-/// there are more than [`STEPS`] steps, a step of a known kind has an unused
-/// field that is not 0, the file would be longer than
-/// [`FILE_BYTES`](crate::FILE_BYTES), or `output` is shorter than the file. A
-/// refused call writes nothing.
+/// out of range; also if it is from before version 0.6.0, since its delay is 0.
+/// Then 10 if the length of `records` is not a multiple of 16, there are more
+/// than [`STEPS`] steps, a step of a known kind has an unused field that is not
+/// 0, the file would be longer than [`FILE_BYTES`](crate::FILE_BYTES), or
+/// `output` is shorter than the file. A refused call writes nothing.
 pub fn write(note: &[u8], setup: &[u8], records: &[u8], output: &mut [u8]) -> Result<usize, Refused> {
     exports::write(note, setup, records, output)
 }

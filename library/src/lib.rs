@@ -1,6 +1,6 @@
-//! The lease system of document 01 as a library. It lists whole runs, writes
-//! run files from their parts or from a seed, and converts messages to and from
-//! frames.
+//! The lease system of documents 01 and 02 as a library. It lists whole runs,
+//! writes run files from their parts or from a seed, and converts messages to
+//! and from frames.
 //!
 //! The work is done by the proved code in `libgevtsomi.a`. This package only
 //! turns slices, messages and a file's parts into its arguments. It decides

@@ -37,7 +37,8 @@ pub enum Kind {
     /// The server asks a client to erase the copies of a set of objects, bit k
     /// for object k, that were written while it had no lease of the volume.
     Batch { volume: u8, number: u32, epoch: u32, objects: u32 },
-    /// The client erased the copies of the set.
+    /// The client erased the copies of the set; number, epoch and objects repeat
+    /// the BATCH's.
     Cleared { volume: u8, number: u32, epoch: u32, objects: u32 },
 }
 

@@ -24,8 +24,8 @@ pub struct Setup {
     pub object_lease: u32,
     /// How many ticks a write waits for messages at least, 1 to 60.
     pub timeout: u32,
-    /// How many ticks after the end of its volume lease the server still keeps
-    /// notes for a client, 1 to 65,535.
+    /// How many ticks after the end of a client's volume lease the server keeps
+    /// notes for it before it marks it unreachable, 1 to 65,535.
     pub delay: u32,
     /// Each object's volume; 0 past the object count.
     pub volume_of: [u8; OBJECTS],

@@ -16,8 +16,9 @@ pub const LIST_STACK_BYTES: usize = 147_456;
 ///
 /// # Errors
 ///
-/// 9 if `file` is not a run file, whatever the length of `output`; else 8 if
-/// `output` is shorter than the listing. A refused call writes nothing.
+/// 9 if `file` is not a run file, whatever the length of `output`; also if it is
+/// one from before version 0.6.0, whose delay is 0. Else 8 if `output` is shorter
+/// than the listing. A refused call writes nothing.
 pub fn list(file: &[u8], output: &mut [u8]) -> Result<usize, Refused> {
     exports::list(file, output)
 }

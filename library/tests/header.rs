@@ -34,6 +34,7 @@ fn its_lengths_are_the_packages() {
     assert_eq!(defined("GEVTSOMI_WRITE_STACK_BYTES"), WRITE_STACK_BYTES);
     assert_eq!(defined("GEVTSOMI_SETUP_BYTES"), SETUP_BYTES);
     assert_eq!(defined("GEVTSOMI_STEP_BYTES"), STEP_BYTES);
+    assert_eq!(defined("GEVTSOMI_OBJECTS"), OBJECTS);
     assert_eq!(defined("GEVTSOMI_STEPS"), STEPS);
     assert_eq!(defined("GEVTSOMI_FRAME_BYTES"), FRAME_BYTES);
 }
