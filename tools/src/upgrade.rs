@@ -28,9 +28,10 @@ pub fn upgraded(file: &[u8], delay: u32) -> Result<Vec<u8>, String> {
                  the volumes of objects 28 to 31"
             ))
         }
-        Err(_) if !file.contains(&0) => {
-            Err(format!("the file is no run file; add the line `delay {delay}` to a text by hand"))
-        }
+        Err(_) if !file.contains(&0) => Err(format!(
+            "this is not a run file; if it is a text without a delay, add the line `delay {delay}` after the line with \
+             `timeout`"
+        )),
         Err(fault) => Err(told(&fault)),
     }
 }

@@ -22,7 +22,7 @@ fn taken(form: &str, name: &str) -> Ended {
 
 /// What a text without a delay is told, after the number of a line.
 const ADD_THE_DELAY: &str =
-    "found no delay before, expected the line `delay 1`, or more ticks up to 65535, after the line with `timeout`\n";
+    "found no line `delay D` after it, expected one: add `delay 1` (1 to 65535 ticks)\n";
 
 /// The gate holds `roadrun` to the same listing.
 #[test]
@@ -95,11 +95,11 @@ fn the_text_with_a_delay_is_read() {
     assert_eq!(checked.output, b"standard input: all 8 expectations hold\n");
 }
 
-/// Each is told the line to add; its first step is on the line that is named.
+/// Each is told the line to add, and the line that it belongs after.
 #[test]
 fn texts_without_a_delay_are_told_the_line() {
     for (name, line) in
-        [("text-of-exact-steps.runtext", 7), ("text-with-names.runtext", 6), ("text-with-ticks.runtext", 10)]
+        [("text-of-exact-steps.runtext", 3), ("text-with-names.runtext", 3), ("text-with-ticks.runtext", 6)]
     {
         let ended = taken("encode", name);
         assert_eq!((ended.status, ended.output.len()), (1, 0), "{name}");

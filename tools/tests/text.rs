@@ -239,7 +239,34 @@ fn a_bad_note_or_setup_is_told() {
     let bad = SETUP.replace("delay 1", "delay 1\ndelay 2");
     assert_eq!(troubles(&bad), ["line 4: found `delay`, expected it once, after the line with `timeout`"]);
     let late = SETUP.replace("delay 1\n", "") + "delay 1\n";
-    assert_eq!(troubles(&late), ["line 5: found `delay`, expected it once, after the line with `timeout`"]);
+    assert_eq!(troubles(&late), ["line 5: found `delay`, expected it after the line with `timeout`"]);
+}
+
+/// The line that it should follow is not reported, and other bad lines are.
+#[test]
+fn an_early_delay_is_told_once() {
+    let lines: Vec<&str> = SETUP.lines().collect();
+    let ordered = |places: [usize; 3]| {
+        let first = places.map(|place| lines[place]);
+        troubles(&[&first[..], &lines[3..], &["clock 1"]].concat().join("\n"))
+    };
+    for (places, line) in [([0, 2, 1], 2), ([2, 0, 1], 1)] {
+        assert_eq!(
+            ordered(places),
+            [format!("line {line}: found `delay`, expected it after the line with `timeout`")]
+        );
+    }
+    let bad = format!("{}\ndelay 1\none tick is 0 s\n{}\nvolume 0 objects x\n", lines[0], lines[1]);
+    let starts = ["line 2: found `delay`, ", "line 3: ", "line 5: found `x`, "];
+    let troubles_of_bad = troubles(&bad);
+    assert_eq!(troubles_of_bad.len(), 3, "{troubles_of_bad:?}");
+    assert!(
+        troubles_of_bad.iter().zip(starts).all(|(told, start)| told.starts_with(start)),
+        "{troubles_of_bad:?}"
+    );
+    // It is not early if the line that it should follow is misspelt.
+    let misspelt = SETUP.replace("volume lease", "volum lease");
+    assert_eq!(troubles(&misspelt).len(), 1);
 }
 
 #[test]
@@ -253,7 +280,7 @@ fn a_missing_line_is_told_at_the_first_step() {
     assert!(without(1)[0].starts_with("line 5: found no such line before, expected `volume lease"));
     assert_eq!(
         without(2),
-        ["line 5: found no delay before, expected the line `delay 1`, or more ticks up to 65535, after the line with `timeout`"]
+        ["line 2: found no line `delay D` after it, expected one: add `delay 1` (1 to 65535 ticks)"]
     );
     assert_eq!(without(4), ["line 5: found no volume of object 1 before, expected `volume V objects O ...`"]);
     assert_eq!(troubles("").len(), 1);

@@ -112,7 +112,12 @@ fn more_than_28_objects_cannot_be_rewritten() {
 #[test]
 fn what_is_no_run_file_is_told() {
     let text = example("formats/text-of-exact-steps.runtext");
-    assert_eq!(reason(&text), "the file is no run file; add the line `delay 1` to a text by hand\n");
+    let no_run_file =
+        "this is not a run file; if it is a text without a delay, add the line `delay 1` after the line \
+                       with `timeout`\n";
+    for other in [text, example("7-parked.runtext"), Vec::new()] {
+        assert_eq!(reason(&other), no_run_file);
+    }
     let old = write(b"", &OLD, &[Step::clock(1)]);
     assert!(reason(&old[1..]).starts_with("run file refused (9): trailer: found 1 steps, "));
     let unused = write(b"", &OLD, &[Step { value: 3, ..Step::clock(1) }]);

@@ -20,28 +20,32 @@ use tools::upgrade;
 const HELP: &str = r#"runtext: the text form of runs
 
   runtext encode [FILE]              text to run file
-  runtext check [FILE..]             are the text's expectations met? by the proved library
+  runtext check [FILE..]             are the text's expectations met? asks the
+                                     proved library
   runtext format [--expand] [FILE]   text to canonical form, without comments
   runtext decode [FILE]              run file to text, in canonical form
   runtext load --seed S --steps N [FILE]
-                                     text without steps to run file, with those of a workload
-  runtext upgrade --delay D [OLD]    run file from before delayed invalidations to one with a delay
+                                     text without steps to run file, with those
+                                     of a workload
+  runtext upgrade --delay D [OLD] -o NEW
+                                     run file from before delayed invalidations
+                                     to one with a delay
 
 Without a FILE, standard input is read. -o OUT writes a file instead of standard
 output, whole or not at all. A text has lines as these, in this order:
 
-  note "two clients, one object"         # or: note hex 00 ff ..; any number of lines
+  note "two clients, one object"         # or: note hex 00 ff ..; any number
   clients 2 volumes 1 objects 1
   volume lease 10 object lease 100 timeout 3
   delay 1                                # ticks, see below
-  volume 0 objects 0                     # a line for each volume that has objects
+  volume 0 objects 0                     # each volume that has objects
 
-  read client 0 object 0 => ask first    # what is expected of a step, wherever you like
-  join client 0 object 0                 # asks and deliveries until it holds the object
+  read client 0 object 0 => ask first    # what you expect, wherever you like
+  join client 0 object 0                 # asks and deliveries until it holds it
   read client 0 object 0 => shown 0
   ask client 1 object 0
   double RENEW from client 1             # the first such message under way
-  deliver 0                              # the message at place 0 of those under way
+  deliver 0                              # the one at place 0 of those under way
   deliver OFFER to client 1
   lose 0
   write object 0 value 7 => done
@@ -58,18 +62,20 @@ DROPPED, CLEARED from a client and GRANT, INVALIDATE, OFFER, BATCH to one;
 deliver, lose and double take them by name: the first under way, or with a word
 before it the second, third, .. or last. `object 0` behind it takes one about
 that object, as `volume 0` does of an OFFER, DROPPED, BATCH or CLEARED. --expand
-writes names and joins out as exact steps. A line `one tick is 250 ms` before the first step (or s, min, h) is
-for explain and picture, which then tell the time beside the ticks; no byte of
-the run file changes. The paper's dash, region and notice are understood as
-client, volume and object, and a text whose setup begins with them is answered
-in them; format and decode write client, volume and object.
+writes names and joins out as exact steps. A line `one tick is 250 ms` (or s,
+min, h) before the first step is for explain and picture, which then tell the
+time beside the ticks; no byte of the run file changes. The paper's dash, region
+and notice are understood as client, volume and object, and a text whose setup
+begins with them is answered in them; format and decode write client, volume and
+object.
 
-The delay, 1 to 65535 ticks, says how long after its volume lease a client with
-notes stays reachable. A write does not wait for a client whose volume lease has
-ended while its object lease lives: it notes the object. The client's next RENEW
-in the volume is answered by a BATCH, which erases its copies of all that is
-noted; it answers with CLEARED and has to ask again, as `join` does. A text
-without a delay is told the line to add.
+The delay, 1 to 65535 ticks, says how long after its volume lease has ended a
+client with notes stays reachable. A write does not wait for a client whose
+volume lease has ended while its object lease lives: it notes the object, unless
+the client is marked unreachable. The client's next RENEW in the volume is
+answered by a BATCH, which erases its copies of all that is noted; it answers
+with CLEARED and has to ask again, as `join` does. A text without a delay is
+told the line to add.
 
 load reads note and setup alone. A seed, 0 to 4294967295, gives the same steps
 every time, at most 4000: load for the list of messages, restarts, offers and
@@ -81,12 +87,12 @@ same remainder by 2^e, so that with 4 and 4 no object is asked by two clients. A
 count that is a power of two is gone through in a fixed order: each of 4 objects
 is drawn every 4th step.
 
-upgrade rewrites a run file from before delayed invalidations, which has no delay
-and is refused today: runtext upgrade --delay D OLD -o NEW. Note, setup and steps
-stay as they are, and D, 1 to 65535 ticks, is added. Its listing is the same as
-before unless a write meets a client whose volume lease has ended while its
-object lease lives. A file with 29 to 32 objects cannot be rewritten: objects end
-at 28 today. To an old text add the line `delay D` by hand.
+upgrade rewrites a run file from before delayed invalidations, which has no
+delay and is refused today. Note, setup and steps stay as they are, and D, 1 to
+65535 ticks, is added. Its listing is the same as before unless a write meets a
+client whose volume lease has ended while its object lease lives. A file with 29
+to 32 objects cannot be rewritten: objects end at 28 today. To an old text add
+the line `delay D` after the line with `timeout`.
 
 check tells how many expectations hold and every one that fails. encode, check
 and load end with a line on standard error that counts refused steps. A bad line

@@ -36,6 +36,9 @@ struct Reader {
     last: Part,
     note: Vec<u8>,
     setup: Partial,
+    /// The numbers of the lines with `timeout` and with the delay.
+    ticks_line: Option<usize>,
+    delay_line: Option<usize>,
     /// The vocabulary of the first such word outside the note.
     words: Option<Vocabulary>,
     tick: Option<Tick>,
@@ -100,6 +103,7 @@ impl Reader {
         if part_of(first, line) != Some(Part::Note) {
             self.words = self.words.or_else(|| words.find(Vocabulary::of));
         }
+        self.report_early_delay(part_of(first, line));
         self.part = self.next_part(first, line)?;
         if self.part == Part::Steps {
             return self.read_step(&mut words, line, number);
@@ -107,10 +111,30 @@ impl Reader {
         self.opening.append(&mut self.comments);
         match self.part {
             Part::Counts => self.setup.read_counts(&mut words),
-            Part::Ticks => self.setup.read_ticks(&mut words),
-            Part::Delay => self.setup.read_delay(&mut words),
+            Part::Ticks => {
+                self.ticks_line = Some(number);
+                self.setup.read_ticks(&mut words)
+            }
+            Part::Delay => {
+                self.delay_line = Some(number);
+                self.setup.read_delay(&mut words)
+            }
             Part::Volumes => self.setup.read_volume(&mut words),
             _ => note::parse(&line.trim_start()["note".len()..], &mut self.note),
+        }
+    }
+
+    /// Reports a delay before the counts or the ticks when these come after it,
+    /// and goes back, so that they may.
+    fn report_early_delay(&mut self, part: Option<Part>) {
+        let late = match part {
+            Some(Part::Counts) => self.setup.counts.is_none(),
+            Some(Part::Ticks) => self.ticks_line.is_none(),
+            _ => false,
+        };
+        if let (Part::Delay, true, Some(line)) = (self.part, late, self.delay_line) {
+            self.part = Part::Note;
+            self.troubles.push(Trouble { line, wrong: Wrong::new("`delay`", setup::DELAY_PLACE) });
         }
     }
 
@@ -131,6 +155,9 @@ impl Reader {
         match part_of(first, line) {
             Some(part) if part > self.last => Err(Wrong::new(quoted(first), NO_STEP)),
             Some(part) if part > self.part || part == self.part && !once => Ok(part),
+            Some(Part::Delay) if self.delay_line.is_some() => {
+                Err(Wrong::new(quoted(first), setup::DELAY_ONCE))
+            }
             Some(Part::Delay) => Err(Wrong::new(quoted(first), setup::DELAY_PLACE)),
             _ => Err(Wrong::new(quoted(first), expected)),
         }
@@ -161,6 +188,7 @@ impl Reader {
 
     fn whole(mut self, last: usize) -> Result<Script, Vec<Trouble>> {
         if !self.troubles.is_empty() {
+            self.troubles.sort_by_key(|trouble| trouble.line);
             return Err(self.troubles);
         }
         let room = FILE_BYTES - distance(0);
@@ -173,8 +201,12 @@ impl Reader {
             }
             Ok(_) => Wrong::new(format!("a note of {} bytes", self.note.len()), format!("at most {room}")),
         };
-        self.troubles.push(Trouble { line: self.first_step.unwrap_or(last), wrong });
-        Err(self.troubles)
+        // A missing delay is reported on the line that it should follow.
+        let place = match (self.setup.counts, self.setup.delay) {
+            (Some(_), None) => self.ticks_line.or(self.first_step),
+            _ => self.first_step,
+        };
+        Err(vec![Trouble { line: place.unwrap_or(last), wrong }])
     }
 }
 

@@ -9,7 +9,8 @@ use super::words::{Words, Wrong};
 pub const COUNTS: &str = "`clients C volumes V objects O`";
 pub const TICKS: &str = "`volume lease TV object lease T timeout M`";
 pub const DELAY: &str = "`delay D`";
-pub const DELAY_PLACE: &str = "it once, after the line with `timeout`";
+pub const DELAY_PLACE: &str = "it after the line with `timeout`";
+pub const DELAY_ONCE: &str = "it once, after the line with `timeout`";
 pub const VOLUME: &str = "`volume V objects O ...`";
 
 pub fn lines(setup: &Setup) -> Vec<String> {
@@ -106,9 +107,9 @@ impl Partial {
     }
 }
 
-/// Returns what a text from before delayed invalidations is told: the line to
-/// add.
+/// Returns what a text from before delayed invalidations is told about its line
+/// with `timeout`: the line to add.
 fn without_delay() -> Wrong {
-    let add = format!("the line `delay 1`, or more ticks up to {DELAY_TICKS}, after the line with `timeout`");
-    Wrong::new("no delay before", add)
+    let add = format!("one: add `delay 1` (1 to {DELAY_TICKS} ticks)");
+    Wrong::new(format!("no line {DELAY} after it"), add)
 }
