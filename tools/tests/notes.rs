@@ -54,7 +54,7 @@ fn each_lease_has_its_end() {
     let join = "join client 0 object 0\nclock 5\njoin client 1 object 0\n";
     assert_told(
         &format!("{join}clock 15\nwrite object 0 value 7"),
-        "does not wait for clients 0, 1, whose volume leases ended at 10, 15: object 0 noted",
+        "does not wait for client 0 (volume lease ended at 10), client 1 (15): object 0 noted",
     );
     assert_told(
         &format!("{join}clock 10\nwrite object 0 value 7"),
@@ -126,15 +126,46 @@ fn a_later_note_voids_the_batch() {
     );
 }
 
+/// The first write ended the leases on the object, so the second has nobody to
+/// note it for.
+#[test]
+fn a_second_write_tells_for_whom_it_is_noted_already() {
+    assert_told(
+        &format!("{PARKED}{BATCH}write object 0 value 8"),
+        ": nobody to wait for, stored as version 3; object 0 is already noted for clients 0, 1",
+    );
+    // Of another object nothing is noted before.
+    assert_told(
+        &format!("{PARKED}write object 1 value 8\nwrite object 0 value 7"),
+        "does not wait for clients 0, 1, whose volume leases ended at 10: object 0 noted",
+    );
+}
+
+/// The write of object 0 stands for client 1, so client 0 still has its lease.
+#[test]
+fn a_cleared_drops_a_lease_that_is_there() {
+    let join = "join client 0 object 0\nclock 5\njoin client 1 object 0\nclock 10\nwrite object 0 value 7\n";
+    let batch = "ask client 0 object 0\ndeliver RENEW from client 0\ndeliver BATCH to client 0\n";
+    assert_told(
+        &format!("{join}{batch}deliver CLEARED from client 0"),
+        "; note of object 0 dropped; lease on object 0 dropped",
+    );
+}
+
 #[test]
 fn a_cleared_drops_notes_or_says_why_not() {
     let cleared = format!("{PARKED}{BATCH}deliver BATCH to client 1\n");
     let deliver = "deliver CLEARED from client 1\n";
     for (between, reasons) in [
-        ("", "; client 1's notes and leases of object 0 dropped"),
+        ("", ", object 0); note of object 0 dropped"),
         ("ask client 1 object 0\ndeliver RENEW from client 1\n", "; nothing: the batch's number is 5"),
         ("write object 1 value 8\n", "; nothing: no batch stands, noted: objects 0, 1"),
         ("double CLEARED from client 1\ndeliver CLEARED from client 1\n", "; nothing: no batch stands"),
+        // Here the first CLEARED ended the batch, not the note.
+        (
+            "double CLEARED from client 1\ndeliver CLEARED from client 1\nwrite object 1 value 8\n",
+            "; nothing: no batch stands, noted: object 1",
+        ),
         ("restart server\n", "; nothing: the server's epoch is 2, no batch stands"),
         ("clock 15\n", "; nothing: no batch stands, client 1 is marked unreachable"),
     ] {
@@ -148,21 +179,32 @@ fn a_mark_drops_notes() {
     assert_told(&format!("{PARKED}{BATCH}clock 14"), "clock 14: done");
     assert_told(
         &format!("{PARKED}{BATCH}clock 15"),
-        "done: client 0 marked unreachable for its notes, volume lease ended at 10, delay 5; client 0's notes of object 0 \
-         dropped; client 1 marked unreachable for its notes, volume lease ended at 10, delay 5; client 1's notes of object \
-         0 dropped; batch 4 of client 1 is void",
+        "done: client 0 marked unreachable in volume 0, since its lease there ended at 10 and the delay of 5 is over: note \
+         of object 0 dropped; client 1 marked unreachable in volume 0, since its lease there ended at 10 and the delay of 5 \
+         is over: note of object 0 dropped, batch 4 void",
     );
     // It was restarted and knows no epoch.
     assert_told(
         &format!("{PARKED}{BATCH}restart client 1\nask client 1 object 0\ndeliver last RENEW from client 1"),
-        "the server's epoch is 1; client 1's notes of object 0 dropped; batch 4 of client 1 is void; sends OFFER 5 to client \
-         1 (volume 0, epoch 1) at place 1",
+        "the server's epoch is 1; client 1 marked unreachable in volume 0: note of object 0 dropped, batch 4 void; sends \
+         OFFER 5 to client 1 (volume 0, epoch 1) at place 1",
     );
     // It did not answer the write of object 0, whose end is before the delay's.
     assert_told(
         "join client 0 object 0\njoin client 0 object 1\nclock 9\nwrite object 0 value 7\nclock 10\nwrite object 1 value \
          8\nclock 13",
-        "latest end 12 passed, client 0 marked unreachable; client 0's notes of object 1 dropped",
+        "latest end 12 passed, client 0 marked unreachable; client 0's note of object 1 dropped",
+    );
+}
+
+#[test]
+fn a_client_ages_in_each_volume() {
+    assert_told(
+        "join client 0 object 0\njoin client 0 object 1\nclock 1\njoin client 0 object 3\nclock 11\nwrite object 0 value \
+         7\nwrite object 1 value 7\nwrite object 3 value 8\nclock 16",
+        "done: client 0 marked unreachable in volume 0, since its lease there ended at 10 and the delay of 5 is over: notes \
+         of objects 0, 1 dropped; client 0 marked unreachable in volume 1, since its lease there ended at 11 and the delay \
+         of 5 is over: note of object 3 dropped",
     );
 }
 
@@ -170,7 +212,7 @@ fn a_mark_drops_notes() {
 fn a_restart_loses_notes() {
     assert_told(
         &format!("{PARKED}{BATCH}restart server"),
-        "; client 0's notes of object 0 lost; client 1's notes of object 0 lost; batch 4 of client 1 is void",
+        "; client 0's note of object 0 lost; client 1's note of object 0 lost, batch 4 void",
     );
 }
 
@@ -182,8 +224,8 @@ fn the_papers_words_and_the_time_are_used() {
     assert!(listing
         .contains("does not wait for dashes 0, 1, whose region leases ended at 10 = 20 s: notice 0 noted"));
     assert!(listing.contains(
-        "dash 0 marked unreachable for its notes, region lease ended at 10 = 20 s, delay 5 = 10 s; dash 0's notes of notice \
-         0 dropped"
+        "dash 0 marked unreachable in region 0, since its lease there ended at 10 = 20 s and the delay of 5 = 10 s is over: \
+         note of notice 0 dropped"
     ));
 }
 

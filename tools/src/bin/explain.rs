@@ -15,7 +15,7 @@ use tools::{difference, proved, refusals, refused_file, trace};
 const HELP: &str = r#"explain: the listing of a run in words
 
   explain [FILE]                    a line for each step
-  explain --tables N [FILE]         the tables after step N; 0 is before the first
+  explain --tables N [FILE]         the tables after step N; 0 is before step 1
   explain --listing THEIRS [FILE]   the first difference from another listing
 
 FILE is a run file or its text; without one, standard input is read. -o OUT
@@ -29,17 +29,18 @@ roadrun's answer in words, and what in the model's tables shows why:
 
 A write that is accepted and stands tells what fixes its latest end, as in
 "latest end 10 by the volume lease of client 0": the clients whose lease ends
-then, with the lesser of the two, else the guard, else the timeout. It also tells
-for whom it does not wait although they have an object lease: their volume lease
-has ended, and the object is noted for them, unless they are marked unreachable.
+then, with the lesser of the two, else the guard, else the timeout. It also
+tells for whom it does not wait although they have an object lease: their volume
+lease has ended, and the object is noted for them, unless they are marked
+unreachable.
 
 The answers: done (0), shown V (1), ask first (2), completed N writes (3),
 refused N (4). Standard error ends with a line that counts the refused steps.
 
 Of a text, each line names the line that it comes from and keeps what is written
-there; comments stand beside their steps, and an expectation that fails is marked
-FAILED with what was expected. Where a join or a name cannot be met, the listing
-goes up to there and ends with the reason; the exit status is then 1.
+there; comments stand beside their steps, and an expectation that fails is
+marked FAILED with what was expected. Where a join or a name cannot be met, the
+listing goes up to there and ends with the reason; the exit status is then 1.
 
 --listing holds a program of your own to the proof: it compares the listing in
 THEIRS with the proved library's. Where they differ, the line is told with both
