@@ -7,6 +7,7 @@ mod common;
 use std::fs;
 use std::path::Path;
 
+use boxes::style::Style;
 use boxes::{number, parts, Part, Shape};
 use common::example;
 use model::answer::Answer;
@@ -274,8 +275,26 @@ fn writes_name_whose_lease_fixes_their_end() {
 fn notes_name_their_objects_and_batch() {
     let run = examples().last().unwrap();
     let lanes = lanes(&svg(&run, whole(&Timeline::new(&run))));
-    let told = ["volume 0 notes: object 0", "notes 0, batch 3", "volume 0 notes: object 0, batch 4"];
+    let told = ["volume 0 notes: object 0", "batch 3: 0", "volume 0 notes: object 0, batch 4"];
     assert_eq!(on_bars(&lanes, "notes"), told);
+}
+
+/// Bars lie on columns, and bars of notes side by side, so that they need an
+/// edge.
+#[test]
+fn bars_and_columns_differ_in_colour() {
+    let run = examples().last().unwrap();
+    let style = Style::of(&svg(&run, whole(&Timeline::new(&run))));
+    let part =
+        |class: &str, place: usize| i32::from_str_radix(&style.value(class, "fill")[place..place + 2], 16);
+    let classes = ["volume-lease", "object-lease", "notes", "guard", "write", "failure", "time"];
+    for (place, one) in classes.iter().enumerate() {
+        for other in &classes[..place] {
+            let far = [1, 3, 5].map(|place| (part(one, place).unwrap() - part(other, place).unwrap()).abs());
+            assert!(far.iter().sum::<i32>() > 50, "{one}, {other}: {far:?}");
+        }
+    }
+    assert!(style.value("notes", "stroke").starts_with('#'));
 }
 
 fn receiver(message: &Message) -> String {

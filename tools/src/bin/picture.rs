@@ -19,6 +19,7 @@ writes a file instead of standard output. Each step is a column; the clock moves
 in the columns of clock steps alone. The server has a lane and each client one:
 leases are bars, messages arrows from sending to delivery, writes bars from
 acceptance to completion with their latest end and what fixes it, reads circles.
+A bar in the volume's row shows what the server has noted for a client.
 
 Standard error tells how many expectations of a text failed. Where a join or a
 name in it cannot be met, the run is shown up to there and the reason is told;
@@ -30,7 +31,8 @@ no wider one is drawn everywhere; standard error says where it was cut. For a
 long run take the page: it scrolls with the names in sight, zooms out to all of
 the run, shows one client or object alone, and finds a step by its number (also
 as run.html#120) or the next one that was refused, shown, told to ask first,
-completed a write or was expected to do something else. It works offline, on a phone and on paper.
+completed a write or was expected to do something else. It works offline, on a
+phone and on paper.
 "#;
 
 fn main() -> ExitCode {

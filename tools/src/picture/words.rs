@@ -117,17 +117,21 @@ pub fn wordings(timeline: &Timeline, span: &Span) -> Vec<String> {
 /// of them.
 fn noted(notes: Detail, volume: usize) -> Vec<String> {
     let objects = names::objects(notes.value as u32);
-    let numbers = objects.trim_start_matches(|c: char| !c.is_ascii_digit());
-    let alone = [format!("notes: {objects}"), format!("notes {numbers}"), numbers.into()];
-    let wordings = match notes.version {
-        0 => vec![format!("volume {volume} notes: {objects}")],
+    let numbers = objects.trim_start_matches(|c: char| !c.is_ascii_digit()).to_string();
+    match notes.version {
+        0 => vec![
+            format!("volume {volume} notes: {objects}"),
+            format!("notes: {objects}"),
+            objects.clone(),
+            numbers,
+        ],
         batch => vec![
             format!("volume {volume} notes: {objects}, batch {batch}"),
             format!("notes: {objects}, batch {batch}"),
-            format!("notes {numbers}, batch {batch}"),
+            format!("batch {batch}: {numbers}"),
+            format!("batch {batch}"),
         ],
-    };
-    wordings.into_iter().chain(alone).collect()
+    }
 }
 
 pub fn span_title(timeline: &Timeline, span: &Span) -> String {
@@ -181,5 +185,27 @@ fn span_words(timeline: &Timeline, span: &Span) -> String {
                 _ => format!("{copy}, lease to {until}"),
             }
         }
+    }
+}
+
+#[cfg(test)]
+mod tests {
+    use super::*;
+
+    /// The batch is the last to go: without it the label would tell of notes
+    /// that nobody was sent.
+    #[test]
+    fn short_labels_of_notes_keep_what_matters() {
+        let labels = |value, version| noted(Detail { until: 10, version, value }, 0);
+        assert_eq!(
+            labels(0b11, 4),
+            [
+                "volume 0 notes: objects 0, 1, batch 4",
+                "notes: objects 0, 1, batch 4",
+                "batch 4: 0, 1",
+                "batch 4"
+            ]
+        );
+        assert_eq!(labels(0b1, 0), ["volume 0 notes: object 0", "notes: object 0", "object 0", "0"]);
     }
 }

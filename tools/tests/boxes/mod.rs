@@ -5,7 +5,7 @@ use std::collections::BTreeMap;
 
 mod corners;
 mod shapes;
-mod style;
+pub mod style;
 
 pub use corners::Corner;
 pub use shapes::Shape;
