@@ -1,4 +1,4 @@
-//! The fixed sizes and limits of 01.
+//! The fixed sizes and limits of 01 and 02.
 
 /// The most clients, volumes and objects of a setup (01, Tables; 02, A6).
 pub const CLIENTS: usize = 16;
