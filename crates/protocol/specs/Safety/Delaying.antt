@@ -1,4 +1,4 @@
--- The notes of a write: doubts too, and each client that the write puts off has one.
+-- The notes of a write: they are doubts too, and each client whose invalidation is put off has one.
 use Prim.Native.Nat.{ℕ, _<_}
 use native.Mathlib.Omega.{arith}
 use mathlib.Core.Bool.{true}
@@ -94,7 +94,7 @@ module _ (s : Setup) (t : Tables) (o : ℕ) (range : Ranges s) (ho : o < s .obje
   turn-noted d x k hk p e =
       cond-keeps (Noted d) (delays s (withSessions t x) o k) (λ _. put-off-stays s range x (p .0) k (volumeOf s o) o hk hv ho d (volumeOf s o) o hv ho e) (λ _. e)
 
-  -- who is put off has a note
+  -- whoever's invalidation is put off has a note
   pub delayed-notes : (d : ℕ) → d < s .clients → delays s t o d ≡ true → Noted d (delayed s t o)
   unfolding delayed Undecided
   delayed-notes d hd e =
