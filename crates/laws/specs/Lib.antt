@@ -13,3 +13,5 @@ pub mod Parts
 pub mod Flags
 pub mod Tabulate
 pub mod Shift
+pub mod Line
+pub mod Overlay

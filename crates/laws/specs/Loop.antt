@@ -28,6 +28,12 @@ unfoldable pub allFrom : (ℕ → Bool) → ℕ → ℕ → Bool
 allFrom p j zero = true
 allFrom p j (suc n) = p j && allFrom p (j + 1) n
 
+-- two tests that agree at these numbers
+pub all-same : (p q : ℕ → Bool) (j n : ℕ) → ((k : ℕ) → j ≤ k → k < j + n → p k ≡ q k) → allFrom p j n ≡ allFrom q j n
+unfolding allFrom
+all-same p q j zero h = refl
+all-same p q j (suc n) h = rw (h j (omega arith) (omega arith), all-same p q (j + 1) n (λ k a b. h k (omega arith) (omega arith)))
+
 -- the first of the n numbers from j on at which p holds, else the number after them
 unfoldable pub firstFrom : (ℕ → Bool) → ℕ → ℕ → ℕ
 firstFrom p j zero = j
