@@ -23,4 +23,10 @@ pub mod History
 pub mod Safety
 pub mod Demand3
 pub mod Reached
+pub mod Saved
+pub mod Line
+pub mod SavedEdges
+pub mod SavedLaws
+pub mod Along
+pub mod Returned
 pub mod NeverLater

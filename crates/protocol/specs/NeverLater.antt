@@ -8,6 +8,7 @@ use mathlib.Core.Logic.{inl, inr, ⊎-elim}
 use mathlib.Core.Path.{_≡_}
 use Rattle.laws.specs.Choice.{true-or-false}
 use Rattle.laws.specs.Greatest.{greatest, greatest-same}
+use Rattle.laws.specs.Line.{OfEach}
 use Rattle.laws.specs.Store.{always}
 use Rattle.protocol.specs.declared.setup.Setup.{Setup}
 use Rattle.protocol.specs.declared.step.Step.{Step}
@@ -22,6 +23,8 @@ use Rattle.protocol.specs.Safety.Invariant.{Inv}
 use Rattle.protocol.specs.Safety.Tools.{dead-ended}
 use Rattle.protocol.specs.Safety.Beginning.{unwaited-dead}
 use Rattle.protocol.specs.Reached.{run-safe}
+use Rattle.protocol.specs.Saved.{freshMachine, movedBy}
+use Rattle.protocol.specs.Along.{each-reached}
 
 -- The old rule, 01, Step 4: "latest end is the greatest of clock + m, the lesser of VE and OE, and guard"
 unfoldable pub formerEnd : Setup → Tables → ℕ → ℕ
@@ -37,6 +40,11 @@ safe-never-later s w o range inv ho =
 pub never-later : (s : Setup) → inRange s ≡ true → (xs : List Step) (o : ℕ) → o < s .objects
     → latestEnd s (ran s (freshWorld s) xs .tables) o ≤ formerEnd s (ran s (freshWorld s) xs .tables) o
 never-later s i xs o ho = safe-never-later s (ran s (freshWorld s) xs) o (ranges s i) (run-safe s i xs) ho
+
+-- with saves and returns among the steps, in the present state and in every saved one
+pub never-later-along : (s : Setup) → inRange s ≡ true → (xs : List Step)
+    → OfEach (λ (w : World). (o : ℕ) → o < s .objects → latestEnd s (w .tables) o ≤ formerEnd s (w .tables) o) (movedBy s (freshMachine s) xs)
+never-later-along s i = each-reached s i (λ (w : World). (o : ℕ) → o < s .objects → latestEnd s (w .tables) o ≤ formerEnd s (w .tables) o) (never-later s i)
 
 -- who is not waited for has a lease that has ended
 unwaited-lapsed : (s : Setup) (t : Tables) (o d : ℕ) → waits s t o d ≡ false → leasedUntil s t o d ≤ t .clock

@@ -28,7 +28,7 @@ abbrev pub postedAfter : Setup → List Step → ℕ → ℕ
 postedAfter s xs o = booksThrough s (freshBooks s) xs .ledger .postedValue o
 
 -- its own world is the run's
-books-world : (s : Setup) (xs : List Step) (b : Books) → booksThrough s b xs .world ≡ ran s (b .world) xs
+pub books-world : (s : Setup) (xs : List Step) (b : Books) → booksThrough s b xs .world ≡ ran s (b .world) xs
 unfolding booksThrough booksAfter ran
 books-world s [] b = refl
 books-world s (x ∷ xs) b = books-world s xs (booksAfter s b x)

@@ -2,8 +2,8 @@ use crate::message::Message;
 use crate::records::Copy;
 use crate::tables::Tables;
 
-// A step, by the number of its kind (01, "Steps"): 1 clock, 2 read, 3 ask, 4 write, 5 deliver, 6 lose, 7 double, 8 restart server, 9 restart client.
-// A field that its kind does not use is not asked about.
+// A step, by the number of its kind (01, "Steps"): 1 clock, 2 read, 3 ask, 4 write, 5 deliver, 6 lose, 7 double, 8 restart server, 9 restart client; by 02,
+// A7, 10 save and 11 return, with the name in `place`. A field that its kind does not use is not asked about.
 pub struct Step {
     pub kind: u8,
     pub client: u8,

@@ -136,10 +136,10 @@ other-number s t r x =
 abbrev pub RefusedOne : Answer → Type 0
 RefusedOne a = a ≡ Refused 1
 
-number-of : (a b : ℕ) → _≡_ {A = Answer} (Refused a) (Refused b) → a ≡ b
+pub number-of : (a b : ℕ) → _≡_ {A = Answer} (Refused a) (Refused b) → a ≡ b
 number-of a b e = cc
 
-never-one : (s : Setup) (w : World) (x : Step) → inRange s ≡ true → SoundWorld s w → RefusedOne (answerOf s w x) → ⊥
+pub never-one : (s : Setup) (w : World) (x : Step) → inRange s ≡ true → SoundWorld s w → RefusedOne (answerOf s w x) → ⊥
 unfolding refusal
 never-one s w x i h e =
     ⊎-elim (λ a. not-both (ap isRefused e) (accepted-not-refused s w x a))
