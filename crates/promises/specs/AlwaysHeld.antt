@@ -9,6 +9,7 @@ use mathlib.Core.Path.{_≡_, refl, sym, ap}
 use lib.Dec.{eqb}
 use borrow.Author.Tests.{eqb-true, eq-eqb, not-true}
 use Rattle.laws.specs.Choice.{cond-keeps, true-or-false, not-both, and-true}
+use Rattle.laws.specs.Line.{OfEach}
 use Rattle.protocol.specs.declared.message.Kind.{Kind}
 use Rattle.protocol.specs.declared.message.Kind.the-variants.{Renew, Grant, Invalidate, Ack, Offer, Dropped, Batch, Cleared}
 use Rattle.protocol.specs.declared.message.Payload.the-variants.{Same, Value}
@@ -32,6 +33,8 @@ use Rattle.protocol.specs.Safety.Invariant.{Inv, Sent, from}
 use Rattle.protocol.specs.Safety.Tools.{stands-true, sent-at}
 use Rattle.protocol.specs.Safety.InvariantKept.{step-keeps}
 use Rattle.protocol.specs.Reached.{run-sound, run-safe}
+use Rattle.protocol.specs.Saved.{freshMachine, movedBy}
+use Rattle.protocol.specs.Along.{each-reached}
 
 -- "a matching GRANT without a value always meets a dash that holds its version": in the list, its number standing; version 0 is no copy
 abbrev pub GrantsMeet : Setup → World → Type 0
@@ -111,6 +114,10 @@ module _ (s : Setup) (w : World) (inv : Inv s w) where
 -- ---- in every state that a run reaches
 pub always-held : (s : Setup) → inRange s ≡ true → (xs : List Step) → GrantsMeet s (ran s (freshWorld s) xs)
 always-held s i xs = grants-meet s (ran s (freshWorld s) xs) (run-safe s i xs)
+
+-- with saves and returns among the steps, in the present state and in every saved one
+pub held-along : (s : Setup) → inRange s ≡ true → (xs : List Step) → OfEach (GrantsMeet s) (movedBy s (freshMachine s) xs)
+held-along s i = each-reached s i (GrantsMeet s) (always-held s i)
 
 -- the old rule and the new one decide alike there ..
 pub same-decision : (s : Setup) → inRange s ≡ true → (xs : List Step) (x : Step) → formerDecision s (ran s (freshWorld s) xs) x ≡ decision s (ran s (freshWorld s) xs) x

@@ -1,4 +1,5 @@
 pub mod AlwaysHeld
 pub mod Calls
+pub mod SavedRun
 pub mod UntilShown
 pub mod WorkedRuns
