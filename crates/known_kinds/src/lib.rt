@@ -2,6 +2,7 @@
 // depends on the other, so this is a crate below both.
 ghost use mathlib.Core.Path.{_≡_};
 ghost use Rattle.protocol.specs.Gate.{isClock, isWrite, usesClient, usesObject, usesPlace, known};
+ghost use Rattle.protocol.specs.Saved.{usesName, knownKind};
 use protocol::step::Step;
 
 // the kinds of steps, by 01's numbers
@@ -23,11 +24,30 @@ pub const RESTART_SERVER: u8 = 8;
 
 pub const RESTART_CLIENT: u8 = 9;
 
-// Returns whether the kind is known: "Is the kind 1 to 9?" "A step of an unknown kind is a refused one."
+// the kinds of 02, A7: "two new step kinds, 10 save and 11 return, with the name in the place field"
+pub const SAVE: u8 = 10;
+
+pub const RETURN: u8 = 11;
+
+// Returns whether the kind is one of 01's: "Is the kind 1 to 9?"
 pub fn known(step: Step) -> bool
     ensures { λ r. ⌜ r ≡ known step ⌝ }
 {
     (CLOCK <= step.kind) & (step.kind <= RESTART_CLIENT)
+}
+
+// Returns whether the step's place is a name: "10 save and 11 return, with the name in the place field".
+pub fn uses_name(step: Step) -> bool
+    ensures { λ r. ⌜ r ≡ usesName step ⌝ }
+{
+    (step.kind == SAVE) | (step.kind == RETURN)
+}
+
+// Returns whether the kind is known, saves and returns included: "A step of an unknown kind is a refused one."
+pub fn known_kind(step: Step) -> bool
+    ensures { λ r. ⌜ r ≡ knownKind step ⌝ }
+{
+    known(step) | uses_name(step)
 }
 
 // Returns whether the step names a client: "the dash .. it uses".
