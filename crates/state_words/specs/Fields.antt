@@ -3,12 +3,13 @@ use Prim.Native.Nat.{ℕ}
 use mathlib.Core.List.{List, [], _∷_}
 use Rattle.laws.specs.Parts.{start}
 
--- the fields' lengths, in the order of their numbers; a new field goes at the end of its side (network, server, clients)
+-- the fields' lengths, in the order of their numbers; a new field goes at the end of its side (network, server, clients), before the mark of a saved state
 abbrev pub wordLengths : List ℕ
 wordLengths =
     1 ∷ 1 ∷ 576
     ∷ 8 ∷ 8 ∷ 8 ∷ 16 ∷ 128 ∷ 128 ∷ 128 ∷ 32 ∷ 32 ∷ 32 ∷ 32 ∷ 512 ∷ 32 ∷ 128 ∷ 128
-    ∷ 128 ∷ 128 ∷ 512 ∷ 512 ∷ 16 ∷ 16 ∷ 16 ∷ 16 ∷ []
+    ∷ 128 ∷ 128 ∷ 512 ∷ 512 ∷ 16 ∷ 16 ∷ 16 ∷ 16
+    ∷ 1 ∷ []
 
 abbrev pub valueLengths : List ℕ
 valueLengths = 64 ∷ 32 ∷ 32 ∷ 512 ∷ []
@@ -94,6 +95,10 @@ REQUEST-NUMBER = 24
 abbrev pub REQUEST-OBJECT : ℕ
 REQUEST-OBJECT = 25
 
+-- whether these words are a saved state (02, A7)
+abbrev pub SAVED : ℕ
+SAVED = 26
+
 -- the values: the network's, the server's two, the clients'
 abbrev pub MESSAGE-VALUE : ℕ
 MESSAGE-VALUE = 0
@@ -109,7 +114,7 @@ COPY-VALUE = 3
 
 -- the number of words, and of values
 abbrev pub WORDS : ℕ
-WORDS = 3274
+WORDS = 3275
 
 abbrev pub VALUES : ℕ
 VALUES = 640

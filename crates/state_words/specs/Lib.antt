@@ -3,4 +3,5 @@ pub mod Rows
 pub mod View
 pub mod Reads
 pub mod Worlds
+pub mod Saved
 pub mod LiveRows

@@ -3,6 +3,7 @@ pub mod client;
 pub mod fresh;
 pub mod network;
 pub mod pass;
+pub mod saved;
 pub mod server;
 
 use setup::limits::CLIENTS;
@@ -16,7 +17,7 @@ pub const CLIENT_VOLUMES: usize = CLIENTS * VOLUMES;
 pub const CLIENT_OBJECTS: usize = CLIENTS * SLOTS;
 
 // the words hold all 32-bit numbers, flags and sets
-pub const WORDS: usize = 3274;
+pub const WORDS: usize = 3275;
 
 pub type Words = [u32; WORDS];
 
