@@ -30,7 +30,7 @@ use Rattle.state_words.specs.View.{tablesOf, recordsOf, requestsOf, worldOf}
 use Rattle.state_words.specs.Worlds.{few-copies}
 use Rattle.client_records.specs.Stores.{RequestPut, withCopy, sweptOver}
 use Rattle.client_apply.specs.Changes.{copyPut, copyChanged, sweptOf, requestTurned, changedAt}
-use Rattle.client_apply.proofs.Requests.{request-stored}
+use Rattle.client_records.specs.Requests.{request-stored}
 
 -- the words have room for the setup's records
 module _ (s : Setup) (i : inRange s ≡ true) where

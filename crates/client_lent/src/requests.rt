@@ -1,6 +1,6 @@
 ghost use mathlib.Core.Path.{_≡_};
 ghost use Prim.Native.Nat.{_<_};
-ghost use lib.ListN.{getD};
+ghost use lib.ListN.{getD, set};
 ghost use Rattle.protocol.specs.Tables.{noRequest};
 ghost use Rattle.protocol.specs.Sound.{requestsSound};
 ghost use Rattle.protocol.specs.Client.{numbered, ended};
@@ -21,6 +21,15 @@ pub fn look(requests: &[Request], i: usize) -> Request
         return requests[i];
     }
     no_request()
+}
+
+// Stores a request for client i, or does nothing if there is no such client.
+pub fn store(requests: &mut [Request], i: usize, r: Request)
+    ensures { λ _. ⌜ now (requests .exit) ≡ set (now (requests .entry)) i r ⌝ }
+{
+    if i < requests.len() {
+        requests[i] = r;
+    }
 }
 
 // Takes the next number for a request for the object, which becomes the standing request: "one record, lent and updated". Returns the number.

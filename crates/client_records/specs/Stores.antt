@@ -19,8 +19,11 @@ withCopies q copies = record { copies = copies; requests = q .requests }
 abbrev pub withCopy : Records → ℕ → Copy → Records
 withCopy q place c = withCopies q (set (q .copies) place c)
 
+abbrev pub withRequests : Records → List Request → Records
+withRequests q requests = record { copies = q .copies; requests = requests }
+
 abbrev pub withRequest : Records → ℕ → Request → Records
-withRequest q d r = record { copies = q .copies; requests = set (q .requests) d r }
+withRequest q d r = withRequests q (set (q .requests) d r)
 
 -- the records with n copies swept, beginning at `first`
 abbrev pub sweptOver : Setup → Sweep → ℕ → ℕ → Records → Records
