@@ -11,23 +11,24 @@ use Rattle.laws.specs.Loop.{Scanning, all-by, all-end}
 use Rattle.protocol.specs.declared.setup.Setup.{Setup}
 use Rattle.protocol.specs.declared.step.Step.{Step}
 use Rattle.protocol.specs.Setup.{inRange}
-use Rattle.protocol.specs.Gate.{isClock, isWrite, usesClient, usesObject, usesPlace, known}
+use Rattle.protocol.specs.Gate.{isClock, isWrite, usesClient, usesObject, usesPlace}
+use Rattle.protocol.specs.Saved.{usesName, knownKind}
 use Rattle.file_records.specs.Records.{setupIn, stepIn}
 use Rattle.file_shape.specs.Shape.{countOf, distanceOf, setupPlace, firstPlace, stepFits, stepFitsAt, stepsFit, trailerFits, measured, contentsFit, wellFormed}
 use Rattle.file_shape.specs.Parts.{Parts, parts}
 use Rattle.file_shape.specs.Places.{placeBefore, place-is}
 
 -- The test of a step, assembled from what the calls returned.
-pub fits-by : (x : Step) (client object place clock value k : Bool) → client ≡ usesClient x → object ≡ usesObject x → place ≡ usesPlace x → clock ≡ isClock x
-    → value ≡ isWrite x → k ≡ known x
+pub fits-by : (x : Step) (client object place name clock value k : Bool) → client ≡ usesClient x → object ≡ usesObject x → place ≡ usesPlace x
+    → name ≡ usesName x → clock ≡ isClock x → value ≡ isWrite x → k ≡ knownKind x
     → (not k
     || (client || eqb (x .client) 0)
     && (object || eqb (x .object) 0)
-    && (place || eqb (x .place) 0)
+    && (place || name || eqb (x .place) 0)
     && (clock || eqb (x .clock) 0)
     && (value || eqb (x .value) 0)) ≡ stepFits x
 unfolding stepFits
-fits-by x client object place clock value k e f g h i j = rw (e, f, g, h, i, j)
+fits-by x client object place name clock value k e f g h i j l = rw (e, f, g, h, i, j, l)
 
 -- ---- the loop over the records
 -- `ok` says whether all records before k fit.

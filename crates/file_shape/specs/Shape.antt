@@ -8,7 +8,8 @@ use Rattle.laws.specs.Loop.{allFrom}
 use Rattle.bytes_layout.specs.Number.{numberAt}
 use Rattle.protocol.specs.declared.step.Step.{Step}
 use Rattle.protocol.specs.Setup.{between, inRange}
-use Rattle.protocol.specs.Gate.{isClock, isWrite, usesClient, usesObject, usesPlace, known}
+use Rattle.protocol.specs.Gate.{isClock, isWrite, usesClient, usesObject, usesPlace}
+use Rattle.protocol.specs.Saved.{usesName, knownKind}
 use Rattle.file_records.specs.Records.{setupIn, stepIn}
 
 -- "trailer of 8: step count"
@@ -33,13 +34,14 @@ placeOf first k = first + 16 * k
 abbrev pub reserved : List ℕ → ℕ → ℕ
 reserved l p = getD l (p + 3) 0
 
--- "unused fields 0". "Its shape asks nothing of an unknown kind or of that step's fields."
+-- "unused fields 0". "Its shape asks nothing of an unknown kind or of that step's fields." 02, A7: "two new step kinds, 10 save and 11 return, with the
+-- name in the place field". The shape allows any name.
 unfoldable pub stepFits : Step → Bool
 stepFits x =
-    not (known x)
+    not (knownKind x)
     || (usesClient x || eqb (x .client) 0)
     && (usesObject x || eqb (x .object) 0)
-    && (usesPlace x || eqb (x .place) 0)
+    && (usesPlace x || usesName x || eqb (x .place) 0)
     && (isClock x || eqb (x .clock) 0)
     && (isWrite x || eqb (x .value) 0)
 

@@ -6,16 +6,17 @@ ghost use Rattle.file_shape.specs.Parts.{Parts};
 use file_records::sizes;
 use protocol::step::Step;
 
-// Returns whether the step fits: "unused fields 0". "Its shape asks nothing of an unknown kind or of that step's fields."
+// Returns whether the step fits: "unused fields 0". "Its shape asks nothing of an unknown kind or of that step's fields." A save and a return use the
+// place alone: "two new step kinds, 10 save and 11 return, with the name in the place field". The shape allows any name.
 pub fn step_fits(step: Step) -> bool
     ensures { λ r. ⌜ r ≡ stepFits step ⌝ }
 {
     let client = known_kinds::uses_client(step) | (step.client == 0);
     let object = known_kinds::uses_object(step) | (step.object == 0);
-    let place = known_kinds::uses_place(step) | (step.place == 0);
+    let place = known_kinds::uses_place(step) | known_kinds::uses_name(step) | (step.place == 0);
     let clock = known_kinds::uses_clock(step) | (step.clock == 0);
     let value = known_kinds::uses_value(step) | (step.value == 0);
-    !known_kinds::known(step) | (client & object & place & clock & value)
+    !known_kinds::known_kind(step) | (client & object & place & clock & value)
 }
 
 // Returns whether the trailer's numbers agree with each other and with a file of n bytes: "step count, then the distance from the file's end back to the

@@ -1,4 +1,4 @@
-// Reads run files made by hand from 01's layout and 02, A6. Prints a line for each: the refusal, the note's length and bytes, the setup with its first and
+// Reads run files made by hand from 01's layout and 02, A6 and A7. Prints a line for each: the refusal, the note's length and bytes, the setup with its first and
 // last volume byte, the number of steps and where they begin. For some files it also prints the first and the last step, and what is read after them.
 mod show;
 
@@ -124,7 +124,61 @@ fn step_fields() {
     changed_step(68, 200);
     // a step of an unknown kind may hold anything
     changed_step(50, 0);
-    changed_step(66, 10);
+    changed_step(66, 12);
+}
+
+// Returns the file of two steps with others in it: a save under name 3 and a return to it.
+fn save_and_return() -> [u8; 91] {
+    let mut f = two_steps();
+    f[50] = 10;
+    f[53] = 3;
+    f[54] = 0;
+    f[55] = 0;
+    f[66] = 11;
+    f[69] = 3;
+    f[74] = 0;
+    f[81] = 0;
+    f
+}
+
+// Reads the file of a save and a return with one byte changed.
+fn changed_name(at: usize, b: u8)
+    requires { ⌜ at < 91 ⌝ }
+{
+    let mut f = save_and_return();
+    f[at] = b;
+    show::file(show::cut(&f, 0, 90));
+}
+
+fn names() {
+    let f = save_and_return();
+    show::file(show::cut(&f, 0, 90));
+    show::steps(show::cut(&f, 0, 90));
+    // a save with a client, an object, a clock and a value, then a return
+    changed_name(51, 1);
+    changed_name(52, 1);
+    changed_name(57, 1);
+    changed_name(58, 1);
+    changed_name(67, 1);
+    changed_name(68, 1);
+    changed_name(70, 1);
+    changed_name(81, 1);
+    // the shape allows any name
+    changed_name(53, 4);
+    changed_name(69, 200);
+}
+
+// Reads the same file with a step of kind 12, which is unknown and may hold anything, in place of the return.
+fn unknown_kind() {
+    let mut f = save_and_return();
+    f[66] = 12;
+    f[67] = 255;
+    f[68] = 254;
+    f[69] = 253;
+    f[70] = 252;
+    f[81] = 251;
+    show::file(show::cut(&f, 0, 90));
+    show::steps(show::cut(&f, 0, 90));
 }
 
 // Reads a file whose note is itself a run file: the setup is found from the end.
@@ -236,6 +290,8 @@ fn main() {
     delays();
     steps();
     step_fields();
+    names();
+    unknown_kind();
     note_like_a_file();
     note_of_any_bytes();
     large();

@@ -112,7 +112,24 @@ fn given_steps() {
     let mut odd = read;
     odd.clock = 258;
     one_step(odd, 1);
+    odd.kind = 12;
+    one_step(odd, 1);
+}
+
+// 02, A7: writes a return to a name that no run has, then a save with a clock, which it does not use.
+fn given_names() {
+    let named = Step {
+        kind: 11,
+        client: 0,
+        object: 0,
+        place: 200,
+        clock: 0,
+        value: 0,
+    };
+    one_step(named, 1);
+    let mut odd = named;
     odd.kind = 10;
+    odd.clock = 258;
     one_step(odd, 1);
 }
 
@@ -123,4 +140,5 @@ fn main() {
     small_files();
     sizes();
     given_steps();
+    given_names();
 }

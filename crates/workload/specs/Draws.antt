@@ -27,7 +27,7 @@ fieldsDrawn q s total = record {
   value = draw s 5 % 5;
 }
 
--- "unused fields are 0"
+-- "unused fields are 0"; the kinds drawn, 1 to 9, have no name
 unfoldable pub onlyUsed : Step → Step
 onlyUsed x = record {
   kind = x .kind;

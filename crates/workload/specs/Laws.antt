@@ -15,7 +15,8 @@ use Rattle.laws.specs.Tabulate.{tabulate-at, length-tabulate, all-tabulate}
 use Rattle.protocol.specs.declared.setup.Setup.{Setup}
 use Rattle.protocol.specs.declared.step.Step.{Step}
 use Rattle.protocol.specs.Setup.{inRange}
-use Rattle.protocol.specs.Gate.{asked, isClock, isWrite, usesClient, usesObject, usesPlace, known}
+use Rattle.protocol.specs.Gate.{asked, isClock, isWrite, usesClient, usesObject, usesPlace}
+use Rattle.protocol.specs.Saved.{usesName, knownKind}
 use Rattle.file_records.specs.Records.{noStep}
 use Rattle.file_shape.specs.Shape.{stepFits}
 use Rattle.bytes_layout.specs.Number.{limit}
@@ -43,16 +44,20 @@ kept : (used : Bool) (n : ℕ) → (used || eqb (cond used n 0) 0) ≡ true
 kept true n = refl
 kept false n = refl
 
+kept-place : (used name : Bool) (n : ℕ) → (used || name || eqb (cond used n 0) 0) ≡ true
+kept-place true name n = refl
+kept-place false name n = sym (or-yes name)
+
 used-fits : (x : Step) → stepFits (onlyUsed x) ≡ true
 unfolding stepFits onlyUsed
 used-fits x =
     rw (
       kept (usesClient x) (x .client),
       kept (usesObject x) (x .object),
-      kept (usesPlace x) (x .place),
+      kept-place (usesPlace x) (usesName x) (x .place),
       kept (isClock x) (x .clock),
       kept (isWrite x) (x .value),
-    ) (sym (or-yes (not (known (onlyUsed x)))))
+    ) (sym (or-yes (not (knownKind (onlyUsed x)))))
 
 module _ (q : Setup) (s n : ℕ) where
   pub workload-fits : allFit (workload q s n) ≡ true

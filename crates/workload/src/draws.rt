@@ -51,7 +51,7 @@ fn value_if(used: bool, value: u64) -> u64
     0
 }
 
-// Returns the step with the fields that its kind does not use set to 0: "unused fields are 0".
+// Returns the step with the fields that its kind does not use set to 0: "unused fields are 0". The kinds drawn, 1 to 9, have no name.
 fn only_used(step: Step) -> Step
     ensures { λ r. ⌜ r ≡ onlyUsed step ⌝ }
 {

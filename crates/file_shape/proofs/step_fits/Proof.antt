@@ -12,14 +12,17 @@ uses-object-requires c κs = search needs
 uses-place-requires : tie.Need-uses-place-requires
 uses-place-requires c κs = search needs
 
+uses-name-requires : tie.Need-uses-name-requires
+uses-name-requires c κs = search needs
+
 uses-clock-requires : tie.Need-uses-clock-requires
 uses-clock-requires c κs = search needs
 
 uses-value-requires : tie.Need-uses-value-requires
 uses-value-requires c κs = search needs
 
-known-requires : tie.Need-known-requires
-known-requires c κs = search needs
+known-kind-requires : tie.Need-known-kind-requires
+known-kind-requires c κs = search needs
 
 returns : tie.Need-returns
 returns c = search fits-by
@@ -31,7 +34,8 @@ step-fits-spec =
     uses-client-requires
     uses-object-requires
     uses-place-requires
+    uses-name-requires
     uses-clock-requires
     uses-value-requires
-    known-requires
+    known-kind-requires
     returns)
