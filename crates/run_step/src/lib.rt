@@ -1,5 +1,5 @@
-// Performs one step of a run in place, on words that also hold the clients' records. A run starts from fresh words, so the answer to question 1 is
-// never "no", and it is not asked.
+// Performs one step of a run in place, on words that also hold the clients' records; a save or a return is a step of `run_saved`. A run starts from fresh
+// words, so the answer to question 1 is never "no", and it is not asked.
 ghost use mathlib.Core.Bool.{true};
 ghost use mathlib.Core.Path.{_≡_};
 ghost use Rattle.protocol.specs.Setup.{inRange};
