@@ -1,13 +1,21 @@
 -- One lemma for each path through a function: the facts found along the path give its contract.
 use Prim.Native.Nat.{ℕ, _+_, _*_, _<_, _≤_}
 use native.Mathlib.Omega.{arith}
-use mathlib.Core.Bool.{false}
+use mathlib.Core.Bool.{true, false}
 use mathlib.Core.List.{List, _++_}
 use mathlib.Core.Logic.{⊎-elim}
 use mathlib.Core.Path.{_≡_, refl, ap, _∙_}
-use lib.ListN.{length, take, drop}
+use lib.ListN.{length, take, drop, replicate}
 use lib.Seq.{sets-eq, take-append-seam, length-take-le}
 use Rattle.laws.specs.Choice.{true-or-false}
+use Rattle.protocol.specs.declared.setup.Setup.{Setup}
+use Rattle.protocol.specs.Setup.{inRange}
+use Rattle.protocol.specs.Tables.{freshTables}
+use Rattle.protocol.specs.Saved.{names, freshMachine}
+use Rattle.state_words.specs.Fields.{WORDS}
+use Rattle.state_words.specs.View.{tablesOf, recordsOf, freshRecords}
+use Rattle.state_words.specs.Worlds.{fresh-world}
+use Rattle.state_words.specs.Saved.{machineOf, none-saved}
 use Rattle.file_shape.specs.Shape.{countOf, firstPlace, wellFormed}
 use Rattle.file_reader.specs.declared.Contents.{Contents}
 use Rattle.file_reader.specs.File.{contents, contentsOf}
@@ -19,6 +27,12 @@ use Rattle.bytes_layout.specs.declared.output.Report.{Report}
 use Rattle.bytes_layout.specs.declared.output.Report.the-variants as report
 use Rattle.bytes_layout.specs.Report.{Reports, all-written, none-written}
 use Rattle.run.specs.Listed.{setupOf, answersOf, fileListing, listRefusal, listing-fits, listed-all, listed-short, listed-none}
+
+-- ---- before the first step
+-- words of zeros hold no saved state
+pub fresh-machine : (s : Setup) (w x : List ℕ) (xs : List (List ℕ)) → inRange s ≡ true → (tablesOf w x ≡ freshTables) × (recordsOf w x ≡ freshRecords)
+    → machineOf s w x (replicate names (replicate WORDS 0)) xs ≡ freshMachine s
+fresh-machine s w x xs i f = rw (fresh-world s w x i f, none-saved s xs)
 
 -- ---- reading the file
 module _ (l : List ℕ) (r : Contents) (e : r ≡ contentsOf l) where

@@ -11,7 +11,7 @@ use Rattle.protocol.specs.declared.setup.Setup.{Setup}
 use Rattle.protocol.specs.declared.step.Answer.{Answer}
 use Rattle.protocol.specs.declared.step.Step.{Step}
 use Rattle.protocol.specs.Gate.{orRefuse, asked}
-use Rattle.protocol.specs.World.{World, freshWorld, stepped, ran, answers}
+use Rattle.protocol.specs.Saved.{Machine, freshMachine, moved, movedBy, answersTo}
 use Rattle.file_records.specs.Records.{setupIn}
 use Rattle.file_shape.specs.Shape.{setupPlace, wellFormed}
 use Rattle.file_shape.specs.Parts.{Parts, formed-parts}
@@ -21,13 +21,13 @@ use Rattle.listing.specs.Listing.{listingOf, listing-short}
 abbrev pub setupOf : List ℕ → Setup
 setupOf l = setupIn l (setupPlace l)
 
--- the answers to a file's steps, from fresh tables on
+-- the answers to a file's steps, from fresh tables on and with nothing saved
 unfoldable pub answersOf : List ℕ → List Answer
-answersOf l = answers (setupOf l) (freshWorld (setupOf l)) (stepsOf l)
+answersOf l = answersTo (setupOf l) (freshMachine (setupOf l)) (stepsOf l)
 
--- the world that a file's steps leave
-unfoldable pub leftBy : List ℕ → World
-leftBy l = ran (setupOf l) (freshWorld (setupOf l)) (stepsOf l)
+-- the present state and the saved ones that a file's steps leave
+unfoldable pub leftBy : List ℕ → Machine
+leftBy l = movedBy (setupOf l) (freshMachine (setupOf l)) (stepsOf l)
 
 -- the listing of a run file: "prints a header, then a line a step"
 unfoldable pub fileListing : List ℕ → List ℕ
@@ -39,17 +39,17 @@ unfoldable pub listRefusal : List ℕ → ℕ → ℕ
 listRefusal l n = orRefuse (wellFormed l) 9 (orRefuse (leb (length (fileListing l)) n) 8 0)
 
 -- ---- a buffer of a fixed size holds any listing
-length-answers : (s : Setup) (w : World) (xs : List Step) → length (answers s w xs) ≡ length xs
-unfolding answers
-length-answers s w [] = refl
-length-answers s w (x ∷ xs) = ap suc (length-answers s (stepped s w x) xs)
+length-answers : (s : Setup) (q : Machine) (xs : List Step) → length (answersTo s q xs) ≡ length xs
+unfolding answersTo
+length-answers s q [] = refl
+length-answers s q (x ∷ xs) = ap suc (length-answers s (moved s q x) xs)
 
 pub listing-fits : (l : List ℕ) → wellFormed l ≡ true → length (fileListing l) ≤ 112640
 unfolding fileListing answersOf
 listing-fits l e = omega (arith, listing-short (answersOf l) (few (formed-parts l e)))
   where
     few : Parts l → length (answersOf l) ≤ 4000
-    few p = omega (arith, p .few, length-steps l, length-answers (setupOf l) (freshWorld (setupOf l)) (stepsOf l))
+    few p = omega (arith, p .few, length-steps l, length-answers (setupOf l) (freshMachine (setupOf l)) (stepsOf l))
 
 -- ---- the three ways through the call
 module _ (l : List ℕ) (n : ℕ) where

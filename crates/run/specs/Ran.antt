@@ -1,4 +1,4 @@
--- A run over the steps of a file, each on the world that the last one left, and the lines of its answers.
+-- A run over the steps of a file, each on the machine that the last one left, and the lines of its answers.
 use Prim.Native.Nat.{ℕ, _+_, _*_, _<_, _≤_}
 use native.Mathlib.Omega.{arith}
 use mathlib.Core.Bool.{true}
@@ -11,8 +11,8 @@ use Rattle.protocol.specs.declared.step.Answer.{Answer}
 use Rattle.protocol.specs.declared.step.Step.{Step}
 use Rattle.protocol.specs.Setup.{inRange}
 use Rattle.protocol.specs.Answers.{answerValue}
-use Rattle.protocol.specs.World.{World, freshWorld, stepped, answerOf, answers}
-use Rattle.protocol.specs.Soundness.Question.{SoundWorld, fresh-sound, stepped-sound}
+use Rattle.protocol.specs.Saved.{Machine, freshMachine, answersTo, Called}
+use Rattle.protocol.specs.SavedLaws.{SoundMachine, fresh-machine-sound, moved-sound}
 use Rattle.file_shape.specs.Shape.{countOf}
 use Rattle.file_shape.specs.Parts.{Parts}
 use Rattle.file_shape.specs.Places.{placeBefore}
@@ -22,15 +22,15 @@ use Rattle.listing.specs.Listing.{lineOf, linesFrom, line-short, answer-small}
 use Rattle.bytes_layout.specs.Number.{sets-then}
 use Rattle.bytes_layout.specs.Written.{Written}
 
--- the state of a run of file l that has reached world w after k steps: the lines of the remaining steps turn `out` into `whole`
-pub record Going (s : Setup) (l : List ℕ) (start : ℕ) (whole : List ℕ) (end : ℕ) (w : World) (out : List ℕ) (at k : ℕ) : Type 0 where
-  pub sound : SoundWorld s w
+-- the state of a run of file l that has reached machine q after k steps: the lines of the remaining steps turn `out` into `whole`
+pub record Going (s : Setup) (l : List ℕ) (start : ℕ) (whole : List ℕ) (end : ℕ) (q : Machine) (out : List ℕ) (at k : ℕ) : Type 0 where
+  pub sound : SoundMachine s q
   pub room : at ≤ start + 28 * k
-  pub lines : Written out whole at (linesFrom (k + 1) (answers s w (stepsLeft l k))) end
+  pub lines : Written out whole at (linesFrom (k + 1) (answersTo s q (stepsLeft l k))) end
 
 -- the lines of a file's steps under a setup, which the loop has to write
 abbrev pub linesOf : Setup → List ℕ → List ℕ
-linesOf s l = linesFrom 1 (answers s (freshWorld s) (stepsOf l))
+linesOf s l = linesFrom 1 (answersTo s (freshMachine s) (stepsOf l))
 
 -- ---- what remains to be written
 written-rest : (l m whole : List ℕ) (p q end : ℕ) (a b : List ℕ) → Written l whole p (a ++ b) end → Written l m p a q → Written m whole q b end
@@ -43,19 +43,19 @@ written-none : (l whole : List ℕ) (p end : ℕ) → Written l whole p [] end �
 written-none l whole p end w = (w .bytes .stored, omega (arith, w .next))
 
 module _ (s : Setup) (l out₀ : List ℕ) (start : ℕ) where
-  abbrev pub Running : World → List ℕ → ℕ → ℕ → Type 0
+  abbrev pub Running : Machine → List ℕ → ℕ → ℕ → Type 0
   Running = Going s l start (sets out₀ start (linesOf s l)) (start + length (linesOf s l))
 
-  pub run-starts : inRange s ≡ true → (w : World) → w ≡ freshWorld s → Running w out₀ start 0
-  run-starts i w e = record {
-    sound = rw e (fresh-sound s i);
+  pub run-starts : inRange s ≡ true → (q : Machine) → q ≡ freshMachine s → Running q out₀ start 0
+  run-starts i q e = record {
+    sound = rw e (fresh-machine-sound s i);
     room = omega arith;
     lines = rw (e, left-first l) (record { next = refl; bytes = record { stored = refl; long = length-sets out₀ start (linesOf s l) } });
   }
 
-  module _ (p : Parts l) (count : ℕ) (n : count ≡ countOf l) (w : World) (out : List ℕ) (at k : ℕ) (g : Running w out at k) where
+  module _ (p : Parts l) (count : ℕ) (n : count ≡ countOf l) (q : Machine) (out : List ℕ) (at k : ℕ) (g : Running q out at k) where
     pub run-ends : count ≤ k → Written out₀ out start (linesOf s l) at
-    unfolding linesFrom answers
+    unfolding linesFrom answersTo
     run-ends h =
         let e = written-none out _ at _ (rw (left-last l k (rw n at h)) at (g .lines)) in
         record { next = sym (e .1); bytes = record { stored = sym (e .0); long = ap length (sym (e .0)) ∙ length-sets out₀ start (linesOf s l) } }
@@ -66,11 +66,11 @@ module _ (s : Setup) (l out₀ : List ℕ) (start : ℕ) where
       line-fits room e = omega (arith, g .room)
 
       -- the next step, whose record is at the current offset
-      pub run-again : (place : ℕ) → place ≡ placeBefore l k → (x : Step) → x ≡ stepAt l place → (u : World) (a : Answer) → (a ≡ answerOf s w x) × (u ≡ stepped s w x)
-          → (out′ : List ℕ) (at′ : ℕ) → Written out out′ at (lineOf (k + 1) a) at′ → Running u out′ at′ (k + 1)
-      unfolding linesFrom answers
-      run-again place i x e u a f out′ at′ v = record {
-        sound = rw (f .1) (stepped-sound s w x (g .sound));
+      pub run-again : inRange s ≡ true → (place : ℕ) → place ≡ placeBefore l k → (x : Step) → x ≡ stepAt l place → (a : Answer) (r : Machine) → Called s q x a r
+          → (out′ : List ℕ) (at′ : ℕ) → Written out out′ at (lineOf (k + 1) a) at′ → Running r out′ at′ (k + 1)
+      unfolding linesFrom answersTo
+      run-again i place b x e a r f out′ at′ v = record {
+        sound = rw (f .moves) (moved-sound s i q x (g .sound));
         room = omega (arith, g .room, v .next, line-short (k + 1) _ (answerValue a) (omega (arith, p .few)) (answer-small a));
-        lines = written-rest out out′ _ at at′ _ (lineOf (k + 1) a) _ (rw (f .0, f .1, e) (rw (left-next l place k i p (rw n at h)) at (g .lines))) v;
+        lines = written-rest out out′ _ at at′ _ (lineOf (k + 1) a) _ (rw (f .answers, f .moves, e) (rw (left-next l place k b p (rw n at h)) at (g .lines))) v;
       }
