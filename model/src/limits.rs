@@ -23,6 +23,9 @@ pub const QUEUE: usize = 64;
 pub const CLOCK_MAX: u32 = 2_147_483_647;
 pub const EXPIRY_MAX: u32 = 2_148_483_647;
 
+/// How many named states there are (02, A7).
+pub const NAMES: usize = 4;
+
 /// The sizes of frames and run files in bytes, and the most steps of a file
 /// (01, Frame, run file and listing).
 pub const FRAME_BYTES: usize = 32;
@@ -45,3 +48,7 @@ pub const BAD_FILE: u8 = 9;
 
 /// The refusal of a workload or a run file that is not written (02, A5).
 pub const NOT_WRITTEN: u8 = 10;
+
+/// The refusal of a name that does not exist or, for a return, was never saved
+/// (02, A7).
+pub const NO_SUCH_NAME: u8 = 11;

@@ -1,29 +1,29 @@
-//! Takes the steps of a run one after another, from fresh tables.
+//! Takes the steps of a run one after another, from fresh tables with nothing
+//! saved.
 
 use crate::answer::Answer;
 use crate::mistakes::Mistakes;
 use crate::setup::Setup;
-use crate::state::State;
+use crate::state::Machine;
 use crate::step_call::{step, step_sound};
 use crate::step_record::Step;
-use crate::world::World;
 
 /// Runs the steps, asking question 1 before each.
 pub fn run_asking(setup: &Setup, steps: impl Iterator<Item = Step>, mut each: impl FnMut(Answer)) {
-    let mut state = State::fresh();
-    let (tables, copies, requests) = state.parts(setup);
+    let mut machine = Machine::fresh();
+    let mut world = machine.world(setup);
     for record in steps {
-        each(step(setup, tables, copies, requests, &record));
+        each(step(&mut world, &record));
     }
 }
 
 /// Runs the steps without asking question 1 again: fresh tables are sound, and
-/// steps keep them so. The setup must be in range.
+/// steps keep them so, and what they save. The setup must be in range.
 pub fn run_trusting(setup: &Setup, steps: impl Iterator<Item = Step>, mut each: impl FnMut(Answer)) {
-    let mut state = State::fresh();
-    let (tables, copies, requests) = state.parts(setup);
+    let mut machine = Machine::fresh();
+    let mut world = machine.world(setup);
     for record in steps {
-        each(step_sound(setup, tables, copies, requests, &record));
+        each(step_sound(&mut world, &record));
     }
 }
 
@@ -34,9 +34,8 @@ pub fn run_under(
     steps: impl Iterator<Item = Step>,
     mut each: impl FnMut(Answer),
 ) {
-    let mut state = State::fresh();
-    let (tables, copies, requests) = state.parts(setup);
-    let mut world = World { setup, tables, copies, requests };
+    let mut machine = Machine::fresh();
+    let mut world = machine.world(setup);
     for record in steps {
         each(rules.step(&mut world, &record));
     }

@@ -1,4 +1,5 @@
-//! Question 1: are setup and tables sound (01, Questions at the gate; 02, A6)?
+//! Question 1: are setup and tables sound (01, Questions at the gate; 02, A6
+//! and A7)?
 //!
 //! It asks about what exists: items below the counts, and messages below the
 //! list's length. Slots past them are free. The scans do not stop early, so
@@ -11,20 +12,31 @@ use crate::message::{Batch, Kind, Message};
 use crate::requests::Request;
 use crate::rules::Papers;
 use crate::setup::Setup;
+use crate::state::State;
 use crate::tables::{ClientVolumes, Server, Tables};
+use crate::world::World;
 
 /// The set of each volume's objects.
 pub type ObjectsOf = [u32; VOLUMES];
 
-pub fn sound(setup: &Setup, tables: &Tables, copies: &[ObjectCopy], requests: &[Request]) -> bool {
-    Papers.sound(setup, tables, copies, requests)
+/// Asks question 1 of the present tables and of every saved state.
+pub fn sound(world: &World) -> bool {
+    Papers.sound(world)
 }
 
-/// The parts that A6 of 02 added to are methods, so that a mistake can replace
-/// them.
+/// The parts that A6 and A7 of 02 added to are methods, so that a mistake can
+/// replace them.
 pub trait SoundRules {
-    fn sound(&self, setup: &Setup, tables: &Tables, copies: &[ObjectCopy], requests: &[Request]) -> bool {
-        self.setup_sound(setup) && self.tables_sound(setup, tables, copies, requests)
+    fn sound(&self, world: &World) -> bool {
+        self.setup_sound(world.setup)
+            && self.tables_sound(world.setup, world.tables, world.copies, world.requests)
+            && world.saved.iter().flatten().all(|state| self.saved_sound(world.setup, state))
+    }
+
+    /// "A saved state must be sound too, else 1": its tables, messages and
+    /// records. A name never saved has none.
+    fn saved_sound(&self, setup: &Setup, state: &State) -> bool {
+        self.tables_sound(setup, &state.tables, state.copies(setup), state.requests(setup))
     }
 
     fn tables_sound(

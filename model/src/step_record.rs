@@ -1,4 +1,5 @@
-//! A step as a run file holds it (01, Steps; Frame, run file and listing).
+//! A step as a run file holds it (01, Steps; Frame, run file and listing; 02,
+//! A7).
 
 pub const CLOCK: u8 = 1;
 pub const READ: u8 = 2;
@@ -9,6 +10,8 @@ pub const LOSE: u8 = 6;
 pub const DOUBLE: u8 = 7;
 pub const RESTART_SERVER: u8 = 8;
 pub const RESTART_CLIENT: u8 = 9;
+pub const SAVE: u8 = 10;
+pub const RETURN: u8 = 11;
 
 /// A step. The kind is any byte; an unknown one is refused when the step is
 /// taken.
@@ -59,6 +62,15 @@ impl Step {
         Step { kind: RESTART_CLIENT, client, ..Step::default() }
     }
 
+    /// Returns a save, "with the name in the place field" (02, A7).
+    pub fn save(name: u8) -> Step {
+        Step { kind: SAVE, place: name, ..Step::default() }
+    }
+
+    pub fn return_to(name: u8) -> Step {
+        Step { kind: RETURN, place: name, ..Step::default() }
+    }
+
     /// Returns the step with every field that its kind does not use set to 0;
     /// an unknown kind keeps all its fields.
     pub fn used_fields(&self) -> Step {
@@ -72,6 +84,8 @@ impl Step {
             DOUBLE => Step::double(self.place),
             RESTART_SERVER => Step::restart_server(),
             RESTART_CLIENT => Step::restart_client(self.client),
+            SAVE => Step::save(self.place),
+            RETURN => Step::return_to(self.place),
             _ => *self,
         }
     }

@@ -3,14 +3,23 @@
 use crate::copies::ObjectCopy;
 use crate::requests::Request;
 use crate::setup::Setup;
+use crate::state::{Saved, State};
 use crate::tables::{Tables, Write};
 
-/// Sound tables and lent records, borrowed for one step.
+/// Sound tables, lent records and saved states, borrowed for one step.
 pub struct World<'a> {
     pub setup: &'a Setup,
     pub tables: &'a mut Tables,
     pub copies: &'a mut [ObjectCopy],
     pub requests: &'a mut [Request],
+    pub saved: &'a mut Saved,
+}
+
+impl<'a> World<'a> {
+    pub fn new(setup: &'a Setup, state: &'a mut State, saved: &'a mut Saved) -> World<'a> {
+        let (tables, copies, requests) = state.parts(setup);
+        World { setup, tables, copies, requests, saved }
+    }
 }
 
 impl World<'_> {

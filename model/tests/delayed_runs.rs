@@ -7,7 +7,7 @@ use model::answer::Answer;
 use model::gen::runs::run;
 use model::message::{Kind, Message};
 use model::rules::{Papers, Rules};
-use model::state::State;
+use model::state::Machine;
 use model::step_record::{Step, CLOCK, RESTART_SERVER, WRITE};
 use model::tables::{alive, Tables};
 use model::world::World;
@@ -22,9 +22,8 @@ const FLOOR: usize = 20;
 fn each_step(mut each: impl FnMut(&Step, Answer, &Tables, &World)) {
     for number in 0..RUNS {
         let run = run(1, number);
-        let mut state = State::fresh();
-        let (tables, copies, requests) = state.parts(&run.setup);
-        let mut world = World { setup: &run.setup, tables, copies, requests };
+        let mut machine = Machine::fresh();
+        let mut world = machine.world(&run.setup);
         for record in &run.steps {
             let before = *world.tables;
             let answer = Papers.step(&mut world, record);

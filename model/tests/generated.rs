@@ -7,7 +7,7 @@ use model::gen::damage;
 use model::gen::runs::run;
 use model::listing::{listing, listing_trusting};
 use model::runfile::read;
-use model::state::State;
+use model::state::Machine;
 use model::step_call::step;
 use model::step_record::*;
 
@@ -38,13 +38,13 @@ fn every_generated_file_is_accepted_and_stays_sound() {
 fn reads_show_the_posted_value_and_writes_end_in_time() {
     for number in 0..RUNS {
         let run = run(SEED, number);
-        let mut state = State::fresh();
+        let mut machine = Machine::fresh();
+        let mut world = machine.world(&run.setup);
         let (mut accepted, mut completed, mut cut_off) = (0, 0, 0);
         for record in &run.steps {
-            let open = state.tables.server.standing.count_ones();
-            let (tables, copies, requests) = state.parts(&run.setup);
-            let answer = step(&run.setup, tables, copies, requests, record);
-            let server = &tables.server;
+            let open = world.tables.server.standing.count_ones();
+            let answer = step(&mut world, record);
+            let server = &world.tables.server;
             match (record.kind, answer) {
                 (_, Answer::Refused(_)) => continue,
                 (READ, Answer::Shown(value)) => {
@@ -69,10 +69,10 @@ fn runs_reach_every_answer_refusal_and_kind() {
     let mut notes = BTreeSet::new();
     for number in 0..RUNS {
         let run = run(SEED, number);
-        let mut state = State::fresh();
+        let mut machine = Machine::fresh();
+        let mut world = machine.world(&run.setup);
         for record in &run.steps {
-            let (tables, copies, requests) = state.parts(&run.setup);
-            let answer = step(&run.setup, tables, copies, requests, record);
+            let answer = step(&mut world, record);
             lines.insert(match answer.numbers() {
                 (4, number) => (4, number),
                 (answer, _) => (answer, 0),
@@ -80,12 +80,12 @@ fn runs_reach_every_answer_refusal_and_kind() {
             if let Answer::Delivered { message, .. } = answer {
                 kinds.insert(message.kind.code());
             }
-            fullest = fullest.max(tables.queue.len);
+            fullest = fullest.max(world.tables.queue.len);
         }
         longest = longest.max(run.steps.len());
         notes.insert(run.note.len().min(3));
     }
-    assert!(lines.into_iter().eq([(0, 0), (1, 0), (2, 0), (3, 0), (4, 2), (4, 3), (4, 4), (4, 5)]));
+    assert!(lines.into_iter().eq([(0, 0), (1, 0), (2, 0), (3, 0), (4, 2), (4, 3), (4, 4), (4, 5), (4, 11)]));
     assert!(kinds.into_iter().eq(1..=8));
     assert_eq!((longest, fullest), (4_000, 64));
     assert!(notes.contains(&0) && notes.contains(&1));

@@ -3,16 +3,15 @@
 use model::gen::runs::run;
 use model::mistakes::former::old_leases_end;
 use model::rules::{LatestEnd, Papers, Rules, WriteRules};
-use model::state::State;
+use model::state::Machine;
 use model::world::World;
 
 /// Calls `each` for every object in every state of runs of several seeds,
 /// including the fresh one.
 fn each_object(mut each: impl FnMut(&World, usize)) {
     for run in [1, 5, 11, 21].into_iter().flat_map(|seed| (0..200).map(move |number| run(seed, number))) {
-        let mut state = State::fresh();
-        let (tables, copies, requests) = state.parts(&run.setup);
-        let mut world = World { setup: &run.setup, tables, copies, requests };
+        let mut machine = Machine::fresh();
+        let mut world = machine.world(&run.setup);
         let objects = 0..usize::from(run.setup.objects);
         objects.clone().for_each(|object| each(&world, object));
         for record in &run.steps {

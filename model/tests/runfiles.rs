@@ -84,12 +84,12 @@ fn unused_fields_of_a_known_kind_must_be_0() {
     for kind in 0..=255 {
         let with = |step: Step| accepted(&write(&[], &common::setup(), &[Step { kind, ..step }]));
         let zero = Step::default();
-        let unknown = !(1..=9).contains(&kind);
+        let unknown = !(1..=11).contains(&kind);
         assert!(with(zero), "kind {kind}");
         assert_eq!(with(full), unknown, "kind {kind}");
         assert_eq!(with(Step { client: 9, ..zero }), unknown || [2, 3, 9].contains(&kind));
         assert_eq!(with(Step { object: 99, ..zero }), unknown || [2, 3, 4].contains(&kind));
-        assert_eq!(with(Step { place: 64, ..zero }), unknown || [5, 6, 7].contains(&kind));
+        assert_eq!(with(Step { place: 64, ..zero }), unknown || [5, 6, 7, 10, 11].contains(&kind));
         assert_eq!(with(Step { clock: 1 << 31, ..zero }), unknown || kind == 1);
         assert_eq!(with(Step { value: 1 << 63, ..zero }), unknown || kind == 4);
     }

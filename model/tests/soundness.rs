@@ -8,6 +8,7 @@ use model::message::{Batch, Grant, Kind, Message};
 use model::requests::Standing;
 use model::step_call::step;
 use model::step_record::Step;
+use model::world::World;
 
 const PAST: u32 = 2_148_483_648;
 const MOST: u32 = 2_148_483_647;
@@ -197,9 +198,11 @@ fn lent_records_of_another_length() {
     let mut largest = setup;
     (largest.clients, largest.objects) = (4, 5);
     let (tables, copies, requests) = bench.state.parts(&largest);
+    let saved = &mut bench.saved;
     for (copies_len, requests_len) in [(11, 3), (13, 3), (0, 3), (12, 2), (12, 4), (12, 0)] {
         let (copies, requests) = (&mut copies[..copies_len], &mut requests[..requests_len]);
-        let answer = step(&setup, tables, copies, requests, &Step::restart_server());
+        let mut world = World { setup: &setup, tables, copies, requests, saved };
+        let answer = step(&mut world, &Step::restart_server());
         assert_eq!(answer, Answer::Refused(1), "{copies_len} copies, {requests_len} requests");
     }
     assert_eq!(bench.state, before);
@@ -210,7 +213,7 @@ fn an_unsound_state_stays_as_it_was_at_every_kind() {
     let mut bench = in_use();
     bench.state.tables.server.guard[1] = PAST;
     let before = bench.state;
-    for kind in 0..=10 {
+    for kind in 0..=12 {
         let record = Step { kind, ..Step::default() };
         assert_eq!(bench.step(record), Answer::Refused(1), "kind {kind}");
         assert_eq!(bench.state, before, "kind {kind}");

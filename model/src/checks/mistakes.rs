@@ -32,7 +32,7 @@ impl Mistakes {
         Self::EACH.iter().find(|(each, _)| *each == name).expect("a mistake's name").1
     }
 
-    /// Asks questions 2 to 6, then takes the step.
+    /// Asks the questions after the first, then takes the step.
     pub fn step(self, world: &mut World, step: &Step) -> Answer {
         (self.step)(world, step)
     }

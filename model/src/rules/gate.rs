@@ -1,15 +1,22 @@
-//! Questions 2 to 6 (01, Questions at the gate). Question 1 is `sound`.
+//! The questions after the first, which is `sound` (01, Questions at the gate;
+//! 02, A7).
 
-use crate::limits::{BAD_TIME, CLOCK_MAX, NO_NUMBER_LEFT, NO_SUCH_ITEM, UNKNOWN_KIND, WRITE_STANDS};
+use crate::limits::{
+    BAD_TIME, CLOCK_MAX, NAMES, NO_NUMBER_LEFT, NO_SUCH_ITEM, NO_SUCH_NAME, UNKNOWN_KIND, WRITE_STANDS,
+};
 use crate::step_record::*;
 use crate::world::World;
 
 pub trait Gate {
-    /// "Asked in order; the first "no" gives its number." For sound tables.
+    /// "Asked in order; the first "no" gives its number." For sound tables. 11
+    /// comes "after the kind question".
     #[inline(always)]
     fn refusal(&self, world: &World, step: &Step) -> Option<u8> {
-        if !is_known(step.kind) {
+        if !self.knows(step.kind) {
             return Some(UNKNOWN_KIND);
+        }
+        if !self.name_fits(world, step) {
+            return Some(NO_SUCH_NAME);
         }
         if !self.items_exist(world, step) {
             return Some(NO_SUCH_ITEM);
@@ -22,7 +29,23 @@ pub trait Gate {
         }
     }
 
-    /// "Do the dash, object and place it uses exist?"
+    #[inline]
+    fn knows(&self, kind: u8) -> bool {
+        is_known(kind)
+    }
+
+    /// "11 when the name is above 3 or, for a return, was never saved."
+    #[inline]
+    fn name_fits(&self, world: &World, step: &Step) -> bool {
+        let name = usize::from(step.place);
+        match step.kind {
+            SAVE => name < NAMES,
+            RETURN => world.saved.get(name).is_some_and(|state| state.is_some()),
+            _ => true,
+        }
+    }
+
+    /// "Do the dash, object and place it uses exist?" A name is no place.
     #[inline]
     fn items_exist(&self, world: &World, step: &Step) -> bool {
         let client = step.client < world.setup.clients;
@@ -64,8 +87,8 @@ pub trait Gate {
     }
 }
 
-/// "Is the kind 1 to 9?"
+/// "Is the kind 1 to 9?" And "two new step kinds, 10 save and 11 return".
 #[inline]
 pub fn is_known(kind: u8) -> bool {
-    (CLOCK..=RESTART_CLIENT).contains(&kind)
+    (CLOCK..=RETURN).contains(&kind)
 }

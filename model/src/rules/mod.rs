@@ -1,7 +1,7 @@
-//! The rules of document 01, with A3, A4 and A6 of document 02: a trait for each
-//! part of the papers, a method for each rule, in the papers' words. A mistake
-//! overrides a method (`mistakes`). The rules are a type, so calling one costs
-//! no more than calling a plain function.
+//! The rules of document 01, with A3, A4, A6 and A7 of document 02: a trait for
+//! each part of the papers, a method for each rule, in the papers' words. A
+//! mistake overrides a method (`mistakes`). The rules are a type, so calling one
+//! costs no more than calling a plain function.
 
 mod client;
 mod gate;
@@ -9,6 +9,7 @@ mod grant;
 mod latest_end;
 mod network;
 mod notes;
+mod saved;
 mod server;
 mod writes;
 
@@ -18,6 +19,7 @@ pub use grant::GrantRules;
 pub use latest_end::LatestEnd;
 pub use network::NetworkRules;
 pub use notes::NoteRules;
+pub use saved::SavedRules;
 pub use server::{waited_in, Renew, ServerRules};
 pub use writes::{alive_set, WriteRules};
 
@@ -27,8 +29,8 @@ use crate::step_record::*;
 use crate::world::World;
 
 /// All the rules, and which of them a step or a message calls for.
-pub trait Rules: Gate + ClientRules + GrantRules + ServerRules {
-    /// Asks questions 2 to 6, then takes the step.
+pub trait Rules: Gate + ClientRules + GrantRules + ServerRules + SavedRules {
+    /// Asks the questions after the first, then takes the step.
     fn step(&self, world: &mut World, step: &Step) -> Answer {
         match self.refusal(world, step) {
             Some(number) => Answer::Refused(number),
@@ -36,7 +38,7 @@ pub trait Rules: Gate + ClientRules + GrantRules + ServerRules {
         }
     }
 
-    /// Takes a step that no question refuses (01, Steps).
+    /// Takes a step that no question refuses (01, Steps; 02, A7).
     #[inline(always)]
     fn take(&self, world: &mut World, step: &Step) -> Answer {
         let client = usize::from(step.client);
@@ -51,7 +53,9 @@ pub trait Rules: Gate + ClientRules + GrantRules + ServerRules {
             LOSE => drop(self.remove(&mut world.tables.queue, place)),
             DOUBLE => self.double(&mut world.tables.queue, place),
             RESTART_SERVER => self.restart_server(world),
-            _ => self.restart_client(world, client),
+            RESTART_CLIENT => self.restart_client(world, client),
+            SAVE => self.save(world, place),
+            _ => self.return_to(world, place),
         }
         Answer::Done
     }
@@ -103,4 +107,5 @@ impl LatestEnd for Papers {}
 impl NoteRules for Papers {}
 impl WriteRules for Papers {}
 impl ServerRules for Papers {}
+impl SavedRules for Papers {}
 impl Rules for Papers {}

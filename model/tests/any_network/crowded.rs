@@ -8,8 +8,8 @@ use model::message::Message;
 use model::mistakes::Mistakes;
 use model::rules::{Papers, Rules};
 use model::setup::Setup;
+use model::state::Machine;
 use model::step_record::Step;
-use model::world::World;
 
 use crate::network::Move;
 use crate::under_way::most_under_way;
@@ -109,9 +109,8 @@ fn five_writes_wait_for_eighty_acks() {
 fn the_list_of_64_loses_some_of_them() {
     let mut run = fresh();
     all_hold_all(&mut run);
-    let mut state = run.network.state;
-    let (tables, copies, requests) = state.parts(&run.network.setup);
-    let mut world = World { setup: &run.network.setup, tables, copies, requests };
+    let mut machine = Machine { state: run.network.state, ..Machine::fresh() };
+    let mut world = machine.world(&run.network.setup);
     for object in 0..OBJECTS {
         Papers.step(&mut world, &Step::write(object, 7));
     }

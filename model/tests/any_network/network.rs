@@ -6,7 +6,7 @@ use model::message::Message;
 use model::mistakes::Mistakes;
 use model::setup::Setup;
 use model::sound::sound;
-use model::state::State;
+use model::state::{Saved, State};
 use model::step_record::Step;
 use model::world::World;
 
@@ -38,8 +38,7 @@ impl Network {
 
     /// Takes a step by the rules, without question 1.
     pub fn step(&mut self, step: &Step) -> Answer {
-        let (tables, copies, requests) = self.state.parts(&self.setup);
-        self.rules.step(&mut World { setup: &self.setup, tables, copies, requests }, step)
+        self.rules.step(&mut World::new(&self.setup, &mut self.state, &mut Saved::default()), step)
     }
 
     /// Takes a step of the model, with all six questions, on a list that holds
@@ -62,9 +61,8 @@ impl Network {
         answer
     }
 
-    fn is_sound(&self) -> bool {
-        let Network { setup, state, .. } = self;
-        sound(setup, &state.tables, state.copies(setup), state.requests(setup))
+    fn is_sound(&mut self) -> bool {
+        sound(&World::new(&self.setup, &mut self.state, &mut Saved::default()))
     }
 
     /// Keeps what the step sent: at most one message to each client, so the

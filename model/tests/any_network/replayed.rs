@@ -7,9 +7,10 @@ use model::gen::runs::run;
 use model::limits::QUEUE;
 use model::mistakes::Mistakes;
 use model::setup::Setup;
-use model::state::State;
+use model::state::{Saved, State};
 use model::step_call::step;
 use model::step_record::{Step, DELIVER, DOUBLE, LOSE};
+use model::world::World;
 
 use crate::network::Move;
 use crate::watched::Watched;
@@ -30,8 +31,7 @@ impl Both {
     }
 
     fn step(&mut self, record: &Step) -> (Answer, Answer) {
-        let (tables, copies, requests) = self.listed.parts(&self.setup);
-        let listed = step(&self.setup, tables, copies, requests, record);
+        let listed = step(&mut World::new(&self.setup, &mut self.listed, &mut Saved::default()), record);
         (listed, self.replay(record))
     }
 

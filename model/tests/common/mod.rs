@@ -4,9 +4,10 @@
 use model::answer::Answer;
 use model::message::Message;
 use model::setup::Setup;
-use model::state::State;
+use model::state::{Saved, State};
 use model::step_call::step;
 use model::step_record::Step;
+use model::world::World;
 
 /// Returns a setup of three clients, two volumes and four objects: 0, 1, 3 in
 /// volume 0, and 2 in volume 1.
@@ -20,20 +21,29 @@ pub fn setup() -> Setup {
 pub struct Bench {
     pub setup: Setup,
     pub state: State,
+    pub saved: Saved,
 }
 
 impl Bench {
     pub fn fresh() -> Bench {
-        Bench { setup: setup(), state: State::fresh() }
+        Bench::of(setup())
     }
 
     pub fn with(volume_lease: u32, object_lease: u32, timeout: u32) -> Bench {
-        Bench { setup: Setup { volume_lease, object_lease, timeout, ..setup() }, state: State::fresh() }
+        Bench::of(Setup { volume_lease, object_lease, timeout, ..setup() })
+    }
+
+    /// Returns fresh tables with this setup.
+    pub fn of(setup: Setup) -> Bench {
+        Bench { setup, state: State::fresh(), saved: Saved::default() }
+    }
+
+    pub fn world(&mut self) -> World<'_> {
+        World::new(&self.setup, &mut self.state, &mut self.saved)
     }
 
     pub fn step(&mut self, record: Step) -> Answer {
-        let (tables, copies, requests) = self.state.parts(&self.setup);
-        step(&self.setup, tables, copies, requests, &record)
+        step(&mut self.world(), &record)
     }
 
     /// Takes a step and returns the listing's two numbers.

@@ -8,7 +8,7 @@ use model::message::{Grant, Kind, Message};
 use model::mistakes::{former::names_held_version, Mistakes};
 use model::requests::Request;
 use model::setup::Setup;
-use model::state::State;
+use model::state::{Machine, Saved, State};
 use model::step_record::Step;
 use model::world::World;
 
@@ -43,8 +43,8 @@ impl Met<'_> {
     /// Returns what its delivery leaves. The run itself stays where it is.
     pub fn delivered(&self, rules: Mistakes) -> State {
         let mut state = *self.state;
-        let (tables, copies, requests) = state.parts(self.setup);
-        let mut world = World { setup: self.setup, tables, copies, requests };
+        let mut saved = Saved::default();
+        let mut world = World::new(self.setup, &mut state, &mut saved);
         rules.step(&mut world, &Step::deliver(self.place as u8));
         state
     }
@@ -52,11 +52,10 @@ impl Met<'_> {
 
 /// Calls `each` for all of them, after every step of the run.
 pub fn along(rules: Mistakes, run: &Run, mut each: impl FnMut(&Met) -> ControlFlow<()>) -> ControlFlow<()> {
-    let mut state = State::fresh();
+    let mut machine = Machine::fresh();
     for step in &run.steps {
-        let (tables, copies, requests) = state.parts(&run.setup);
-        rules.step(&mut World { setup: &run.setup, tables, copies, requests }, step);
-        under_way(&run.setup, &state).try_for_each(|met| each(&met))?;
+        rules.step(&mut machine.world(&run.setup), step);
+        under_way(&run.setup, &machine.state).try_for_each(|met| each(&met))?;
     }
     ControlFlow::Continue(())
 }

@@ -5,9 +5,9 @@ use std::io::Write;
 
 use model::answer::Answer;
 use model::setup::Setup;
-use model::state::State;
+use model::state::Machine;
 use model::step_call::step_sound;
-use model::step_record::{Step, CLOCK, RESTART_CLIENT};
+use model::step_record::{Step, CLOCK, RETURN};
 
 use crate::bytes::{setup_place, step_count, step_in};
 
@@ -94,20 +94,20 @@ impl Reader {
         let mut running = Running::new(file, self.check);
         (0..step_count(file)).all(|_| {
             let record = running.record();
-            running.move_on(record.is_some_and(|step| !(CLOCK..=RESTART_CLIENT).contains(&step.kind)));
+            running.move_on(record.is_some_and(|step| !(CLOCK..=RETURN).contains(&step.kind)));
             record.is_some_and(|step| step == step.used_fields())
         })
     }
 
     fn run(self, setup: &Setup, file: &[u8], lines: &mut Vec<u8>) {
-        let mut state = State::fresh();
-        let (tables, copies, requests) = state.parts(setup);
+        let mut machine = Machine::fresh();
+        let mut world = machine.world(setup);
         let mut running = Running::new(file, self.run);
         for number in 1..=step_count(file) {
             let Some(record) = running.record() else {
                 return;
             };
-            let answer = step_sound(setup, tables, copies, requests, &record);
+            let answer = step_sound(&mut world, &record);
             running.move_on(matches!(answer, Answer::Refused(_)));
             let (answer, value) = answer.numbers();
             writeln!(lines, "{number} {answer} {value}").expect("a vector takes every byte");

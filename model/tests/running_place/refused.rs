@@ -4,7 +4,6 @@ use model::gen::runs::Run;
 use model::gen::setups::sized;
 use model::listing::{listing, listing_trusting};
 use model::runfile::read;
-use model::state::State;
 use model::step_record::Step;
 
 use crate::common::Bench;
@@ -91,7 +90,7 @@ fn every_refused_step_is_passed_over() {
 fn the_place_moves_on_after_each_step_refused_or_not() {
     let file = scene().file();
     let run = read(&file).expect("an accepted file");
-    let mut bench = Bench { setup: run.setup, state: State::fresh() };
+    let mut bench = Bench::of(run.setup);
     let (mut steps, mut taken) = (run.steps(), 0);
     while let Some(step) = steps.next() {
         taken += 1;

@@ -5,7 +5,7 @@ use model::bits::members;
 use model::limits::{CLOCK_MAX, OBJECTS};
 use model::mistakes::Mistakes;
 use model::setup::Setup;
-use model::state::State;
+use model::state::{Saved, State};
 use model::step_record::*;
 use model::until_shown::{until_shown, Ending};
 use model::world::World;
@@ -40,13 +40,9 @@ impl Followed {
         Followed { rules, setup, state: State::fresh(), posted: none, restarted: 0, open: 0, written: none }
     }
 
-    fn world(&mut self) -> World<'_> {
-        let (tables, copies, requests) = self.state.parts(&self.setup);
-        World { setup: &self.setup, tables, copies, requests }
-    }
-
     pub fn step(&mut self, step: &Step) -> Answer {
-        let answer = self.rules.step(&mut self.world(), step);
+        let mut saved = Saved::default();
+        let answer = self.rules.step(&mut World::new(&self.setup, &mut self.state, &mut saved), step);
         if !matches!(answer, Answer::Refused(_)) {
             self.follow(step);
         }
@@ -97,8 +93,8 @@ impl Followed {
     /// Returns the steps that 02 claims and how it ended, if its premises hold.
     /// The run itself stays where it is.
     pub fn until_shown(&self, client: u8, object: u8) -> Option<(u32, Ending)> {
-        let mut from = *self;
-        let mut world = from.world();
+        let (mut state, mut saved) = (self.state, Saved::default());
+        let mut world = World::new(&self.setup, &mut state, &mut saved);
         let claimed = world.until_shown_claim(client, object);
         let premises = world.until_shown_premises(client, object);
         premises.then(|| (claimed, until_shown(self.rules, &mut world, client, object)))

@@ -5,14 +5,12 @@ use model::answer::Answer;
 use model::mistakes::Mistakes;
 use model::step_record::Step;
 use model::until_shown::{self, Ending};
-use model::world::World;
 
 use crate::common::Bench;
 
 /// Returns whether the premises hold, the steps claimed, and how it ended.
 fn until_shown(bench: &mut Bench, client: u8, object: u8) -> (bool, u32, Ending) {
-    let (tables, copies, requests) = bench.state.parts(&bench.setup);
-    let mut world = World { setup: &bench.setup, tables, copies, requests };
+    let mut world = bench.world();
     let premises = world.until_shown_premises(client, object);
     let claimed = world.until_shown_claim(client, object);
     (premises, claimed, until_shown::until_shown(Mistakes::NONE, &mut world, client, object))

@@ -7,7 +7,6 @@ use std::collections::BTreeMap;
 use model::gen::setups::sized;
 use model::limits::STEPS;
 use model::setup::Setup;
-use model::state::State;
 use model::step_record::*;
 use model::workload::steps;
 
@@ -19,7 +18,7 @@ fn answers(setup: Setup, seeds: std::ops::Range<u32>) -> BTreeMap<(u8, u8, u64),
     let setup = Setup { volume_lease: 3_600, object_lease: 1_000_000, timeout: 60, ..setup };
     let mut answers = BTreeMap::new();
     for seed in seeds {
-        let mut bench = Bench { setup, state: State::fresh() };
+        let mut bench = Bench::of(setup);
         for step in steps(seed, &setup, STEPS).unwrap() {
             let (answer, value) = bench.line(step);
             *answers.entry((step.kind, answer, value)).or_default() += 1;

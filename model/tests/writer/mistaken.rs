@@ -141,7 +141,7 @@ impl Rule<Mistake> {
     }
 
     fn right_step(self, mut step: Step) -> bool {
-        if !(1..=9).contains(&step.kind) {
+        if !(1..=11).contains(&step.kind) {
             let zero = Step { kind: step.kind, ..Step::default() };
             return !self.has(UnknownKindRefused) && (!self.has(UnknownKindAsked) || step == zero);
         }

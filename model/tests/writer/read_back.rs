@@ -73,8 +73,8 @@ fn no_other_file_of_the_note_has_those_parts() {
 
 /// Returns a small file with each of its bytes changed in every way.
 fn one_byte_changed() -> impl Iterator<Item = Vec<u8>> {
-    let unknown = Step { kind: 10, client: 1, object: 2, place: 3, clock: 4, value: 5 };
-    let steps = [Step::clock(7), Step::write(2, 9), unknown, Step::read(1, 3)];
+    let unknown = Step { kind: 12, client: 1, object: 2, place: 3, clock: 4, value: 5 };
+    let steps = [Step::clock(7), Step::write(2, 9), Step::save(2), unknown, Step::read(1, 3)];
     let file = write_checked(b"note", &common::setup(), &steps, 200).expect("room for the file");
     (0..file.len()).flat_map(move |place| {
         let file = file.clone();

@@ -51,11 +51,11 @@ fn an_output_too_short() {
 fn an_unused_field_of_a_known_kind() {
     for kind in 0..=255 {
         let zero = Step { kind, ..Step::default() };
-        let known = (1..=9).contains(&kind);
+        let known = (1..=11).contains(&kind);
         for (field, users) in [
             (Step { client: 255, ..zero }, &[2, 3, 9][..]),
             (Step { object: 255, ..zero }, &[2, 3, 4]),
-            (Step { place: 255, ..zero }, &[5, 6, 7]),
+            (Step { place: 255, ..zero }, &[5, 6, 7, 10, 11]),
             (Step { clock: 1 << 31, ..zero }, &[1]),
             (Step { value: 1 << 63, ..zero }, &[4]),
         ] {

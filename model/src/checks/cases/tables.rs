@@ -8,6 +8,7 @@ use crate::limits::{CLIENTS, OBJECTS, QUEUE, UNSOUND};
 use crate::mistakes::Mistakes;
 use crate::requests::{Request, Standing, NO_REQUESTS};
 use crate::setup::Setup;
+use crate::state::Saved;
 use crate::step_record::Step;
 use crate::tables::Tables;
 use crate::world::World;
@@ -81,9 +82,10 @@ impl CaseTables {
         let requests = self.requests_lent.min(self.requests.len());
         let (setup, tables) = (&self.setup, &mut self.tables);
         let (copies, requests) = (&mut self.copies[..copies], &mut self.requests[..requests]);
-        if !rules.sound.sound(setup, tables, copies, requests) {
+        let mut world = World { setup, tables, copies, requests, saved: &mut Saved::default() };
+        if !rules.sound.sound(&world) {
             return Answer::Refused(UNSOUND);
         }
-        rules.step(&mut World { setup, tables, copies, requests }, record)
+        rules.step(&mut world, record)
     }
 }

@@ -7,7 +7,7 @@ use crate::limits::STEPS;
 use crate::message::{Kind, Message};
 use crate::rules::{Papers, Rules};
 use crate::setup::Setup;
-use crate::state::State;
+use crate::state::{Saved, State};
 use crate::step_record::Step;
 use crate::tables::{Server, Tables};
 use crate::world::World;
@@ -16,6 +16,7 @@ pub struct Builder {
     pub rng: Rng,
     pub setup: Setup,
     pub state: State,
+    pub saved: Saved,
     pub steps: Vec<Step>,
 }
 
@@ -31,7 +32,7 @@ pub const CLEARED: u8 = 8;
 
 impl Builder {
     pub fn new(rng: Rng, setup: Setup) -> Builder {
-        Builder { rng, setup, state: State::fresh(), steps: Vec::new() }
+        Builder { rng, setup, state: State::fresh(), saved: Saved::default(), steps: Vec::new() }
     }
 
     /// Adds a step, unless the run is full.
@@ -40,8 +41,7 @@ impl Builder {
             return Answer::Done;
         }
         self.steps.push(step);
-        let (tables, copies, requests) = self.state.parts(&self.setup);
-        Papers.step(&mut World { setup: &self.setup, tables, copies, requests }, &step)
+        Papers.step(&mut World::new(&self.setup, &mut self.state, &mut self.saved), &step)
     }
 
     pub fn full(&self) -> bool {

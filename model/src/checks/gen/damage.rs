@@ -81,7 +81,7 @@ fn sizes(base: &Run, files: &mut Vec<Vec<u8>>) {
 
 /// Makes each field of each kind, used or not, the only one that is not 0.
 fn unused_fields(base: &Run, files: &mut Vec<Vec<u8>>) {
-    for kind in 0..=10 {
+    for kind in 0..=12 {
         let zero = Step { kind, ..Step::default() };
         for step in [
             Step { client: 1, ..zero },

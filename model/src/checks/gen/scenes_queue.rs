@@ -119,7 +119,7 @@ fn bad_times(b: &mut Builder) {
 fn unknown_kinds(b: &mut Builder) {
     for _ in 0..4 {
         let bits = b.rng.draw();
-        let kind = b.rng.pick(&[0, 10, 11, 12, 255, bits as u8 | 16]);
+        let kind = b.rng.pick(&[0, 12, 13, 14, 255, bits as u8 | 16]);
         let value = b.rng.draw();
         b.push(Step {
             kind,

@@ -78,7 +78,7 @@ fn sizes(rng: &mut Rng, calls: &mut Vec<WriterCall>) {
 /// 0, by its lowest bit and its highest; in the first, middle and last step.
 fn unused_fields(rng: &mut Rng, calls: &mut Vec<WriterCall>) {
     let setup = lent_setups::good(rng);
-    for step in (1..=9).flat_map(single_fields) {
+    for step in (1..=11).flat_map(single_fields) {
         for place in [0, 3, 6] {
             let mut steps = some_steps(rng, 7);
             steps[place] = step;
@@ -108,9 +108,9 @@ fn single_fields(kind: u8) -> [Step; 10] {
 fn unknown_kinds(rng: &mut Rng, calls: &mut Vec<WriterCall>) {
     let setup = lent_setups::good(rng);
     let steps: Vec<Step> =
-        (0..=255).filter(|kind| !(1..=9).contains(kind)).map(|kind| full(rng, kind)).collect();
+        (0..=255).filter(|kind| !(1..=11).contains(kind)).map(|kind| full(rng, kind)).collect();
     calls.push(WriterCall::new(b"unknown", &setup, &records(&steps)));
-    for kind in [0, 10, 11, 12, 17, 128, 255] {
+    for kind in [0, 12, 13, 17, 128, 255] {
         let alone = single_fields(kind).map(|step| WriterCall::new(&[], &setup, &record(&step)));
         calls.extend(alone);
     }

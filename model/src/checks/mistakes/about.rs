@@ -24,6 +24,8 @@ macro_rules! implement {
     (NoteRules NoteRules $name:ident $rule:tt) => { impl crate::rules::NoteRules for $name $rule };
     (WriteRules WriteRules $name:ident $rule:tt) => { impl crate::rules::WriteRules for $name $rule };
     (ServerRules ServerRules $name:ident $rule:tt) => { impl crate::rules::ServerRules for $name $rule };
+    (SavedRules SavedRules $name:ident $rule:tt) => { impl crate::rules::SavedRules for $name $rule };
+    (Rules Rules $name:ident $rule:tt) => { impl crate::rules::Rules for $name $rule };
     ($each:ident $about:ident $name:ident $rule:tt) => { impl crate::rules::$each for $name {} };
     ($about:ident $name:ident $rule:tt) => {
         implement!(Gate $about $name $rule);
@@ -34,6 +36,7 @@ macro_rules! implement {
         implement!(NoteRules $about $name $rule);
         implement!(WriteRules $about $name $rule);
         implement!(ServerRules $about $name $rule);
-        impl crate::rules::Rules for $name {}
+        implement!(SavedRules $about $name $rule);
+        implement!(Rules $about $name $rule);
     };
 }
