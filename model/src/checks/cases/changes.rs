@@ -1,7 +1,10 @@
 //! Applies one change, by the number of its field. Places are numbered as in
 //! the product's tables: client * 8 + volume, client * 32 + object.
 
+use std::rc::Rc;
+
 use crate::cases::rows::VALUE;
+use crate::cases::state::CaseState;
 use crate::cases::tables::CaseTables;
 use crate::requests::{Request, Standing};
 use crate::setup::Setup;
@@ -14,6 +17,31 @@ impl CaseTables {
                 change_setup(&mut self.setup, field, place, value);
                 self.lend_all();
             }
+            63 => self.copies_lent = value as usize,
+            74 => self.requests_lent = value as usize,
+            100.. => self.change_saved(field / 100 - 1, field % 100, place, value),
+            _ => self.present.change(field, place, value),
+        }
+    }
+
+    /// Changes a saved state: whether it is there, all of it at once, or a
+    /// field.
+    fn change_saved(&mut self, name: u64, field: u64, place: usize, value: u64) {
+        let name = name as usize;
+        match field {
+            80 => self.saved.there[name] = value != 0,
+            81 => {
+                self.saved.there[name] = true;
+                self.saved.states[name] = Rc::new(self.present.clone());
+            }
+            _ => Rc::make_mut(&mut self.saved.states[name]).change(field, place, value),
+        }
+    }
+}
+
+impl CaseState {
+    fn change(&mut self, field: u64, place: usize, value: u64) {
+        match field {
             10 => self.tables.clock = word(value),
             11..=19 => change_volumes(&mut self.tables.server, field, place, value),
             20..=27 => change_objects(&mut self.tables.server, field, place, value),
@@ -25,9 +53,7 @@ impl CaseTables {
             60 => self.copies[place].version = word(value),
             61 => self.copies[place].value = value,
             62 => self.copies[place].expiry = word(value),
-            63 => self.copies_lent = value as usize,
             70..=73 => change_request(&mut self.requests[place], &mut self.asked[place], field, value),
-            74 => self.requests_lent = value as usize,
             _ => panic!("field {field}"),
         }
     }

@@ -5,20 +5,25 @@
 
 use crate::cases::tables::CaseTables;
 use crate::requests::Standing;
-use crate::step_record::{Step, RESTART_CLIENT};
+use crate::step_record::{Step, RESTART_CLIENT, RETURN};
 
 /// Settles free slots after an accepted step.
 pub fn settle(before: &CaseTables, after: &mut CaseTables, step: &Step) {
-    for client in 0..after.requests.len() {
-        let restarted = step.kind == RESTART_CLIENT && usize::from(step.client) == client;
-        settle_request(before, after, client, restarted);
+    for client in 0..after.present.requests.len() {
+        let free = free(before, step, client);
+        after.present.asked[client] = after.present.requests[client].standing.unwrap_or(free);
     }
 }
 
-/// Sets number and object where no request stands: those of a request that was
-/// ended are 0.
-fn settle_request(before: &CaseTables, after: &mut CaseTables, client: usize, restarted: bool) {
-    let ended = before.requests[client].standing.is_some() || restarted;
-    let free = if ended { Standing { number: 0, object: 0 } } else { before.asked[client] };
-    after.asked[client] = after.requests[client].standing.unwrap_or(free);
+/// Returns number and object where no request stands: those of a request that
+/// was ended are 0, and a return restores them as they were saved.
+fn free(before: &CaseTables, step: &Step, client: usize) -> Standing {
+    let restarted = step.kind == RESTART_CLIENT && usize::from(step.client) == client;
+    match before.saved.states.get(usize::from(step.place)) {
+        Some(state) if step.kind == RETURN && client < before.requests_lent => state.asked[client],
+        _ if before.present.requests[client].standing.is_some() || restarted => {
+            Standing { number: 0, object: 0 }
+        }
+        _ => before.present.asked[client],
+    }
 }

@@ -1,26 +1,43 @@
 //! What a step left: a line for each element of the tables, each message and
-//! each record that differs from before.
+//! each record that differs from before, and the same of each saved state.
 
 use std::fmt::Display;
+use std::rc::Rc;
 
 use crate::cases::rows::Row;
+use crate::cases::state::CaseState;
 use crate::cases::tables::CaseTables;
-use crate::limits::{CLIENTS, OBJECTS, QUEUE, VOLUMES};
+use crate::limits::{CLIENTS, NAMES, OBJECTS, QUEUE, VOLUMES};
 use crate::tables::{ClientVolumes, Server};
 
 /// The same thing before and after a step.
 type Both<'a, T> = [&'a T; 2];
 
 pub fn left(before: &CaseTables, after: &CaseTables) -> Vec<String> {
+    let mut lines = left_of([&before.present, &after.present]);
+    for name in 0..NAMES {
+        let both = [before, after].map(|case| &case.saved);
+        let mut saved = Vec::new();
+        one(&mut saved, both, "there", |saved| u8::from(saved.there[name]));
+        let [before, after] = both.map(|saved| &saved.states[name]);
+        if !Rc::ptr_eq(before, after) {
+            saved.extend(left_of([before, after]));
+        }
+        lines.extend(saved.iter().map(|line| format!("saved {name} {line}")));
+    }
+    lines
+}
+
+fn left_of(both: Both<CaseState>) -> Vec<String> {
     let mut lines = Vec::new();
-    let tables = [&before.tables, &after.tables];
+    let tables = both.map(|state| &state.tables);
     one(&mut lines, tables, "clock", |tables| tables.clock);
     by_volume(&mut lines, tables.map(|tables| &tables.server));
     by_object(&mut lines, tables.map(|tables| &tables.server));
     known(&mut lines, tables.map(|tables| &tables.clients));
     one(&mut lines, tables, "messages", |tables| tables.queue.len);
-    each(&mut lines, [before, after], "message", QUEUE, shown);
-    records(&mut lines, [before, after]);
+    each(&mut lines, both, "message", QUEUE, shown);
+    records(&mut lines, both);
     lines
 }
 
@@ -62,18 +79,18 @@ fn known(lines: &mut Vec<String>, both: Both<ClientVolumes>) {
 
 /// Returns the row at a place; places past the list's length are blank,
 /// whatever they hold.
-fn shown(case: &CaseTables, place: usize) -> Row {
-    if place < case.tables.queue.len {
-        case.rows[place]
+fn shown(state: &CaseState, place: usize) -> Row {
+    if place < state.tables.queue.len {
+        state.rows[place]
     } else {
         Row::BLANK
     }
 }
 
-fn records(lines: &mut Vec<String>, both: Both<CaseTables>) {
-    each(lines, both, "copy", CLIENTS * OBJECTS, |case, place| case.copies[place]);
-    each(lines, both, "request", CLIENTS, |case, client| {
-        let (request, asked) = (&case.requests[client], &case.asked[client]);
+fn records(lines: &mut Vec<String>, both: Both<CaseState>) {
+    each(lines, both, "copy", CLIENTS * OBJECTS, |state, place| state.copies[place]);
+    each(lines, both, "request", CLIENTS, |state, client| {
+        let (request, asked) = (&state.requests[client], &state.asked[client]);
         let stands = if request.standing.is_some() { "standing" } else { "none standing" };
         format!("next {}, {stands}, number {}, object {}", request.next, asked.number, asked.object)
     });

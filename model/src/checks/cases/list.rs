@@ -2,7 +2,7 @@
 //! the list's length are in use. The others are free, whatever they hold.
 
 use crate::cases::rows::Row;
-use crate::cases::tables::CaseTables;
+use crate::cases::state::CaseState;
 use crate::limits::QUEUE;
 use crate::message::{Kind, Message};
 use crate::mistakes::Mistakes;
@@ -13,17 +13,17 @@ use crate::step_record::Step;
 const SOME_RENEW: Message =
     Message { client: 0, kind: Kind::Renew { object: 0, number: 0, epoch: 0, version: 0 } };
 
-impl CaseTables {
+impl CaseState {
     /// Reads the rows as messages. Returns the refusal if a row asked about is
     /// no message.
-    pub(super) fn list(&self, rules: Mistakes, step: &Step) -> Result<Queue, u8> {
+    pub(super) fn list(&self, rules: Mistakes, step: &Step, asked: bool) -> Result<Queue, u8> {
         let len = self.tables.queue.len;
         let mut places = [SOME_RENEW; QUEUE];
         for (place, row) in self.rows.iter().enumerate() {
             match rules.rows.message(row) {
                 Some(message) => places[place] = message,
-                None if rules.rows.asks_about(len, place, step) => {
-                    return Err(rules.rows.refusal_of_row(step))
+                None if asked && rules.rows.asks_about(len, place, step) => {
+                    return Err(rules.rows.unsound(step))
                 }
                 None => (),
             }

@@ -10,6 +10,8 @@ mod numbers;
 mod row_messages;
 mod row_rules;
 pub(crate) mod rows;
+mod saved;
+mod state;
 mod tables;
 
 pub use row_rules::RowRules;

@@ -1,5 +1,6 @@
-//! The rules for a message list that is handed over as rows (docs/DECISIONS.md,
-//! "What of a live row that is no message?").
+//! The rules for what is handed over: a message list as rows (docs/DECISIONS.md,
+//! "What of a live row that is no message?"), and saved states that may be there
+//! or not.
 
 use crate::cases::rows::Row;
 use crate::cases::tables::CaseTables;
@@ -20,9 +21,19 @@ pub trait RowRules {
         place < len
     }
 
-    /// Returns the refusal for a row that is no message. That is part of
-    /// question 1, so it comes before all others.
-    fn refusal_of_row(&self, _step: &Step) -> u8 {
+    /// Returns whether a saved state is asked about: one that is there.
+    fn asks_about_saved(&self, there: bool) -> bool {
+        there
+    }
+
+    /// Returns whether its rows are asked about, too.
+    fn asks_about_saved_rows(&self) -> bool {
+        true
+    }
+
+    /// Returns the refusal for tables, rows or saved states that are not sound.
+    /// That is question 1, so it comes before all others.
+    fn unsound(&self, _step: &Step) -> u8 {
         UNSOUND
     }
 

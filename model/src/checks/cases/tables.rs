@@ -2,34 +2,28 @@
 
 use crate::answer::Answer;
 use crate::cases::free::settle;
-use crate::cases::rows::Row;
-use crate::copies::{ObjectCopy, NO_COPIES};
-use crate::limits::{CLIENTS, OBJECTS, QUEUE, UNSOUND};
+use crate::cases::saved::CaseSaved;
+use crate::cases::state::CaseState;
+use crate::limits::OBJECTS;
 use crate::mistakes::Mistakes;
-use crate::requests::{Request, Standing, NO_REQUESTS};
+use crate::queue::Queue;
 use crate::setup::Setup;
 use crate::state::Saved;
 use crate::step_record::Step;
-use crate::tables::Tables;
 use crate::world::World;
 
 #[derive(Clone, Debug)]
 pub struct CaseTables {
     pub(super) setup: Setup,
-    /// Only the length of the message list counts; its messages are the rows.
-    pub(super) tables: Tables,
-    pub(crate) rows: [Row; QUEUE],
-    pub(super) copies: Vec<ObjectCopy>,
-    pub(super) requests: Vec<Request>,
-    /// Number and object of each request record, whether it stands or not.
-    pub(super) asked: [Standing; CLIENTS],
+    pub(crate) present: CaseState,
+    pub(super) saved: CaseSaved,
     /// How many copies and how many requests are lent.
     pub(super) copies_lent: usize,
     pub(super) requests_lent: usize,
 }
 
 impl CaseTables {
-    /// Returns fresh tables and records, and a setup of zeros.
+    /// Returns fresh tables and records, nothing saved, and a setup of zeros.
     pub fn fresh() -> CaseTables {
         let setup = Setup {
             clients: 0,
@@ -41,16 +35,8 @@ impl CaseTables {
             delay: 0,
             volume_of: [0; OBJECTS],
         };
-        CaseTables {
-            setup,
-            tables: Tables::fresh(),
-            rows: [Row::FRESH; QUEUE],
-            copies: NO_COPIES.to_vec(),
-            requests: NO_REQUESTS.to_vec(),
-            asked: [Standing { number: 0, object: 0 }; CLIENTS],
-            copies_lent: 0,
-            requests_lent: 0,
-        }
+        let (present, saved) = (CaseState::fresh(), CaseSaved::none());
+        CaseTables { setup, present, saved, copies_lent: 0, requests_lent: 0 }
     }
 
     /// Lends as many records as the setup has, so that a case about the setup
@@ -60,32 +46,44 @@ impl CaseTables {
         self.copies_lent = self.requests_lent * usize::from(self.setup.objects);
     }
 
-    /// Asks all six questions, then takes the step.
+    /// Asks all questions, then takes the step.
     pub fn take(&mut self, rules: Mistakes, record: &Step) -> Answer {
         let before = self.clone();
-        let answer = self.asked_and_taken(rules, record);
+        let answer = match self.lists(rules, record) {
+            Ok((queue, asked)) => self.asked_and_taken(rules, record, queue, asked),
+            Err(number) => Answer::Refused(number),
+        };
         if !matches!(answer, Answer::Refused(_)) {
             settle(&before, self, record);
-            self.keep_list();
+            self.present.keep_list();
         } else {
             rules.rows.refused(self);
         }
         answer
     }
 
-    fn asked_and_taken(&mut self, rules: Mistakes, record: &Step) -> Answer {
-        match self.list(rules, record) {
-            Ok(queue) => self.tables.queue = queue,
-            Err(number) => return Answer::Refused(number),
-        }
-        let copies = self.copies_lent.min(self.copies.len());
-        let requests = self.requests_lent.min(self.requests.len());
-        let (setup, tables) = (&self.setup, &mut self.tables);
-        let (copies, requests) = (&mut self.copies[..copies], &mut self.requests[..requests]);
-        let mut world = World { setup, tables, copies, requests, saved: &mut Saved::default() };
+    /// Reads all rows as messages: the present list, and the saved states with
+    /// theirs. Returns the refusal if a row asked about is no message.
+    fn lists(&self, rules: Mistakes, record: &Step) -> Result<(Queue, Saved), u8> {
+        let queue = self.present.list(rules, record, true)?;
+        Ok((queue, self.saved.asked(rules, record)?))
+    }
+
+    fn asked_and_taken(&mut self, rules: Mistakes, record: &Step, queue: Queue, mut asked: Saved) -> Answer {
+        let (setup, present) = (&self.setup, &mut self.present);
+        let copies = self.copies_lent.min(present.copies.len());
+        let requests = self.requests_lent.min(present.requests.len());
+        present.tables.queue = queue;
+        let (tables, copies) = (&mut present.tables, &mut present.copies[..copies]);
+        let requests = &mut present.requests[..requests];
+        let mut world = World { setup, tables, copies, requests, saved: &mut asked };
         if !rules.sound.sound(&world) {
-            return Answer::Refused(UNSOUND);
+            return Answer::Refused(rules.rows.unsound(record));
         }
-        rules.step(&mut world, record)
+        let before = self.saved.there(std::mem::take(world.saved));
+        *world.saved = before.clone();
+        let answer = rules.step(&mut world, record);
+        self.keep_saved(record, answer, &before, &asked);
+        answer
     }
 }

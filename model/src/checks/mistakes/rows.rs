@@ -147,15 +147,15 @@ mistakes_about! { RowRules:
 
     /// First asks whether the kind of the step is known.
     rows_after_kind {
-        fn refusal_of_row(&self, step: &Step) -> u8 {
-            if is_known(step.kind) { Papers.refusal_of_row(step) } else { UNKNOWN_KIND }
+        fn unsound(&self, step: &Step) -> u8 {
+            if is_known(step.kind) { Papers.unsound(step) } else { UNKNOWN_KIND }
         }
     }
 
     /// Answers 1 and blanks the row.
     row_blanked {
         fn refused(&self, case: &mut CaseTables) {
-            let wrong = case.rows.iter_mut().filter(|row| row.message().is_none());
+            let wrong = case.present.rows.iter_mut().filter(|row| row.message().is_none());
             wrong.for_each(|row| *row = Row::BLANK);
         }
     }
