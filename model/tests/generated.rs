@@ -1,7 +1,10 @@
 //! What holds in the generated runs, and what they reach.
 
+mod common;
+
 use std::collections::BTreeSet;
 
+use common::line::Line;
 use model::answer::Answer;
 use model::gen::damage;
 use model::gen::runs::run;
@@ -33,6 +36,26 @@ fn every_generated_file_is_accepted_and_stays_sound() {
     }
 }
 
+/// Writes along the line of steps that led to the present state.
+#[derive(Clone, Copy, Default)]
+struct Writes {
+    accepted: u32,
+    completed: u32,
+    cut_off: u32,
+}
+
+impl Writes {
+    /// Takes an accepted step, with the number of writes that stood before it.
+    fn count(&mut self, record: &Step, answer: Answer, open: u32) {
+        match record.kind {
+            WRITE => self.accepted += 1,
+            RESTART_SERVER => self.cut_off += open,
+            _ => (),
+        }
+        self.completed += if answer.numbers().0 == 3 { answer.numbers().1 as u32 } else { 0 };
+    }
+}
+
 /// 01, The ledger of a run, as far as the tables themselves show it.
 #[test]
 fn reads_show_the_posted_value_and_writes_end_in_time() {
@@ -40,7 +63,7 @@ fn reads_show_the_posted_value_and_writes_end_in_time() {
         let run = run(SEED, number);
         let mut machine = Machine::fresh();
         let mut world = machine.world(&run.setup);
-        let (mut accepted, mut completed, mut cut_off) = (0, 0, 0);
+        let mut line = Line::new(Writes::default());
         for record in &run.steps {
             let open = world.tables.server.standing.count_ones();
             let answer = step(&mut world, record);
@@ -53,11 +76,13 @@ fn reads_show_the_posted_value_and_writes_end_in_time() {
                 (CLOCK, _) => (0..28).for_each(|object| {
                     assert!(!server.stands(object) || server.write[object].latest_end >= record.clock);
                 }),
-                (WRITE, _) => accepted += 1,
-                (RESTART_SERVER, _) => cut_off += open,
                 _ => (),
             }
-            completed += if answer.numbers().0 == 3 { answer.numbers().1 as u32 } else { 0 };
+            line.step(record, |writes| {
+                writes.count(record, answer, open);
+                answer
+            });
+            let Writes { accepted, completed, cut_off } = line.at;
             assert_eq!(accepted, completed + cut_off + server.standing.count_ones(), "run {number}");
         }
     }

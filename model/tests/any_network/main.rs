@@ -1,6 +1,9 @@
 //! Demand 3 without the list of 64: a network on which every message ever sent
 //! may arrive at any time, any number of times, in any order, or never.
 
+#[path = "../common/mod.rs"]
+mod common;
+
 mod crowded;
 mod found;
 mod ledger;

@@ -7,15 +7,17 @@ use model::gen::runs::run;
 use model::limits::QUEUE;
 use model::mistakes::Mistakes;
 use model::setup::Setup;
-use model::state::{Saved, State};
+use model::state::{Machine, Saved, State};
 use model::step_call::step;
 use model::step_record::{Step, DELIVER, DOUBLE, LOSE};
 use model::world::World;
 
+use crate::common::line::Line;
 use crate::network::Move;
 use crate::watched::Watched;
 
 /// The same run in both worlds.
+#[derive(Clone)]
 struct Both {
     setup: Setup,
     listed: State,
@@ -30,9 +32,12 @@ impl Both {
         Both { setup, listed: State::fresh(), watched, places: Vec::new() }
     }
 
-    fn step(&mut self, record: &Step) -> (Answer, Answer) {
+    /// Takes a step in both worlds, with nothing saved: `Line` saves and
+    /// returns, the network with all that was sent until then.
+    fn step(&mut self, record: &Step) -> Answer {
         let listed = step(&mut World::new(&self.setup, &mut self.listed, &mut Saved::default()), record);
-        (listed, self.replay(record))
+        assert_eq!(listed, self.replay(record), "{record:?}");
+        listed
     }
 
     /// Replays a step. One that finds its message is an arrival, or no move at
@@ -76,15 +81,16 @@ fn runs_of_the_list_give_the_same_answers() {
     let (mut steps, mut moves, mut full) = (0, 0, 0);
     for number in 0..1_000 {
         let run = run(1, number);
-        let mut both = Both::fresh(run.setup);
+        let mut line = Line::new(Both::fresh(run.setup));
+        let mut machine = Machine::fresh();
         for record in &run.steps {
-            let (listed, replayed) = both.step(record);
-            assert_eq!(listed, replayed, "run {number}, {record:?}");
-            assert!(both.same(), "run {number}, {record:?}");
-            full += usize::from(both.places.len() == QUEUE);
+            let answer = line.step(record, |both| both.step(record));
+            assert_eq!(step(&mut machine.world(&run.setup), record), answer, "run {number}, {record:?}");
+            assert!(machine.state == line.at.listed && line.at.same(), "run {number}, {record:?}");
+            assert_eq!(line.at.watched.breach, None, "run {number}");
+            full += usize::from(line.at.places.len() == QUEUE);
         }
-        assert_eq!(both.watched.breach, None, "run {number}");
-        (steps, moves) = (steps + run.steps.len(), moves + both.watched.moves.len());
+        (steps, moves) = (steps + run.steps.len(), moves + line.at.watched.moves.len());
     }
     println!("{steps} steps, {moves} moves, {full} with a full list");
     assert!(steps > moves && full > 1_000, "{steps} {moves} {full}");

@@ -1,6 +1,8 @@
 //! A setup and a state in use, for tests that hand tables over.
 #![allow(dead_code)]
 
+pub mod line;
+
 use model::answer::Answer;
 use model::message::Message;
 use model::setup::Setup;

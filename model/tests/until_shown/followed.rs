@@ -40,6 +40,7 @@ impl Followed {
         Followed { rules, setup, state: State::fresh(), posted: none, restarted: 0, open: 0, written: none }
     }
 
+    /// Takes a step, with nothing saved: `Line` saves and returns.
     pub fn step(&mut self, step: &Step) -> Answer {
         let mut saved = Saved::default();
         let answer = self.rules.step(&mut World::new(&self.setup, &mut self.state, &mut saved), step);

@@ -10,6 +10,7 @@ use model::mistakes::Mistakes;
 use model::step_record::{ASK, READ};
 use model::until_shown::Ending;
 
+use crate::common::line::Line;
 use crate::followed::{Followed, Quieted};
 
 /// As in the other tests of generated runs.
@@ -73,20 +74,20 @@ pub fn along<B>(
 ) -> ControlFlow<B> {
     let run = run(SEED, number);
     let (clients, objects) = (run.setup.clients, run.setup.objects);
-    let mut at = Followed::fresh(rules, run.setup);
+    let mut line = Line::new(Followed::fresh(rules, run.setup));
     let (mut rng, mut asked) = (Rng::new(number as u64), (0, 0));
     for step in &run.steps {
-        match (step.kind, at.step(step)) {
+        match (step.kind, line.step(step, |at| at.step(step))) {
             (READ, _) | (_, Answer::Refused(_)) => continue,
             (ASK, _) => asked = (step.client, step.object),
             _ => (),
         }
         let other = (rng.below(clients.into()) as u8, rng.below(objects.into()) as u8);
-        attempt(&at, asked, &mut each)?;
-        attempt(&at, other, &mut each)?;
+        attempt(&line.at, asked, &mut each)?;
+        attempt(&line.at, other, &mut each)?;
     }
     let mut all = (0..clients).flat_map(|client| (0..objects).map(move |object| (client, object)));
-    all.try_for_each(|pair| attempt(&at, pair, &mut each))
+    all.try_for_each(|pair| attempt(&line.at, pair, &mut each))
 }
 
 /// Makes one trial. The premises do not hold if a write ends past the last

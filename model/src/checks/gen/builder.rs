@@ -3,7 +3,7 @@
 
 use crate::answer::Answer;
 use crate::gen::rng::Rng;
-use crate::limits::STEPS;
+use crate::limits::{NAMES, STEPS};
 use crate::message::{Kind, Message};
 use crate::rules::{Papers, Rules};
 use crate::setup::Setup;
@@ -136,6 +136,18 @@ impl Builder {
 
     pub fn advance(&mut self, ticks: u32) {
         self.clock(self.tables().clock.saturating_add(ticks));
+    }
+
+    pub fn any_name(&mut self) -> u8 {
+        self.rng.below(NAMES) as u8
+    }
+
+    pub fn save(&mut self, name: u8) {
+        self.push(Step::save(name));
+    }
+
+    pub fn return_to(&mut self, name: u8) {
+        self.push(Step::return_to(name));
     }
 
     pub fn latest_end(&self, object: u8) -> u32 {

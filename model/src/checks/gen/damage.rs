@@ -15,6 +15,7 @@ pub fn files(seed: u64) -> Vec<Vec<u8>> {
     cut_and_longer(&mut rng, &base, &mut files);
     sizes(&base, &mut files);
     unused_fields(&base, &mut files);
+    names(&base, &mut files);
     trailers(&mut rng, &base, &mut files);
     noise(&mut rng, &mut files);
     files
@@ -92,6 +93,20 @@ fn unused_fields(base: &Run, files: &mut Vec<Vec<u8>>) {
         ] {
             let steps = [&base.steps[..1], &[step]].concat();
             files.push(write(b"odd", &base.setup, &steps));
+        }
+    }
+}
+
+/// Makes saves and returns with every sort of name: none of them is a fault of
+/// the file. With another field that is not 0 they are.
+fn names(base: &Run, files: &mut Vec<Vec<u8>>) {
+    for name in [0, 3, 4, 5, 127, 128, 255] {
+        for step in [Step::save(name), Step::return_to(name)] {
+            let odd =
+                [Step { object: 128, ..step }, Step { clock: 1, ..step }, Step { value: 1 << 32, ..step }];
+            for last in [step].into_iter().chain(odd) {
+                files.push(write(b"named", &base.setup, &[Step::save(1), Step::clock(2), last]));
+            }
         }
     }
 }

@@ -29,7 +29,8 @@ fn any(b: &mut Builder) -> Step {
     let (client, object) = (b.any_client(), b.any_object());
     let place = place(b);
     match b.rng.below(100) {
-        0..=19 => Step::read(client, object),
+        0..=18 => Step::read(client, object),
+        19 => saved(b),
         20..=39 => Step::ask(client, object),
         40..=69 => Step::deliver(place),
         70..=74 => Step::lose(place),
@@ -41,6 +42,12 @@ fn any(b: &mut Builder) -> Step {
         98 => Step { kind: b.rng.draw() as u8, ..Step::default() },
         _ => Step::read(client.wrapping_add(b.rng.draw() as u8), object),
     }
+}
+
+/// Returns a save or a return, seldom with a name that does not exist.
+fn saved(b: &mut Builder) -> Step {
+    let name = if b.rng.percent(90) { b.any_name() } else { b.rng.draw() as u8 };
+    b.rng.pick(&[Step::save, Step::return_to])(name)
 }
 
 /// Returns mostly the front or the end of the list, sometimes a place past it.
