@@ -2,7 +2,8 @@
 
 mod common;
 
-use model::runfile::{parts, read, Fault};
+use model::gen::damage;
+use model::runfile::{parts, read, read_step, Fault};
 use model::setup::Field;
 use model::step_record::*;
 use model::unchecked_writer::write;
@@ -92,6 +93,56 @@ fn unused_fields_of_a_known_kind_must_be_0() {
         assert_eq!(with(Step { place: 64, ..zero }), unknown || [5, 6, 7, 10, 11].contains(&kind));
         assert_eq!(with(Step { clock: 1 << 31, ..zero }), unknown || kind == 1);
         assert_eq!(with(Step { value: 1 << 63, ..zero }), unknown || kind == 4);
+    }
+}
+
+/// What a reader might ask of a step's fields instead. The first three are about
+/// saves and returns (02, A7).
+const WRONG: [(&str, fn(&Step) -> bool); 5] = [
+    ("nothing of a save or a return", |step| is_named(step) || has_right_fields(step)),
+    ("that a name exists", |step| has_right_fields(step) && !(is_named(step) && step.place > 3)),
+    ("that a name is 0", |step| has_right_fields(step) && !(is_named(step) && step.place > 0)),
+    ("nothing", |_| true),
+    ("that an unknown kind has fields of 0", |step| {
+        has_right_fields(step) && ((1..=11).contains(&step.kind) || *step == of_kind(step.kind))
+    }),
+];
+
+fn is_named(step: &Step) -> bool {
+    step.kind == SAVE || step.kind == RETURN
+}
+
+fn has_right_fields(step: &Step) -> bool {
+    *step == step.used_fields()
+}
+
+fn of_kind(kind: u8) -> Step {
+    Step { kind, ..Step::default() }
+}
+
+/// Returns the steps of a file of which only they may be wrong.
+fn steps_of(file: &[u8]) -> Option<Vec<Step>> {
+    match parts(file) {
+        Ok(run) => Some(run.steps().collect()),
+        Err(Fault::Unused { .. }) => {
+            let (body, trailer) = file.split_at(file.len() - 8);
+            let count = usize::from(u16::from_le_bytes([trailer[0], trailer[1]]));
+            let (records, _) = body[body.len() - 16 * count..].as_chunks();
+            Some(records.iter().map(read_step).collect())
+        }
+        Err(_) => None,
+    }
+}
+
+#[test]
+fn the_damaged_files_find_every_mistake_about_fields() {
+    let files = damage::files(1);
+    for (name, accepts) in WRONG {
+        let mut shaped = files.iter().filter_map(|file| Some((accepted(file), steps_of(file)?)));
+        assert!(shaped.any(|(right, steps)| steps.iter().all(accepts) != right), "{name}");
+    }
+    for (right, steps) in files.iter().filter_map(|file| Some((accepted(file), steps_of(file)?))) {
+        assert_eq!(steps.iter().all(has_right_fields), right);
     }
 }
 

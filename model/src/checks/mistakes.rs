@@ -53,6 +53,8 @@ mod network;
 mod notes;
 mod parked;
 mod rows;
+mod saved;
+mod saved_names;
 mod server;
 mod server_restart;
 mod sound;
@@ -60,7 +62,8 @@ mod writes;
 
 use {
     ageing::*, batch_client::*, batch_server::*, client::*, gate::*, grant::*, latest_end::*, network::*,
-    notes::*, parked::*, rows::*, server::*, server_restart::*, sound::*, writes::*,
+    notes::*, parked::*, rows::*, saved::*, saved_names::*, server::*, server_restart::*, sound::*,
+    writes::*,
 };
 
 /// The mistakes that runs show, then those that only other tables show: first
@@ -226,6 +229,51 @@ list! {
         // What a mark leaves.
         offer_keeps_notes,
         offer_keeps_batch,
+
+        // What is saved, and what a return restores (02, A7).
+        save_without_values,
+        save_without_messages,
+        return_keeps_clock,
+        return_keeps_messages,
+        return_keeps_copies,
+        return_keeps_requests,
+        return_keeps_seen,
+        return_keeps_epochs,
+        return_keeps_values,
+        return_keeps_writes,
+        return_keeps_notes,
+        return_keeps_marks,
+        return_keeps_known,
+        return_keeps_clients,
+
+        // What becomes of saved states.
+        save_keeps_first,
+        save_under_next,
+        save_forgets_others,
+        return_uses_name_up,
+        return_forgets_others,
+        return_forgets_saved,
+        return_exchanges,
+        server_restart_forgets_saved,
+        client_restart_forgets_saved,
+        client_restart_in_saved,
+
+        // Names, questions and the answer.
+        name_4_accepted,
+        name_low_bits,
+        name_3_refused,
+        name_asked_as_place,
+        name_after_place,
+        name_before_kind,
+        name_refused_as_item,
+        never_saved_is_fresh,
+        never_saved_is_nothing,
+        refused_save_saves,
+        saved_kinds_unknown,
+        kind_12_known,
+        return_asks_time,
+        return_completes,
+        return_reports_standing,
     }
 
     not in runs {
@@ -273,6 +321,10 @@ list! {
         dropped_voids_batch,
         restart_keeps_notes,
         restart_keeps_batch,
+
+        // A number that is skipped is as good as any: what is under way after a
+        // return has smaller ones.
+        return_keeps_next,
     }
 
     sound {
@@ -290,6 +342,15 @@ list! {
         cleared_set_not_asked,
         sets_of_any_volume,
         sets_above_28,
+
+        // Saved states (02, A7). Those of a run are sound.
+        saved_not_asked,
+        saved_tables_not_asked,
+        saved_messages_not_asked,
+        saved_copies_not_asked,
+        saved_requests_not_asked,
+        saved_only_first_asked,
+        saved_without_last,
     }
 
     rows {
@@ -315,5 +376,11 @@ list! {
         rows_when_used,
         rows_after_kind,
         row_blanked,
+
+        // Saved states that are handed over (02, A7), which may not be there.
+        never_saved_asked,
+        saved_rows_not_asked,
+        name_before_sound,
+        never_saved_before_sound,
     }
 }

@@ -50,6 +50,12 @@ mistakes! {
     /// Wants every field of an unknown kind to be 0.
     UnknownKindAsked,
     UnknownKindRefused,
+    /// Asks nothing of a save or a return, whose kinds were unknown before A7.
+    SavedNotAsked,
+    /// Wants the name of a save or a return to be 0.
+    NameUnused,
+    /// Wants the name of a save or a return to exist.
+    NameAsked,
 
     // The setup.
     SetupNotAsked,
@@ -146,7 +152,14 @@ impl Rule<Mistake> {
             return !self.has(UnknownKindRefused) && (!self.has(UnknownKindAsked) || step == zero);
         }
         step.value &= self.number(u64::MAX, ValueHalfAsked, 0xffff_ffff);
-        step == step.used_fields()
+        let right = step == step.used_fields();
+        match self.0 {
+            _ if step.kind < 10 => right,
+            Some(SavedNotAsked) => true,
+            Some(NameUnused) => right && step.place == 0,
+            Some(NameAsked) => right && step.place < 4,
+            _ => right,
+        }
     }
 
     fn bytes(self, call: &WriterCall) -> Vec<u8> {

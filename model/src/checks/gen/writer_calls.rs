@@ -159,7 +159,7 @@ fn records(steps: &[Step]) -> Vec<u8> {
 /// anything.
 fn some_steps(rng: &mut Rng, count: usize) -> Vec<Step> {
     let any = |_| {
-        let kind = rng.below(11) as u8;
+        let kind = rng.below(13) as u8;
         full(rng, kind).used_fields()
     };
     (0..count).map(any).collect()

@@ -1,13 +1,14 @@
-//! Mistakes about rows of the message list that are no message.
+//! Mistakes about what is handed over: rows of the message list that are no
+//! message, and saved states that are not there.
 
 use crate::cases::rows::{
     Row, CLIENT, ITEM, KIND, NUMBER, OBJECT_EXPIRY, PRESENT, VALUE, VERSION, VOLUME_EXPIRY,
 };
 use crate::cases::CaseTables;
-use crate::limits::UNKNOWN_KIND;
+use crate::limits::{NAMES, NO_SUCH_NAME, UNKNOWN_KIND};
 use crate::message::Message;
 use crate::rules::{is_known, Papers};
-use crate::step_record::{Step, DELIVER, DOUBLE, LOSE};
+use crate::step_record::{Step, DELIVER, DOUBLE, LOSE, RETURN, SAVE};
 
 const RENEW: u64 = 1;
 const GRANT: u64 = 2;
@@ -149,6 +150,35 @@ mistakes_about! { RowRules:
     rows_after_kind {
         fn unsound(&self, step: &Step) -> u8 {
             if is_known(step.kind) { Papers.unsound(step) } else { UNKNOWN_KIND }
+        }
+    }
+
+    /// Asks about a saved state that is not there, too.
+    never_saved_asked {
+        fn asks_about_saved(&self, _: bool) -> bool {
+            true
+        }
+    }
+
+    /// Does not ask about the rows of a saved state.
+    saved_rows_not_asked {
+        fn asks_about_saved_rows(&self) -> bool {
+            false
+        }
+    }
+
+    /// First asks whether the name exists.
+    name_before_sound {
+        fn unsound(&self, step: &Step) -> u8 {
+            let named = step.kind == SAVE || step.kind == RETURN;
+            if named && usize::from(step.place) >= NAMES { NO_SUCH_NAME } else { Papers.unsound(step) }
+        }
+    }
+
+    /// Answers 11 for every return where something is not sound.
+    never_saved_before_sound {
+        fn unsound(&self, step: &Step) -> u8 {
+            if step.kind == RETURN { NO_SUCH_NAME } else { Papers.unsound(step) }
         }
     }
 
