@@ -5,7 +5,9 @@ use crate::world::World;
 
 pub trait SavedRules {
     /// "10 save [..] with the name in the place field." What was saved under it
-    /// before is replaced.
+    /// before is replaced. It is not inlined, so that no other step pays for the
+    /// room that it needs.
+    #[inline(never)]
     fn save(&self, world: &mut World, name: usize) {
         world.saved[name] = Some(Box::new(self.present(world)));
     }

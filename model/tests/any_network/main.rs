@@ -6,7 +6,6 @@ mod common;
 
 mod crowded;
 mod found;
-mod ledger;
 mod network;
 mod premises;
 mod random_moves;
@@ -20,3 +19,5 @@ mod scenes_traps;
 mod stage;
 mod under_way;
 mod watched;
+
+use common::ledger;

@@ -4,7 +4,7 @@ use model::answer::Answer;
 use model::limits::UNSOUND;
 use model::mistakes::Mistakes;
 use model::setup::Setup;
-use model::step_record::{Step, CLOCK, WRITE};
+use model::step_record::{Step, WRITE};
 
 use crate::ledger::{latest_end, Breach, Ledger};
 use crate::network::{Move, Network};
@@ -51,7 +51,7 @@ impl Watched {
         let latest_end = self.end_of(next);
         let answer = self.network.make(next);
         self.sent_after.push(self.network.sent.len());
-        self.ledger.book(next, answer, latest_end, &self.network.state.tables.server);
+        self.ledger.book(&step_of(next), answer, latest_end, &self.network.state.tables.server);
         if let Some(breach) = self.wrong_read().or_else(|| self.wrong_books(next, answer)) {
             self.note(breach);
         }
@@ -95,44 +95,9 @@ impl Watched {
     }
 
     fn wrong_books(&self, next: Move, answer: Answer) -> Option<Breach> {
-        let wrong_object = (0..self.network.setup.objects).find_map(|object| self.wrong_object(object));
-        wrong_object
-            .or_else(|| self.late(next, answer))
-            .or_else(|| self.wrong_sum())
-            .or_else(|| self.refused(next, answer))
-    }
-
-    fn wrong_object(&self, object: u8) -> Option<Breach> {
-        let (server, at) = (&self.network.state.tables.server, usize::from(object));
-        let (value, posted) = (server.value[at], self.ledger.posted[at]);
-        if value != posted {
-            return Some(Breach::Value { object, value, posted });
-        }
-        let standing = server.stands(at).then_some((server.write[at].value, server.write[at].latest_end));
-        let open = self.ledger.open[at].map(|open| (open.value, open.latest_end));
-        (standing != open).then_some(Breach::Standing { object })
-    }
-
-    fn late(&self, next: Move, answer: Answer) -> Option<Breach> {
-        let clock = match (next, answer) {
-            (_, Answer::Refused(_)) => return None,
-            (Move::Own(step), _) if step.kind == CLOCK => step.clock,
-            _ => return None,
-        };
-        (0..self.network.setup.objects).find_map(|object| {
-            let latest_end = self.ledger.open[usize::from(object)]?.latest_end;
-            (latest_end < clock).then_some(Breach::Late { object, latest_end, clock })
-        })
-    }
-
-    fn wrong_sum(&self) -> Option<Breach> {
-        let Ledger { accepted, completed, cut_off, reported, .. } = self.ledger;
-        let open = self.ledger.open_count();
-        if completed != reported {
-            return Some(Breach::Reported { completed, reported });
-        }
-        let sum = completed + cut_off + open;
-        (accepted != sum).then_some(Breach::Sum { accepted, completed, cut_off, open })
+        let Network { setup, state, .. } = &self.network;
+        let breach = self.ledger.breach(setup, &state.tables.server, &step_of(next), answer);
+        breach.or_else(|| self.refused(next, answer))
     }
 
     /// No message that was sent is refused, and no step finds unsound tables.
@@ -142,5 +107,13 @@ impl Watched {
         };
         let arrived = matches!(next, Move::Arrival(place) if place < self.network.sent.len());
         (arrived || number == UNSOUND).then_some(Breach::Refused(number))
+    }
+}
+
+/// Returns the step that a move is: an arrival is a delivery.
+fn step_of(next: Move) -> Step {
+    match next {
+        Move::Own(step) => step,
+        Move::Arrival(_) => Step::deliver(0),
     }
 }

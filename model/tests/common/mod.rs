@@ -1,6 +1,7 @@
 //! A setup and a state in use, for tests that hand tables over.
 #![allow(dead_code)]
 
+pub mod ledger;
 pub mod line;
 
 use model::answer::Answer;

@@ -32,6 +32,8 @@ mistakes! {
     KindFrom0,
     /// 1 + draw mod 8, so that no client restarts.
     KindOf8,
+    /// 1 + draw mod 11, so that there are saves and returns.
+    KindOf11,
     ObjectBeforeClient,
     PlaceBeforeObject,
     AmountFirst,
@@ -129,7 +131,7 @@ impl Rule<Mistake> {
     fn range(self, field: usize, setup: &Setup) -> (u32, u32) {
         let (clients, objects) = (setup.clients.into(), setup.objects.into());
         match field {
-            KIND => (self.number(1, KindFrom0, 0), self.number(9, KindOf8, 8)),
+            KIND => (self.number(1, KindFrom0, 0), self.number(self.number(9, KindOf8, 8), KindOf11, 11)),
             CLIENT => (0, self.number(clients, ClientOfObjects, objects)),
             OBJECT => (0, objects),
             PLACE => (0, self.number(self.number(64, PlaceOf63, 63), PlaceOf65, 65)),

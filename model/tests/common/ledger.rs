@@ -4,10 +4,8 @@ use model::answer::Answer;
 use model::bits::members;
 use model::limits::OBJECTS;
 use model::setup::Setup;
-use model::step_record::{RESTART_SERVER, WRITE};
+use model::step_record::{Step, CLOCK, RESTART_SERVER, WRITE};
 use model::tables::{alive, Server, Tables};
-
-use crate::network::Move;
 
 #[derive(Clone, Copy, Debug, PartialEq, Eq)]
 pub struct Open {
@@ -28,7 +26,7 @@ pub struct Ledger {
     pub reported: usize,
 }
 
-/// What a move broke.
+/// What a step broke.
 #[derive(Clone, Copy, Debug, PartialEq, Eq)]
 pub enum Breach {
     /// A read shows a value that is not the posted one.
@@ -64,16 +62,16 @@ impl Ledger {
         self.open.iter().flatten().count()
     }
 
-    /// Books a move. `latest_end` is that of a write, from the tables before
-    /// it. A refused move changes nothing.
-    pub fn book(&mut self, next: Move, answer: Answer, latest_end: u32, server: &Server) {
-        match (next, answer) {
+    /// Books a step. `latest_end` is that of a write, from the tables before
+    /// it. A refused step changes nothing.
+    pub fn book(&mut self, step: &Step, answer: Answer, latest_end: u32, server: &Server) {
+        match (step.kind, answer) {
             (_, Answer::Refused(_)) => return,
-            (Move::Own(step), _) if step.kind == WRITE => {
+            (WRITE, _) => {
                 self.accepted += 1;
                 self.open[usize::from(step.object)] = Some(Open { value: step.value, latest_end });
             }
-            (Move::Own(step), _) if step.kind == RESTART_SERVER => {
+            (RESTART_SERVER, _) => {
                 self.cut_off += self.open_count();
                 self.open = [None; OBJECTS];
             }
@@ -93,6 +91,44 @@ impl Ledger {
                 self.completed += 1;
             }
         }
+    }
+}
+
+impl Ledger {
+    /// Returns what the step broke, apart from reads.
+    pub fn breach(&self, setup: &Setup, server: &Server, step: &Step, answer: Answer) -> Option<Breach> {
+        let wrong_object = (0..setup.objects).find_map(|object| self.wrong_object(server, object));
+        wrong_object.or_else(|| self.late(step, answer)).or_else(|| self.wrong_sum())
+    }
+
+    fn wrong_object(&self, server: &Server, object: u8) -> Option<Breach> {
+        let at = usize::from(object);
+        let (value, posted) = (server.value[at], self.posted[at]);
+        if value != posted {
+            return Some(Breach::Value { object, value, posted });
+        }
+        let standing = server.stands(at).then_some((server.write[at].value, server.write[at].latest_end));
+        let open = self.open[at].map(|open| (open.value, open.latest_end));
+        (standing != open).then_some(Breach::Standing { object })
+    }
+
+    fn late(&self, step: &Step, answer: Answer) -> Option<Breach> {
+        if step.kind != CLOCK || matches!(answer, Answer::Refused(_)) {
+            return None;
+        }
+        let mut open = (0..).zip(self.open).filter_map(|(object, open)| Some((object, open?.latest_end)));
+        let (object, latest_end) = open.find(|(_, latest_end)| *latest_end < step.clock)?;
+        Some(Breach::Late { object, latest_end, clock: step.clock })
+    }
+
+    fn wrong_sum(&self) -> Option<Breach> {
+        let Ledger { accepted, completed, cut_off, reported, .. } = *self;
+        let open = self.open_count();
+        if completed != reported {
+            return Some(Breach::Reported { completed, reported });
+        }
+        let sum = completed + cut_off + open;
+        (accepted != sum).then_some(Breach::Sum { accepted, completed, cut_off, open })
     }
 }
 
