@@ -1,4 +1,7 @@
-// Applies one change, by the number of its field: 1 to 8 the setup, 10 to 31 the tables, 40 to 50 the message list, 60 to 63 copies, 70 to 74 requests.
+// Applies one change, by the number of its field: 1 to 8 the setup, 10 to 31 the tables, 40 to 50 the message list, 60 to 63 copies, 70 to 74 requests. From
+// 100 on it is a saved state: field / 100 - 1 is its name, and field % 100 its field, 80 whether it is there, 81 a copy of the present state.
+ghost use Prim.Native.Nat.{_<_};
+ghost use Rattle.protocol.specs.Saved.{names};
 use crate::Case;
 use crate::text::byte;
 use crate::text::word;
@@ -11,6 +14,11 @@ use state_words::WORDS;
 use state_words::Words;
 use state_words::client;
 use state_words::network;
+use state_words::pass;
+use state_words::saved::NAMES;
+use state_words::saved::SAVED;
+use state_words::saved::SavedValues;
+use state_words::saved::SavedWords;
 use state_words::server;
 
 // Returns the case that changes start from: a setup of zeros, and no records lent.
@@ -147,11 +155,68 @@ fn put_message(words: &mut Words, field: u64, place: usize, number: u64) {
     }
 }
 
-// Applies a change to the setup, to the number of records lent, or to the tables.
+// Applies a change to a state.
+fn change_state(words: &mut Words, values: &mut Values, field: u64, place: usize, number: u64) {
+    if field == 27 {
+        put_waiting(words, place, number);
+        return;
+    }
+    put(&mut *words, in_words(field), place, number);
+    put_value(&mut *values, in_values(field), place, number);
+    put_message(&mut *words, field, place, number);
+}
+
+// Applies a change to the saved state of a name.
+fn change_saved(
+    saved: &mut SavedWords,
+    saved_values: &mut SavedValues,
+    name: usize,
+    field: u64,
+    place: usize,
+    number: u64,
+)
+    requires { ⌜ name < names ⌝ }
+{
+    if field == 80 {
+        saved[name][SAVED] = pass::word(number != 0);
+        return;
+    }
+    let mut words = saved[name];
+    let mut values = saved_values[name];
+    change_state(&mut words, &mut values, field, place, number);
+    saved[name] = words;
+    saved_values[name] = values;
+}
+
+// Applies a change to a saved state, unless there is no such name.
+fn change_named(
+    words: &Words,
+    values: &Values,
+    saved: &mut SavedWords,
+    saved_values: &mut SavedValues,
+    field: u64,
+    place: usize,
+    number: u64,
+) {
+    if 100 <= field {
+        let name = (field / 100 - 1) as usize;
+        if name < NAMES {
+            if field % 100 == 81 {
+                saved_states::save(words, values, saved, saved_values, name);
+                return;
+            }
+            change_saved(saved, saved_values, name, field % 100, place, number);
+        }
+    }
+}
+
+// Applies a change to the setup, to the number of records lent, to the present state, or to a saved one.
 pub fn change(
     case: Case,
     words: &mut Words,
     values: &mut Values,
+    saved: &mut SavedWords,
+    saved_values: &mut SavedValues,
     field: u64,
     place: usize,
     number: u64,
@@ -169,12 +234,18 @@ pub fn change(
         case.requests = number as usize;
         return case;
     }
-    if field == 27 {
-        put_waiting(words, place, number);
+    if field < 100 {
+        change_state(words, values, field, place, number);
         return case;
     }
-    put(&mut *words, in_words(field), place, number);
-    put_value(&mut *values, in_values(field), place, number);
-    put_message(&mut *words, field, place, number);
+    change_named(
+        &*words,
+        &*values,
+        &mut *saved,
+        &mut *saved_values,
+        field,
+        place,
+        number,
+    );
     case
 }

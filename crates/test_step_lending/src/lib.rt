@@ -1,16 +1,14 @@
 // Performs a step on the client records in the words: lends the first of them to the public step, and stores them back afterwards.
-ghost use Prim.Native.Nat.{_≤_};
-ghost use Rattle.setup.specs.Limits.{CLIENTS};
-ghost use Rattle.state_words.specs.Fields.{CLIENT-OBJECTS};
 use protocol::records::Copy;
 use protocol::records::Request;
-use protocol::setup::Setup;
 use protocol::step::Answer;
 use protocol::step::Step;
 use setup::limits::CLIENTS;
 use state_words::CLIENT_OBJECTS;
 use state_words::Values;
 use state_words::Words;
+use state_words::saved::SavedValues;
+use state_words::saved::SavedWords;
 use test_case_reader::Case;
 
 // Returns all copies in the tables.
@@ -62,26 +60,27 @@ fn keep(
     keep_requests(&mut *words, requests);
 }
 
-// Lends the first `lent_copies` copies and `lent_requests` requests to `step`, so that a case can lend more or fewer than the setup has, which is
-// unsound.
+// Lends to `step` the first copies and requests, as many as the case says, so that a case can lend more or fewer than the setup has, which is unsound.
 fn step_on(
-    setup: Setup,
+    case: Case,
     words: &mut Words,
     values: &mut Values,
+    saved: &mut SavedWords,
+    saved_values: &mut SavedValues,
     mut copies: [Copy; CLIENT_OBJECTS],
     mut requests: [Request; CLIENTS],
-    lent_copies: usize,
-    lent_requests: usize,
     step: Step,
-) -> Answer
-    requires { ⌜ («lent_copies» ≤ CLIENT-OBJECTS) × («lent_requests» ≤ CLIENTS) ⌝ }
-{
+) -> Answer {
+    let lent_copies = test_case_reader::copies_lent(case);
+    let lent_requests = test_case_reader::requests_lent(case);
     let answer = step::step(
-        setup,
+        case.setup,
         &mut *words,
         &mut *values,
         &mut copies[..lent_copies],
         &mut requests[..lent_requests],
+        &mut *saved,
+        &mut *saved_values,
         step,
     );
     keep(&mut *words, &mut *values, copies, requests);
@@ -89,20 +88,24 @@ fn step_on(
 }
 
 // Performs a step of a case and returns its answer.
-pub fn take(case: Case, words: &mut Words, values: &mut Values, step: Step) -> Answer {
-    let setup = case.setup;
+pub fn take(
+    case: Case,
+    words: &mut Words,
+    values: &mut Values,
+    saved: &mut SavedWords,
+    saved_values: &mut SavedValues,
+    step: Step,
+) -> Answer {
     let copies = copies_in(&*words, &*values);
     let requests = requests_in(&*words);
-    let lent_copies = test_case_reader::copies_lent(case);
-    let lent_requests = test_case_reader::requests_lent(case);
     step_on(
-        setup,
+        case,
         words,
         values,
+        saved,
+        saved_values,
         copies,
         requests,
-        lent_copies,
-        lent_requests,
         step,
     )
 }

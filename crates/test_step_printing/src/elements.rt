@@ -1,5 +1,5 @@
-// Prints a line `name place: number` for each element of a field that a step changed. A place per client and volume, or per client and object, is two
-// numbers.
+// Prints a line `name place: number`, after a prefix, for each element of a field that a step changed. A place per client and volume, or per client and
+// object, is two numbers.
 ghost use Prim.Native.Nat.{_+_, _≤_, _<_};
 ghost use Rattle.setup.specs.Limits.{SLOTS};
 ghost use Rattle.state_words.specs.Fields.{WORDS, VALUES};
@@ -34,9 +34,9 @@ fn place(row: Row, i: usize) {
     }
 }
 
-fn element(name: &[u8], row: Row, i: usize, before: u64, after: u64) {
+fn element(prefix: &[u8], name: &[u8], row: Row, i: usize, before: u64, after: u64) {
     if before != after {
-        text(b"  ");
+        text(prefix);
         text(name);
         place(row, i);
         number(b": ", after);
@@ -44,17 +44,25 @@ fn element(name: &[u8], row: Row, i: usize, before: u64, after: u64) {
     }
 }
 
-fn word(name: &[u8], row: Row, i: usize, before: u32, after: u32) {
-    element(name, row, i, before as u64, after as u64);
+fn word(prefix: &[u8], name: &[u8], row: Row, i: usize, before: u32, after: u32) {
+    element(prefix, name, row, i, before as u64, after as u64);
 }
 
 // Prints the changes among `count` words from `from` on.
-pub fn words(name: &[u8], row: Row, from: usize, count: usize, before: &Words, after: &Words)
+pub fn words(
+    prefix: &[u8],
+    name: &[u8],
+    row: Row,
+    from: usize,
+    count: usize,
+    before: &Words,
+    after: &Words,
+)
     requires { ⌜ from + count ≤ WORDS ⌝ }
 {
     let mut i = 0;
     while i < count {
-        word(name, row, i, before[from + i], after[from + i]);
+        word(prefix, name, row, i, before[from + i], after[from + i]);
         i += 1;
     }
 }
@@ -66,7 +74,7 @@ fn member(set: u32, client: usize) -> u32
 }
 
 // Prints the changes among the clients in the sets from `from` on, one per object.
-pub fn members(name: &[u8], from: usize, before: &Words, after: &Words)
+pub fn members(prefix: &[u8], name: &[u8], from: usize, before: &Words, after: &Words)
     requires { ⌜ from + SLOTS ≤ WORDS ⌝ }
 {
     let mut i = 0;
@@ -74,6 +82,7 @@ pub fn members(name: &[u8], from: usize, before: &Words, after: &Words)
         let object = from + i % limits::SLOTS;
         let client = i / limits::SLOTS;
         word(
+            prefix,
             name,
             Row::Objects,
             i,
@@ -85,12 +94,12 @@ pub fn members(name: &[u8], from: usize, before: &Words, after: &Words)
 }
 
 // Prints the changes among the values from `from` on, one per object.
-pub fn values(name: &[u8], from: usize, before: &Values, after: &Values)
+pub fn values(prefix: &[u8], name: &[u8], from: usize, before: &Values, after: &Values)
     requires { ⌜ from + SLOTS ≤ VALUES ⌝ }
 {
     let mut i = 0;
     while i < limits::SLOTS {
-        element(name, Row::One, i, before[from + i], after[from + i]);
+        element(prefix, name, Row::One, i, before[from + i], after[from + i]);
         i += 1;
     }
 }

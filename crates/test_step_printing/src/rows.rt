@@ -28,23 +28,30 @@ fn same_fields(before: Fields, after: Fields) -> bool {
         & (before.value == after.value)
 }
 
-fn message(i: usize, before: Message, after: Message) {
+fn message(prefix: &[u8], i: usize, before: Message, after: Message) {
     let fields_before = message_fields::fields_of(before);
     let fields_after = message_fields::fields_of(after);
     if same_fields(fields_before, fields_after) {
         return;
     }
-    number(b"  message ", i as u64);
+    text(prefix);
+    number(b"message ", i as u64);
     text(b":");
     fields(fields_after);
 }
 
-pub fn messages(before: &Words, values_before: &Values, after: &Words, values_after: &Values) {
+pub fn messages(
+    prefix: &[u8],
+    before: &Words,
+    values_before: &Values,
+    after: &Words,
+    values_after: &Values,
+) {
     let mut i = 0;
     while i < PLACES {
         let message_before = network_queue::list::message_at(before, values_before, i);
         let message_after = network_queue::list::message_at(after, values_after, i);
-        message(i, message_before, message_after);
+        message(prefix, i, message_before, message_after);
         i += 1;
     }
 }
@@ -55,11 +62,12 @@ fn same_copy(before: Copy, after: Copy) -> bool {
         & (before.expiry == after.expiry)
 }
 
-fn copy(i: usize, before: Copy, after: Copy) {
+fn copy(prefix: &[u8], i: usize, before: Copy, after: Copy) {
     if same_copy(before, after) {
         return;
     }
-    number(b"  copy ", i as u64);
+    text(prefix);
+    number(b"copy ", i as u64);
     number(b": version ", after.version as u64);
     number(b", value ", after.value);
     number(b", expiry ", after.expiry as u64);
@@ -67,6 +75,7 @@ fn copy(i: usize, before: Copy, after: Copy) {
 }
 
 pub fn copies<'a, 'b>(
+    prefix: &[u8],
     before: &'a Words,
     values_before: &'a Values,
     after: &'b Words,
@@ -76,7 +85,7 @@ pub fn copies<'a, 'b>(
     while i < CLIENT_OBJECTS {
         let copy_before = client_records::copies::copy_at(before, values_before, i);
         let copy_after = client_records::copies::copy_at(after, values_after, i);
-        copy(i, copy_before, copy_after);
+        copy(prefix, i, copy_before, copy_after);
         i += 1;
     }
 }
@@ -97,11 +106,12 @@ fn stands(standing: bool) {
     }
 }
 
-fn request(i: usize, before: Request, after: Request) {
+fn request(prefix: &[u8], i: usize, before: Request, after: Request) {
     if same_request(before, after) {
         return;
     }
-    number(b"  request ", i as u64);
+    text(prefix);
+    number(b"request ", i as u64);
     number(b": next ", after.next as u64);
     stands(after.standing);
     number(b", number ", after.number as u64);
@@ -109,12 +119,12 @@ fn request(i: usize, before: Request, after: Request) {
     end();
 }
 
-pub fn requests(before: &Words, after: &Words) {
+pub fn requests(prefix: &[u8], before: &Words, after: &Words) {
     let mut i = 0;
     while i < CLIENTS {
         let request_before = client_records::requests::request_at(before, i);
         let request_after = client_records::requests::request_at(after, i);
-        request(i, request_before, request_after);
+        request(prefix, i, request_before, request_after);
         i += 1;
     }
 }

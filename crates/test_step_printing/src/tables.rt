@@ -6,6 +6,7 @@ use crate::elements::values;
 use crate::elements::words;
 use crate::lines::end;
 use crate::lines::number;
+use crate::lines::text;
 use setup::limits::CLIENTS;
 use setup::limits::SLOTS;
 use setup::limits::VOLUMES;
@@ -17,15 +18,17 @@ use state_words::client;
 use state_words::server;
 
 // Prints a single number if it changed.
-pub fn one(name: &[u8], before: u32, after: u32) {
+pub fn one(prefix: &[u8], name: &[u8], before: u32, after: u32) {
     if before != after {
+        text(prefix);
         number(name, after as u64);
         end();
     }
 }
 
-pub fn volumes(before: &Words, after: &Words) {
+pub fn volumes(prefix: &[u8], before: &Words, after: &Words) {
     words(
+        prefix,
         b"epoch",
         Row::One,
         server::VOLUME_EPOCH,
@@ -34,6 +37,7 @@ pub fn volumes(before: &Words, after: &Words) {
         after,
     );
     words(
+        prefix,
         b"VE",
         Row::One,
         server::VOLUME_EXPIRY,
@@ -41,9 +45,26 @@ pub fn volumes(before: &Words, after: &Words) {
         before,
         after,
     );
-    words(b"guard", Row::One, server::GUARD, VOLUMES, before, after);
-    words(b"seen", Row::One, server::SEEN, CLIENTS, before, after);
     words(
+        prefix,
+        b"guard",
+        Row::One,
+        server::GUARD,
+        VOLUMES,
+        before,
+        after,
+    );
+    words(
+        prefix,
+        b"seen",
+        Row::One,
+        server::SEEN,
+        CLIENTS,
+        before,
+        after,
+    );
+    words(
+        prefix,
         b"volume lease",
         Row::Volumes,
         server::SESSION_EXPIRY,
@@ -52,6 +73,7 @@ pub fn volumes(before: &Words, after: &Words) {
         after,
     );
     words(
+        prefix,
         b"unreachable",
         Row::Volumes,
         server::UNREACHABLE,
@@ -60,6 +82,7 @@ pub fn volumes(before: &Words, after: &Words) {
         after,
     );
     words(
+        prefix,
         b"offer",
         Row::Volumes,
         server::OFFER,
@@ -68,6 +91,7 @@ pub fn volumes(before: &Words, after: &Words) {
         after,
     );
     words(
+        prefix,
         b"notes",
         Row::Volumes,
         server::NOTES,
@@ -76,6 +100,7 @@ pub fn volumes(before: &Words, after: &Words) {
         after,
     );
     words(
+        prefix,
         b"batch",
         Row::Volumes,
         server::BATCH,
@@ -85,11 +110,34 @@ pub fn volumes(before: &Words, after: &Words) {
     );
 }
 
-pub fn objects(before: &Words, values_before: &Values, after: &Words, values_after: &Values) {
-    values(b"value", server::VALUE, values_before, values_after);
-    words(b"version", Row::One, server::VERSION, SLOTS, before, after);
-    words(b"OE", Row::One, server::OBJECT_EXPIRY, SLOTS, before, after);
+pub fn objects(
+    prefix: &[u8],
+    before: &Words,
+    values_before: &Values,
+    after: &Words,
+    values_after: &Values,
+) {
+    values(prefix, b"value", server::VALUE, values_before, values_after);
     words(
+        prefix,
+        b"version",
+        Row::One,
+        server::VERSION,
+        SLOTS,
+        before,
+        after,
+    );
+    words(
+        prefix,
+        b"OE",
+        Row::One,
+        server::OBJECT_EXPIRY,
+        SLOTS,
+        before,
+        after,
+    );
+    words(
+        prefix,
         b"standing",
         Row::One,
         server::STANDING,
@@ -97,9 +145,16 @@ pub fn objects(before: &Words, values_before: &Values, after: &Words, values_aft
         before,
         after,
     );
-    values(b"pending", server::PENDING, values_before, values_after);
-    words(b"end", Row::One, server::END, SLOTS, before, after);
+    values(
+        prefix,
+        b"pending",
+        server::PENDING,
+        values_before,
+        values_after,
+    );
+    words(prefix, b"end", Row::One, server::END, SLOTS, before, after);
     words(
+        prefix,
         b"object lease",
         Row::Objects,
         server::LEASE,
@@ -107,11 +162,12 @@ pub fn objects(before: &Words, values_before: &Values, after: &Words, values_aft
         before,
         after,
     );
-    members(b"waiting", server::WAITING, before, after);
+    members(prefix, b"waiting", server::WAITING, before, after);
 }
 
-pub fn views(before: &Words, after: &Words) {
+pub fn views(prefix: &[u8], before: &Words, after: &Words) {
     words(
+        prefix,
         b"known epoch",
         Row::Volumes,
         client::VIEW_EPOCH,
@@ -120,6 +176,7 @@ pub fn views(before: &Words, after: &Words) {
         after,
     );
     words(
+        prefix,
         b"known expiry",
         Row::Volumes,
         client::VIEW_EXPIRY,

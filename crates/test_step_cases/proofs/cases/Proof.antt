@@ -4,10 +4,10 @@ use Rattle.test_step_cases.proofs.cases.Statement.{statement}
 use Rattle.test_step_cases.proofs.cases.Tie as tie
 
 abbrev Inv-loop : tie.InvT-loop
-Inv-loop bytes from base words values at₀ i₀ at i = i ≤ 1000
+Inv-loop bytes from base words values saved saved-values at₀ i₀ at i = i ≤ 1000
 
 abbrev μ-loop : tie.MeasureT-loop
-μ-loop bytes from base words values at₀ i₀ at i = 1000 - i
+μ-loop bytes from base words values saved saved-values at₀ i₀ at i = 1000 - i
 
 loop-holds : tie.Need-loop-holds Inv-loop μ-loop
 loop-holds c = search needs

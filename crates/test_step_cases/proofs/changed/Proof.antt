@@ -4,10 +4,10 @@ use Rattle.test_step_cases.proofs.changed.Statement.{statement}
 use Rattle.test_step_cases.proofs.changed.Tie as tie
 
 abbrev Inv-loop : tie.InvT-loop
-Inv-loop bytes from count words₀ values₀ case₀ at₀ i₀ words values case at i = i ≤ count
+Inv-loop bytes changes words₀ values₀ saved₀ saved-values₀ case₀ at₀ i₀ words values saved saved-values case at i = i ≤ changes .value
 
 abbrev μ-loop : tie.MeasureT-loop
-μ-loop bytes from count words₀ values₀ case₀ at₀ i₀ words values case at i = count - i
+μ-loop bytes changes words₀ values₀ saved₀ saved-values₀ case₀ at₀ i₀ words values saved saved-values case at i = changes .value - i
 
 loop-holds : tie.Need-loop-holds Inv-loop μ-loop
 loop-holds c = search needs

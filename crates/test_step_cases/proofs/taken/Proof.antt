@@ -4,10 +4,10 @@ use Rattle.test_step_cases.proofs.taken.Statement.{statement}
 use Rattle.test_step_cases.proofs.taken.Tie as tie
 
 abbrev Inv-loop : tie.InvT-loop
-Inv-loop bytes from count id case words₀ values₀ at₀ i₀ words values at i = i ≤ count
+Inv-loop bytes steps id case words₀ values₀ saved₀ saved-values₀ at₀ i₀ words values saved saved-values at i = i ≤ steps .value
 
 abbrev μ-loop : tie.MeasureT-loop
-μ-loop bytes from count id case words₀ values₀ at₀ i₀ words values at i = count - i
+μ-loop bytes steps id case words₀ values₀ saved₀ saved-values₀ at₀ i₀ words values saved saved-values at i = steps .value - i
 
 loop-holds : tie.Need-loop-holds Inv-loop μ-loop
 loop-holds c = search needs
@@ -15,14 +15,8 @@ loop-holds c = search needs
 step-requires : tie.Need-step-requires Inv-loop μ-loop
 step-requires c κs = search needs
 
-take-requires : tie.Need-take-requires Inv-loop μ-loop
-take-requires c κs = search needs
-
-show-requires : tie.Need-show-requires Inv-loop μ-loop
-show-requires c κs = search needs
-
-show-requires-2 : tie.Need-show-requires-2 Inv-loop μ-loop
-show-requires-2 c κs = search needs
+performed-requires : tie.Need-performed-requires Inv-loop μ-loop
+performed-requires c κs = search needs
 
 after-requires : tie.Need-after-requires Inv-loop μ-loop
 after-requires c κs = search needs
@@ -47,9 +41,7 @@ taken-spec =
     μ-loop
     loop-holds
     step-requires
-    take-requires
-    show-requires
-    show-requires-2
+    performed-requires
     after-requires
     add-i
     loop-less

@@ -4,10 +4,10 @@ use Rattle.test_step_printing.proofs.elements.words.Statement.{statemen
 use Rattle.test_step_printing.proofs.elements.words.Tie as tie
 
 abbrev Inv-loop : tie.InvT-loop
-Inv-loop name row from count before after i₀ i = i ≤ count
+Inv-loop prefix name row from count before after i₀ i = i ≤ count
 
 abbrev μ-loop : tie.MeasureT-loop
-μ-loop name row from count before after i₀ i = count - i
+μ-loop prefix name row from count before after i₀ i = count - i
 
 loop-holds : tie.Need-loop-holds Inv-loop μ-loop
 loop-holds c = search needs

@@ -4,10 +4,10 @@ use Rattle.test_step_printing.proofs.rows.copies.Statement.{statement}
 use Rattle.test_step_printing.proofs.rows.copies.Tie as tie
 
 abbrev Inv-loop : tie.InvT-loop
-Inv-loop before values-before after values-after i₀ i = i ≤ 512
+Inv-loop prefix before values-before after values-after i₀ i = i ≤ 512
 
 abbrev μ-loop : tie.MeasureT-loop
-μ-loop before values-before after values-after i₀ i = 512 - i
+μ-loop prefix before values-before after values-after i₀ i = 512 - i
 
 loop-holds : tie.Need-loop-holds Inv-loop μ-loop
 loop-holds c = search needs

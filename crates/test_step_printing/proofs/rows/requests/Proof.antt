@@ -4,10 +4,10 @@ use Rattle.test_step_printing.proofs.rows.requests.Statement.{statement
 use Rattle.test_step_printing.proofs.rows.requests.Tie as tie
 
 abbrev Inv-loop : tie.InvT-loop
-Inv-loop before after i₀ i = i ≤ 16
+Inv-loop prefix before after i₀ i = i ≤ 16
 
 abbrev μ-loop : tie.MeasureT-loop
-μ-loop before after i₀ i = 16 - i
+μ-loop prefix before after i₀ i = 16 - i
 
 loop-holds : tie.Need-loop-holds Inv-loop μ-loop
 loop-holds c = search needs
