@@ -15,6 +15,7 @@ pub mod difference;
 pub mod explain;
 pub mod input;
 pub mod latest_end;
+pub mod line;
 pub mod listed;
 pub mod names;
 pub mod output;

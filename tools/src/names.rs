@@ -111,6 +111,23 @@ pub fn objects(set: u32) -> String {
     listed("object", set).unwrap_or("no object".into())
 }
 
+/// Returns "step 4", "steps 4 to 7" or "steps 2, 4 to 7" for numbers in order.
+pub fn steps(numbers: &[usize]) -> String {
+    let mut ranges: Vec<(usize, usize)> = Vec::new();
+    for &number in numbers {
+        match ranges.last_mut() {
+            Some((_, last)) if *last + 1 == number => *last = number,
+            _ => ranges.push((number, number)),
+        }
+    }
+    let range = |(first, last): &(usize, usize)| match first == last {
+        true => first.to_string(),
+        false => format!("{first} to {last}"),
+    };
+    let word = if numbers.len() == 1 { "step" } else { "steps" };
+    format!("{word} {}", ranges.iter().map(range).collect::<Vec<_>>().join(", "))
+}
+
 /// Returns the numbers in a set after the word for them, if there are any.
 fn listed(word: &str, set: u32) -> Option<String> {
     let numbers: Vec<String> = members(set).map(|number| number.to_string()).collect();

@@ -6,11 +6,12 @@ use model::gen::runs::Run;
 use model::message::Message;
 use model::requests::Request;
 use model::setup::Setup;
-use model::state::State;
+use model::state::{Machine, Saved, State};
 use model::step_call::step;
 use model::step_record::Step;
 use model::tables::{Server, Write};
 
+use crate::line::Lines;
 use crate::voice::Voice;
 
 /// One step, with the model's state before and after it.
@@ -24,30 +25,41 @@ pub struct Moment<'a> {
     pub before: &'a State,
     pub after: &'a State,
     pub answer: Answer,
+    /// The saved states after it, by name.
+    pub saved: &'a Saved,
+    /// The lines of the steps up to this one.
+    pub lines: &'a Lines,
 }
 
-/// A run in progress: the state that its steps so far have led to.
+/// A run in progress: the states that its steps so far have led to and saved.
 pub struct Walk<'a> {
     setup: &'a Setup,
     voice: Voice,
-    pub state: State,
-    pub taken: usize,
+    machine: Machine,
+    lines: Lines,
+    taken: usize,
 }
 
 impl<'a> Walk<'a> {
     pub fn fresh(setup: &'a Setup, voice: Voice) -> Walk<'a> {
-        Walk { setup, voice, state: State::fresh(), taken: 0 }
+        Walk { setup, voice, machine: Machine::fresh(), lines: Lines::default(), taken: 0 }
+    }
+
+    /// Returns the messages under way.
+    pub fn under_way(&self) -> &[Message] {
+        self.machine.state.tables.queue.messages()
     }
 
     /// Takes a step, for which question 1 is asked first, and returns what
     /// `seen` makes of it.
     pub fn take<T>(&mut self, record: Step, seen: impl FnOnce(&Moment) -> T) -> T {
-        let before = self.state;
-        let (tables, copies, requests) = self.state.parts(self.setup);
-        let answer = step(self.setup, tables, copies, requests, &record);
+        let before = self.machine.state;
+        let answer = step(&mut self.machine.world(self.setup), &record);
         self.taken += 1;
-        let (number, setup, voice, after) = (self.taken, self.setup, self.voice, &self.state);
-        seen(&Moment { number, step: record, setup, voice, before: &before, after, answer })
+        self.lines.follow(&record, matches!(answer, Answer::Refused(_)));
+        let (number, setup, voice) = (self.taken, self.setup, self.voice);
+        let (Machine { state: after, saved }, lines) = (&self.machine, &self.lines);
+        seen(&Moment { number, step: record, setup, voice, before: &before, after, answer, saved, lines })
     }
 }
 
@@ -67,6 +79,14 @@ pub fn walk_in(run: &Run, voice: Voice, mut each: impl FnMut(&Moment)) {
 impl<'a> Moment<'a> {
     pub fn refused(&self) -> bool {
         matches!(self.answer, Answer::Refused(_))
+    }
+
+    /// Returns the step that saved the state which this step restored, if it is
+    /// a return that was not refused.
+    pub fn restored(&self) -> Option<usize> {
+        use model::step_record::RETURN;
+        let restores = self.step.kind == RETURN && !self.refused();
+        restores.then(|| self.lines.before(self.number))
     }
 
     pub fn clock(&self) -> u32 {
@@ -103,10 +123,15 @@ impl<'a> Moment<'a> {
     }
 
     /// Returns the messages that the step added to the queue's end: those
-    /// beyond what was there before, less the one taken out.
+    /// beyond what was there before, less the one taken out. A return sends
+    /// none: it restores the queue.
     pub fn sent(&self) -> &'a [Message] {
-        let kept = self.before.tables.queue.len - usize::from(self.taken().is_some());
-        &self.after.tables.queue.messages()[kept..]
+        let queue = &self.after.tables.queue;
+        let kept = match self.restored() {
+            Some(_) => queue.len,
+            None => self.before.tables.queue.len - usize::from(self.taken().is_some()),
+        };
+        &queue.messages()[kept..]
     }
 
     /// Returns the same messages with their places in the queue.
@@ -123,7 +148,8 @@ impl<'a> Moment<'a> {
         takes.then(|| &self.before.tables.queue.messages()[usize::from(self.step.place)])
     }
 
-    /// Returns the writes that ended in the step, with their objects.
+    /// Returns the writes that ended in the step, with their objects. Not for a
+    /// return, which ends none.
     pub fn ended(&self) -> Vec<(usize, &'a Write)> {
         let (before, after) = (self.server_before(), self.server());
         let ended = self.objects().filter(|&object| before.stands(object) && !after.stands(object));

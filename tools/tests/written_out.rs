@@ -2,7 +2,7 @@
 
 use model::gen::runs::{run, Run};
 use model::message::Message;
-use model::state::State;
+use model::state::{Machine, State};
 use model::step_call::step;
 use model::step_record::{Step, DELIVER, DOUBLE, LOSE};
 use tools::names::{item, kind, way};
@@ -195,12 +195,11 @@ fn without_such_a_message_those_under_way_are_told() {
 
 /// Returns the state after a run.
 fn end(run: &Run) -> State {
-    let mut state = State::fresh();
+    let mut machine = Machine::fresh();
     for record in &run.steps {
-        let (tables, copies, requests) = state.parts(&run.setup);
-        step(&run.setup, tables, copies, requests, record);
+        step(&mut machine.world(&run.setup), record);
     }
-    state
+    machine.state
 }
 
 /// Returns runs cut off in the middle, where more stands than at their ends.

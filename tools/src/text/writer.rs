@@ -71,7 +71,7 @@ impl<'a> Writer<'a> {
     }
 
     fn place(&self, named: &Named) -> Result<u8, Wrong> {
-        let under_way = self.walk.state.tables.queue.messages();
+        let under_way = self.walk.under_way();
         if let Some(place) = named.place(under_way) {
             return Ok(place as u8);
         }
