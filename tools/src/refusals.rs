@@ -3,7 +3,7 @@
 
 use std::collections::BTreeMap;
 
-use model::limits::{BAD_TIME, NO_NUMBER_LEFT, NO_SUCH_ITEM, UNKNOWN_KIND, WRITE_STANDS};
+use model::limits::{BAD_TIME, NO_NUMBER_LEFT, NO_SUCH_ITEM, NO_SUCH_NAME, UNKNOWN_KIND, WRITE_STANDS};
 
 use crate::listed::Listed;
 
@@ -37,6 +37,7 @@ fn what(number: u64) -> &'static str {
         BAD_TIME => "a time out of range",
         WRITE_STANDS => "a write stands",
         NO_NUMBER_LEFT => "no number left",
+        NO_SUCH_NAME => "no such saved state",
         _ => "unsound tables",
     }
 }
@@ -53,6 +54,10 @@ mod tests {
         assert_eq!(
             counted([refused(5), Listed::ASK_FIRST, refused(2), refused(5), Listed::shown(4)]).unwrap(),
             "5 steps, 3 refused: 1 with 2 (unknown kind), 2 with 5 (a write stands)"
+        );
+        assert_eq!(
+            counted([refused(11), refused(11)]).unwrap(),
+            "2 steps, 2 refused: 2 with 11 (no such saved state)"
         );
     }
 }

@@ -30,7 +30,7 @@ fn the_example_of_help_runs() {
     let example = example_of_help();
     let checked = run_program(RUNTEXT, &["check"], example.as_bytes());
     assert_eq!(checked.output, b"standard input: all 4 expectations hold\n", "{}", checked.errors);
-    assert_eq!((checked.status, checked.errors.as_str()), (0, "20 steps, none refused\n"));
+    assert_eq!((checked.status, checked.errors.as_str()), (0, "22 steps, none refused\n"));
     for first in actions::FIRST_WORDS.iter().filter(|first| **first != "kind") {
         assert!(example.lines().any(|line| line.trim_start().starts_with(first)), "{first}");
     }

@@ -63,6 +63,20 @@ fn each_reason_in_words() {
 }
 
 #[test]
+fn a_save_and_a_return_have_only_a_name() {
+    let setup = from_file(&example("0-document.run")).unwrap().setup;
+    for (step, words) in [
+        (Step { client: 1, ..Step::save(2) }, "client: found 1, expected 0, as `save 2` has none"),
+        (Step { object: 1, ..Step::return_to(9) }, "object: found 1, expected 0, as `return 9` has none"),
+        (Step { clock: 5, ..Step::save(0) }, "clock: found 5, expected 0, as `save 0` has none"),
+        (Step { value: 7, ..Step::return_to(3) }, "value: found 7, expected 0, as `return 3` has none"),
+    ] {
+        let file = write(b"", &setup, &[Step::save(4), step]);
+        assert_eq!(reason(&file), format!("run file refused (9): step 2, {words}"));
+    }
+}
+
+#[test]
 fn lengths_in_words() {
     let file = example("0-document.run");
     assert!(reason(&file[..55]).ends_with(": found 55 bytes, expected at least 56, setup and trailer"));

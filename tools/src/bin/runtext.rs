@@ -54,6 +54,8 @@ output, whole or not at all. A text has lines as these, in this order:
   clock 10
   restart server
   restart client 1
+  save 0                                 # all tables, messages and the clock
+  return 0                               # they are again as they were then
 
 `#` begins a comment; numbers are decimal. Expectations are done, shown V, ask
 first, completed N and refused N. A step of an unknown kind has all its fields:
@@ -76,6 +78,11 @@ the client is marked unreachable. The client's next RENEW in the volume is
 answered by a BATCH, which erases its copies of all that is noted; it answers
 with CLEARED and has to ask again, as `join` does. A text without a delay is
 told the line to add.
+
+A save keeps the state under a name, 0 to 3, and replaces what had the name; a
+return restores it as often as you like, and leaves all saved states as they
+are. Places, names of messages and joins after a return go by what it restored.
+A name above 3, or one to return to that was never saved, is refused with 11.
 
 load reads note and setup alone. A seed, 0 to 4294967295, gives the same steps
 every time, at most 4000: load for the list of messages, restarts, offers and

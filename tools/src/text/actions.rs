@@ -10,8 +10,9 @@ use super::words::{quoted, Words, Wrong};
 use crate::names::{self, way, KINDS};
 use crate::vocabulary::plain;
 
-pub const FIRST_WORDS: [&str; 10] =
-    ["clock", "read", "ask", "write", "deliver", "lose", "double", "restart", "kind", "join"];
+pub const FIRST_WORDS: [&str; 12] = [
+    "clock", "read", "ask", "write", "deliver", "lose", "double", "restart", "save", "return", "kind", "join",
+];
 
 #[derive(Clone, Copy, Debug, PartialEq, Eq)]
 pub enum Action {

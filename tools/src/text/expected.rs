@@ -1,6 +1,6 @@
 //! What a text expects of a step, `=> shown 7`, read and written.
 
-use model::limits::{NO_NUMBER_LEFT, OBJECTS, UNSOUND};
+use model::limits::{NO_NUMBER_LEFT, NO_SUCH_NAME, OBJECTS, UNSOUND};
 
 use super::words::{quoted, Words, Wrong, ARROW};
 use crate::listed::Listed;
@@ -31,11 +31,18 @@ pub fn parse(words: &mut Words) -> Result<Option<Listed>, Wrong> {
         "shown" => Listed::shown(words.number("a value", 0, u64::MAX)?),
         "ask" => words.word("first").map(|()| Listed::ASK_FIRST)?,
         "completed" => Listed::completed(words.number("a number of writes", 1, OBJECTS as u64)?),
-        "refused" => {
-            Listed::refused(words.number("a refusal's number", UNSOUND.into(), NO_NUMBER_LEFT.into())?)
-        }
+        "refused" => refused(words)?,
         _ => return Err(Wrong::new(quoted(answer), AN_ANSWER)),
     };
     words.end()?;
     Ok(Some(expected))
+}
+
+/// Reads the number of a question that is asked of a step.
+fn refused(words: &mut Words) -> Result<Listed, Wrong> {
+    let expected = format!("a refusal's number: {UNSOUND} to {NO_NUMBER_LEFT}, or {NO_SUCH_NAME}");
+    let found = words.peek().map_or("the end of the line".into(), quoted);
+    let asked = |&number: &u64| number <= NO_NUMBER_LEFT.into() || number == NO_SUCH_NAME.into();
+    let number = words.number(&expected, UNSOUND.into(), NO_SUCH_NAME.into()).ok().filter(asked);
+    number.map(Listed::refused).ok_or(Wrong::new(found, expected))
 }

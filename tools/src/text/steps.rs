@@ -5,7 +5,8 @@ use model::step_record::*;
 use super::words::{quoted, Words, Wrong};
 use crate::vocabulary::plain;
 
-pub const A_STEP: &str = "a step: clock, read, ask, write, deliver, lose, double, restart, kind or join";
+pub const A_STEP: &str =
+    "a step: clock, read, ask, write, deliver, lose, double, restart, save, return, kind or join";
 
 /// Returns the line of a step without unused fields, as in any accepted run
 /// file. An unknown kind shows all its fields.
@@ -21,6 +22,8 @@ pub fn line(step: &Step) -> String {
         DOUBLE => format!("double {place}"),
         RESTART_SERVER => "restart server".into(),
         RESTART_CLIENT => format!("restart client {client}"),
+        SAVE => format!("save {place}"),
+        RETURN => format!("return {place}"),
         _ => format!("kind {kind} client {client} object {object} place {place} clock {clock} value {value}"),
     }
 }
@@ -35,6 +38,8 @@ pub fn parse(words: &mut Words) -> Result<Step, Wrong> {
         "lose" => Ok(Step::lose(place(words)?)),
         "double" => Ok(Step::double(place(words)?)),
         "restart" => restart(words),
+        "save" => Ok(Step::save(name(words)?)),
+        "return" => Ok(Step::return_to(name(words)?)),
         "kind" => unknown(words),
         first => Err(Wrong::new(quoted(first), A_STEP)),
     }
@@ -53,6 +58,11 @@ fn place(words: &mut Words) -> Result<u8, Wrong> {
     words.byte("a message as `GRANT to client 0`, or a place in the queue")
 }
 
+/// Reads the name of a saved state. One above 3 is a step that is refused.
+fn name(words: &mut Words) -> Result<u8, Wrong> {
+    words.byte("a number of the saved state")
+}
+
 fn restart(words: &mut Words) -> Result<Step, Wrong> {
     const WHO: &str = "`server` or `client`";
     let who = words.next(WHO)?;
@@ -67,8 +77,8 @@ fn restart(words: &mut Words) -> Result<Step, Wrong> {
 /// rejected here, since with an unused field set the run file would be refused.
 fn unknown(words: &mut Words) -> Result<Step, Wrong> {
     let kind = words.byte("a kind")?;
-    if (CLOCK..=RESTART_CLIENT).contains(&kind) {
-        return Err(Wrong::new(format!("`kind {kind}`"), "an unknown kind: 0, or 10 to 255"));
+    if (CLOCK..=RETURN).contains(&kind) {
+        return Err(Wrong::new(format!("`kind {kind}`"), "an unknown kind: 0, or 12 to 255"));
     }
     let (client, object) = (words.named_byte("client")?, words.named_byte("object")?);
     let place = words.named_byte("place")?;
