@@ -232,10 +232,7 @@ fn the_papers_words_and_the_time_are_used() {
 #[test]
 fn tables_have_the_notes_and_the_batch() {
     let scenario = scenario(&format!("{PARKED}write object 1 value 8\n{BATCH}"));
-    let see = |step: usize| {
-        at(&scenario, step, |moment| tables::print(moment.setup, moment.after, &moment.voice))
-            .expect("the step")
-    };
+    let see = |step: usize| at(&scenario, step, tables::after).expect("the step");
     let last = scenario.run.steps.len();
     let notes = "\
 server, notes

@@ -68,6 +68,8 @@ messages under way
   place  message
   0      INVALIDATE object 0 version 2 to client 1 (epoch 1)
   1      ACK object 0 version 2 from client 0 (epoch 1)
+
+saved states: none
 ";
     assert_eq!(String::from_utf8(ended.output).unwrap(), expected);
 }
@@ -92,7 +94,7 @@ fn marks_offers_requests_and_ends() {
 fn fresh_tables_are_before_the_first_step() {
     let output = String::from_utf8(explained(&["--tables", "0"]).output).unwrap();
     assert!(output.starts_with("clock 0\n\nserver, volumes\n"));
-    for empty in ["server, object leases", "clients, copies", "messages under way"] {
+    for empty in ["server, object leases", "clients, copies", "messages under way", "saved states"] {
         assert!(output.contains(&format!("\n{empty}: none\n")), "{output}");
     }
 }
@@ -123,7 +125,7 @@ fn generated_states_have_their_rows() {
         let run = &scenario.run;
         let Some((text, copies, queue)) = at(&scenario, run.steps.len() / 2, |moment| {
             let held = moment.after.copies(moment.setup).iter().filter(|copy| copy.version != 0).count();
-            (tables::print(moment.setup, moment.after, &moment.voice), held, moment.after.tables.queue.len)
+            (tables::after(moment), held, moment.after.tables.queue.len)
         }) else {
             continue;
         };

@@ -39,7 +39,7 @@ fn generated_runs_are_told_in_the_papers_words() {
         let mut last = String::new();
         paper.walk(|moment| {
             if moment.number % 50 == 0 {
-                last = tables::print(moment.setup, moment.after, &moment.voice);
+                last = tables::after(moment);
             }
         });
         assert!(!has_field_words(&last), "{last}");
@@ -174,7 +174,7 @@ fn explain_tells_the_time_beside_the_ticks() {
         assert_times(&told(&scenario));
         scenario.walk(|moment| {
             if moment.number % 20 == 0 {
-                assert_times_of_leases(&tables::print(moment.setup, moment.after, &moment.voice));
+                assert_times_of_leases(&tables::after(moment));
             }
         });
     }

@@ -2,7 +2,6 @@
 
 use std::process::ExitCode;
 
-use model::state::State;
 use tools::arguments::Arguments;
 use tools::command::{self, Failure};
 use tools::explain::{at, line_of, tables, told};
@@ -33,6 +32,11 @@ then, with the lesser of the two, else the guard, else the timeout. It also
 tells for whom it does not wait although they have an object lease: their volume
 lease has ended, and the object is noted for them, unless they are marked
 unreachable.
+
+A save tells what it keeps, and which save it replaces. A return tells the step
+that saved what it restores, what is otherwise again, the messages that are
+under way again, with their places, and the steps that it leaves behind: what
+follows goes on from the save. --tables ends with the saved states.
 
 The answers: done (0), shown V (1), ask first (2), completed N writes (3),
 refused N (4). Standard error ends with a line that counts the refused steps.
@@ -80,13 +84,12 @@ fn counted(input: &Input, scenario: &Scenario, output: Output) -> Output {
 
 fn tables_after(input: &Input, step: u64) -> Result<Output, Failure> {
     let scenario = input.scenario()?;
-    let (setup, voice) = (&scenario.run.setup, &scenario.voice);
     let see = |moment: &trace::Moment| {
         let line = line_of(&scenario, moment);
-        format!("after step {line}\n\n{}", tables::print(setup, moment.after, voice))
+        format!("after step {line}\n\n{}", tables::after(moment))
     };
     let text = match step {
-        0 => Some(tables::print(setup, &State::fresh(), voice)),
+        0 => Some(tables::fresh(&scenario.run.setup, &scenario.voice)),
         _ => at(&scenario, step as usize, see),
     };
     let steps = scenario.run.steps.len();

@@ -4,9 +4,8 @@ use std::fmt::Write;
 
 use model::gen::runs::Run;
 
-use super::reasons;
+use super::{reasons, saved};
 use crate::listed::Listed;
-use crate::names::placed;
 use crate::scenario::{Expectation, Scenario, Source};
 use crate::text::actions::Action;
 use crate::text::script::Line;
@@ -80,17 +79,16 @@ pub fn told(scenario: &Scenario) -> String {
     let mut lines = String::new();
     let source = scenario.source.as_ref();
     comments(&mut lines, source.map_or(&[], |source| &source.opening));
-    let mut under_way = Vec::new();
+    let mut under_way = None;
     scenario.walk(|moment| {
         step(&mut lines, scenario, moment);
         if moment.number == scenario.run.steps.len() {
-            let messages = moment.after.tables.queue.messages().iter().enumerate();
-            under_way.extend(messages.map(|(place, message)| placed(place, message)));
+            under_way = saved::under_way(moment.after);
         }
     });
     comments(&mut lines, source.map_or(&[], Source::closing));
-    if !under_way.is_empty() {
-        put(&mut lines, &scenario.voice.said(&format!("still under way: {}", under_way.join(", "))));
+    if let Some(messages) = under_way {
+        put(&mut lines, &scenario.voice.said(&format!("still under way: {messages}")));
     }
     if let Some(why) = source.and_then(Source::why_stopped) {
         put(&mut lines, &why);

@@ -5,6 +5,7 @@ mod delivery;
 mod lines;
 mod notes;
 mod refusal;
+mod saved;
 mod steps;
 mod table;
 pub mod tables;
@@ -55,6 +56,8 @@ fn plain_reasons(moment: &Moment) -> Vec<String> {
         (_, DOUBLE) => steps::double(moment),
         (_, RESTART_SERVER) => steps::restart_server(moment),
         (_, RESTART_CLIENT) => steps::restart_client(moment),
+        (_, SAVE) => saved::save(moment),
+        (_, RETURN) => saved::restore(moment),
         _ => Vec::new(),
     }
 }

@@ -1,15 +1,18 @@
 //! The table entry that shows why a step was refused. The model says which
 //! question was answered "no".
 
-use model::limits::{BAD_TIME, CLOCK_MAX, NO_NUMBER_LEFT, NO_SUCH_ITEM, UNKNOWN_KIND, WRITE_STANDS};
+use model::limits::{
+    BAD_TIME, CLOCK_MAX, NO_NUMBER_LEFT, NO_SUCH_ITEM, NO_SUCH_NAME, UNKNOWN_KIND, WRITE_STANDS,
+};
 use model::step_record::*;
 
+use super::saved;
 use crate::names::clients;
 use crate::trace::Moment;
 
 pub fn reasons(moment: &Moment, number: u8) -> Vec<String> {
     match number {
-        UNKNOWN_KIND => vec![format!("kind {} is not one of 1 to 9", moment.step.kind)],
+        UNKNOWN_KIND => vec![format!("kind {} is not one of 1 to 11", moment.step.kind)],
         NO_SUCH_ITEM => items(moment),
         BAD_TIME => {
             let (least, most) = (moment.before.tables.clock, CLOCK_MAX);
@@ -17,6 +20,7 @@ pub fn reasons(moment: &Moment, number: u8) -> Vec<String> {
             vec![format!("the time must be from {least} to {most}")]
         }
         WRITE_STANDS => vec![standing(moment)],
+        NO_SUCH_NAME => vec![saved::missing(moment)],
         NO_NUMBER_LEFT => vec!["a number that must grow is at its end".into()],
         _ => vec!["setup or tables are not sound".into()],
     }

@@ -7,10 +7,32 @@ use model::tables::alive;
 
 use super::table;
 use crate::names::{clients, objects, whole};
+use crate::trace::Moment;
 use crate::voice::Voice;
 
-/// Returns all tables of a state, one below the other.
-pub fn print(setup: &Setup, state: &State, voice: &Voice) -> String {
+/// Makes a row of numbers and words.
+macro_rules! row {
+    ($($cell:expr),+) => { vec![$($cell.to_string()),+] };
+}
+
+/// Returns all tables after a step, one below the other, and the saved states.
+pub fn after(moment: &Moment) -> String {
+    let saved: Vec<Vec<String>> = (0..)
+        .zip(moment.saved)
+        .filter_map(|(name, state)| {
+            let step = moment.lines.saved_in(name)?;
+            Some(row![name, step, moment.voice.ticks(state.as_ref()?.tables.clock)])
+        })
+        .collect();
+    tables(moment.setup, moment.after, &moment.voice, &saved)
+}
+
+/// Returns all tables before the first step.
+pub fn fresh(setup: &Setup, voice: &Voice) -> String {
+    tables(setup, &State::fresh(), voice, &[])
+}
+
+fn tables(setup: &Setup, state: &State, voice: &Voice, saved: &[Vec<String>]) -> String {
     let view = View { setup, state, voice };
     let parts = [
         format!("clock {}\n", voice.ticks(state.tables.clock)),
@@ -24,6 +46,7 @@ pub fn print(setup: &Setup, state: &State, voice: &Voice) -> String {
         view.client_volumes(),
         view.copies(),
         view.messages(),
+        view.table("saved states", &["name", "saved in step", "clock"], saved),
     ];
     parts.join("\n")
 }
@@ -32,11 +55,6 @@ struct View<'a> {
     setup: &'a Setup,
     state: &'a State,
     voice: &'a Voice,
-}
-
-/// Makes a row of numbers and words.
-macro_rules! row {
-    ($($cell:expr),+) => { vec![$($cell.to_string()),+] };
 }
 
 /// Returns "number 3", or "none" for 0.
