@@ -9,7 +9,7 @@ use std::path::Path;
 
 use boxes::style::Style;
 use boxes::{number, parts, Part, Shape};
-use common::example;
+use common::{example, with_returns};
 use model::answer::Answer;
 use model::gen::runs::{run, Run};
 use model::message::{Kind, Message};
@@ -34,14 +34,16 @@ fn examples() -> impl Iterator<Item = Run> {
     model::examples::all().into_iter().map(move |example| file(example.name))
 }
 
-/// Returns scenes and random steps, with small and large setups.
+/// Returns scenes and random steps, with small and large setups, and half of
+/// them with saved states.
 fn generated() -> impl Iterator<Item = Run> {
-    (2..50).map(|number| run(31, number))
+    let returning = (2..50).map(|number| with_returns(run(37, number)));
+    (2..50).map(|number| run(31, number)).chain(returning)
 }
 
 /// Returns scenes and random steps.
 fn long() -> impl Iterator<Item = Run> {
-    [run(32, 0), run(33, 51)].into_iter()
+    [run(32, 0), with_returns(run(33, 51))].into_iter()
 }
 
 /// Returns the timeline with the longest numbers. In 4,000 steps the numbers of
@@ -187,7 +189,7 @@ fn overlaid(lanes: &Part) -> Option<String> {
 /// A bar of notes that begins where the lease still lives would be found.
 #[test]
 fn notes_over_a_lease_are_found() {
-    let run = examples().last().unwrap();
+    let run = examples().nth(7).unwrap();
     let picture = svg(&run, whole(&Timeline::new(&run)));
     assert_eq!(overlaid(&lanes(&picture)), None);
     let (before, notes) = picture.split_once("<rect class=\"notes\" x=\"").unwrap();
@@ -223,7 +225,7 @@ fn the_longest_numbers_fit_too() {
 #[test]
 fn windows_are_readable() {
     for number in 2..20 {
-        let run = run(34, number);
+        let run = with_returns(run(34, number));
         let timeline = Timeline::new(&run);
         for from in (1..=run.steps.len()).step_by(17) {
             let window = Window { from, to: (from + 20).min(run.steps.len()) };
@@ -273,7 +275,7 @@ fn writes_name_whose_lease_fixes_their_end() {
 
 #[test]
 fn notes_name_their_objects_and_batch() {
-    let run = examples().last().unwrap();
+    let run = examples().nth(7).unwrap();
     let lanes = lanes(&svg(&run, whole(&Timeline::new(&run))));
     let told = ["volume 0 notes: object 0", "batch 3: 0", "volume 0 notes: object 0, batch 4"];
     assert_eq!(on_bars(&lanes, "notes"), told);
@@ -283,7 +285,7 @@ fn notes_name_their_objects_and_batch() {
 /// edge.
 #[test]
 fn bars_and_columns_differ_in_colour() {
-    let run = examples().last().unwrap();
+    let run = examples().nth(7).unwrap();
     let style = Style::of(&svg(&run, whole(&Timeline::new(&run))));
     let part =
         |class: &str, place: usize| i32::from_str_radix(&style.value(class, "fill")[place..place + 2], 16);
@@ -321,13 +323,15 @@ fn arrows(lanes: &Part) -> impl Iterator<Item = &Vec<String>> {
         .filter(|group| group.iter().any(|element| element.starts_with("<line class=\"arrow ")))
 }
 
+/// Except where a return leaves it behind, with any number of others.
 #[test]
 fn every_message_names_its_receiver() {
     for (place, run) in examples().chain(generated()).enumerate() {
         let timeline = Timeline::new(&run);
         let lanes = lanes(&svg(&run, whole(&timeline)));
         assert_eq!(arrows(&lanes).count(), timeline.flights.len());
-        for (number, flight) in timeline.flights.iter().enumerate() {
+        let goes_on = |flight: &Flight| !matches!(flight.end, End::Left(_));
+        for (number, flight) in timeline.flights.iter().enumerate().filter(|(_, flight)| goes_on(flight)) {
             let named = format!("{}</text>", receiver(&flight.message));
             let opens = format!("<g data-flight=\"{number}\"");
             let said: Vec<&String> =
@@ -376,7 +380,7 @@ fn every_mark_is_in_the_legend() {
         elements.map(|element| boxes::attribute(element, "class").unwrap().to_string()).collect()
     };
     let first = |class: &String| class.split(' ').next().unwrap().to_string();
-    let run = run(35, 50);
+    let run = with_returns(run(35, 50));
     let picture = svg(&run, whole(&Timeline::new(&run)));
     let legend = picture.rsplit_once("<svg class=\"signs\"").unwrap().1;
     let lanes = lanes(&picture);
@@ -391,5 +395,7 @@ fn every_mark_is_in_the_legend() {
     {
         assert!(legend.contains(&format!("class=\"{class}")), "{class}");
     }
-    assert!(drawn.contains("latest-rest") && drawn.contains("notes"), "{drawn:?}");
+    for class in ["latest-rest", "notes", "gap", "saved", "left-under-way", "under-way-again"] {
+        assert!(drawn.contains(class), "{class}: {drawn:?}");
+    }
 }

@@ -2,7 +2,7 @@
 
 mod common;
 
-use common::{example, run_program};
+use common::{example, run_program, with_returns};
 use model::gen::runs::{run, Run};
 use model::message::{Kind, Message};
 use tools::picture::layout::Window;
@@ -60,7 +60,7 @@ fn count(svg: &str, class: &str) -> usize {
 #[test]
 fn answers_are_the_models() {
     for number in 0..100 {
-        let run = run(21, number);
+        let run = with_returns(run(21, number));
         let picture = svg(&run, whole(&run));
         assert_well_formed(&picture);
         let listing = String::from_utf8(model::listing::listing(&run.file())).unwrap();
@@ -85,11 +85,11 @@ fn answers_are_the_models() {
 #[test]
 fn every_message_and_read_is_there() {
     for number in 2..50 {
-        let run = run(22, number);
+        let run = with_returns(run(22, number));
         let (picture, timeline) = (svg(&run, whole(&run)), Timeline::new(&run));
         let answered =
             |answer: u8| timeline.steps.iter().filter(|view| view.answer.numbers().0 == answer).count();
-        assert_eq!(count(&picture, "arrow "), timeline.flights.len() + 6, "run {number}");
+        assert_eq!(count(&picture, "arrow "), timeline.flights.len() + 8, "run {number}");
         assert_eq!(count(&picture, "shown\""), answered(1) + 1);
         assert_eq!(count(&picture, "ask-first\""), answered(2) + 1);
         assert_eq!(count(&picture, "refused\""), 2 * (answered(4) + 1));

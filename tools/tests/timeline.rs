@@ -1,8 +1,11 @@
 //! The timeline of generated runs, compared with the model's tables at each
 //! step.
 
+mod common;
+
 use std::collections::BTreeMap;
 
+use common::with_returns;
 use model::gen::runs::{run, Run};
 use tools::timeline::flights::{End, Flights};
 use tools::timeline::tracks::Track;
@@ -12,10 +15,10 @@ use tools::trace::walk;
 /// The flights under way are the model's queue, in order.
 #[test]
 fn flights_follow_the_queue() {
-    let mut ends = [0; 4];
+    let mut ends = [0; 5];
     for number in 0..200 {
         let mut flights = Flights::default();
-        walk(&run(5, number), |moment| {
+        walk(&with_returns(run(5, number)), |moment| {
             flights.follow(moment);
             assert!(flights.queue().eq(moment.after.tables.queue.messages().iter().copied()));
         });
@@ -25,6 +28,7 @@ fn flights_follow_the_queue() {
                 End::Delivered(_) => 1,
                 End::Lost(_) => 2,
                 End::QueueFull => 3,
+                End::Left(_) => 4,
             }] += 1;
         }
     }
@@ -35,7 +39,7 @@ fn flights_follow_the_queue() {
 #[test]
 fn flights_know_when_they_are_under_way() {
     for number in 2..50 {
-        let run = run(9, number);
+        let run = with_returns(run(9, number));
         let flights = Timeline::new(&run).flights;
         walk(&run, |moment| {
             let under_way = flights.iter().filter(|flight| flight.under_way_after(moment.number));
@@ -77,7 +81,7 @@ fn messages_to_a_full_queue_are_noted() {
 #[test]
 fn spans_cover_what_the_tables_hold() {
     for number in (0..100).filter(|number| number % 50 > 1) {
-        let run = run(6, number);
+        let run = with_returns(run(6, number));
         let timeline = Timeline::new(&run);
         walk(&run, |moment| {
             let covers = |from: usize, to: Option<usize>| {
@@ -122,7 +126,7 @@ fn notes_are_the_servers() {
 #[test]
 fn steps_have_the_models_answers() {
     for number in 0..60 {
-        let run = run(8, number);
+        let run = with_returns(run(8, number));
         let mut listing = String::from("step answer value\n");
         for (place, view) in Timeline::new(&run).steps.iter().enumerate() {
             let (answer, value) = view.answer.numbers();

@@ -3,7 +3,7 @@
 
 use super::about::About;
 use super::layout::{Layout, COLUMN};
-use super::paths::{Path, Shown};
+use super::paths::{Path, Shown, RING};
 use super::svg::{at, Point, Svg};
 use super::tiles::{Taken, Tile};
 use super::words::flight_title;
@@ -14,7 +14,6 @@ use crate::timeline::Timeline;
 pub const LONG: f64 = 8.0 * COLUMN;
 const HEAD: f64 = 9.0;
 const HALF_HEAD: f64 = 3.4;
-const RING: f64 = 3.0;
 const CROSS: f64 = 4.5;
 const DIAMOND: f64 = 5.0;
 /// As far as rounding moves two corners towards each other.
@@ -36,7 +35,8 @@ pub fn draw(timeline: &Timeline, layout: &Layout, shown: &[Shown], taken: &mut T
 fn arrow(svg: &mut Svg, taken: &mut Taken, one: &Shown, under_way: bool) {
     let (flight, path) = (one.flight, &one.path);
     let kind = names::kind(&flight.message.kind).to_lowercase();
-    let lost = !under_way && !matches!(flight.end, End::Delivered(_));
+    let left = !under_way && matches!(flight.end, End::Left(_));
+    let lost = !under_way && matches!(flight.end, End::Lost(_) | End::QueueFull | End::UnderWay);
     let style = match (lost, flight.copy_of) {
         (true, _) => " lost",
         (_, Some(_)) => " copied",
@@ -45,8 +45,9 @@ fn arrow(svg: &mut Svg, taken: &mut Taken, one: &Shown, under_way: bool) {
     let long = if path.to.x - path.from.x > LONG { " long" } else { "" };
     svg.line(&format!("arrow {kind}{style}{long}"), path.from, path.to);
     if under_way {
-        svg.circle(&format!("under-way {kind}"), path.to, RING);
-        taken.take(Tile::around(path.to, RING + 1.0));
+        ring(svg, taken, &format!("under-way {kind}"), path.to);
+    } else if left {
+        ring(svg, taken, &format!("left-under-way {kind}"), path.to);
     } else if lost {
         svg.cross("lost-mark", path.to, CROSS);
         taken.take(Tile::around(path.to, CROSS + 1.0));
@@ -56,6 +57,14 @@ fn arrow(svg: &mut Svg, taken: &mut Taken, one: &Shown, under_way: bool) {
     if flight.copy_of.is_some() {
         diamond(svg, taken, &kind, path.from);
     }
+    if flight.again {
+        ring(svg, taken, &format!("under-way-again {kind}"), path.from);
+    }
+}
+
+fn ring(svg: &mut Svg, taken: &mut Taken, class: &str, middle: Point) {
+    svg.circle(class, middle, RING);
+    taken.take(Tile::around(middle, RING + 1.0));
 }
 
 fn head(svg: &mut Svg, taken: &mut Taken, kind: &str, path: &Path) {

@@ -3,7 +3,7 @@
 use model::step_record::CLOCK;
 
 use super::about::About;
-use super::layout::{row, Layout, COLUMN};
+use super::layout::{row, Layout, BREAK, COLUMN};
 use super::letters::{width, LABEL};
 use super::svg::{at, Point, Svg, LEVEL};
 use super::tiles::{tries, Taken, Tile};
@@ -27,7 +27,7 @@ pub struct Bar {
 impl Bar {
     /// Returns the part of a span that the window shows, if any.
     fn of(timeline: &Timeline, layout: &Layout, span: &Span) -> Option<Bar> {
-        let (from, to) = (done(timeline, layout, span.from), end(timeline, layout, span));
+        let (from, to) = (begin(timeline, layout, span), end(timeline, layout, span));
         let top = layout.row(span.track).filter(|_| layout.shows(from, to))?;
         Some(Bar { top, from, to: to.min(layout.width) })
     }
@@ -122,8 +122,18 @@ fn done(timeline: &Timeline, layout: &Layout, step: usize) -> f64 {
     }
 }
 
+/// Returns where a bar begins: for one that a return put there, right of the
+/// gap.
+pub fn begin(timeline: &Timeline, layout: &Layout, span: &Span) -> f64 {
+    match timeline.step(span.from).restored {
+        Some(_) => layout.x(span.from) + BREAK,
+        None => done(timeline, layout, span.from),
+    }
+}
+
 /// Returns where a bar ends. If its time runs out inside a clock step, it ends
-/// inside that column; writes and notes end only when a step ends them.
+/// inside that column; writes and notes end only when a step ends them. A
+/// return ends every bar, left of the gap.
 fn end(timeline: &Timeline, layout: &Layout, span: &Span) -> f64 {
     let Some(step) = span.to else {
         return layout.left(timeline.steps.len() + 1);
@@ -131,6 +141,7 @@ fn end(timeline: &Timeline, layout: &Layout, span: &Span) -> f64 {
     let by_step = matches!(span.track, Track::Write(_) | Track::Notes(..));
     match timeline.passed(step, span.detail.until) {
         Some(part) if !by_step => layout.left(step) + part * COLUMN,
+        _ if timeline.step(step).restored.is_some() => layout.x(step) - BREAK,
         _ => done(timeline, layout, step),
     }
 }

@@ -64,6 +64,9 @@ function reroute(groups) {
   return lowest + 11;
 }
 
+// The marks where a message begins.
+const BEGINNINGS = '.doubled, .under-way-again';
+
 // Returns where a message begins: a copy between two lanes, any other on a
 // line.
 function beginning(group, y) {
@@ -90,9 +93,9 @@ function free(x, y, angle, from, wide, across) {
 }
 
 // Keeps room for the head, cross or ring at the end of a path, and for the
-// diamond where a copy begins.
-function keepClear({ x1, x2, fromY, toY, copy }) {
-  for (const [x, y] of [[x2, toY], ...(copy ? [[x1, fromY]] : [])]) {
+// diamond or ring where a copy or a message under way again begins.
+function keepClear({ x1, x2, fromY, toY, marked }) {
+  for (const [x, y] of [[x2, toY], ...(marked ? [[x1, fromY]] : [])]) {
     for (const right of [-8, 0, 8]) [-8, 0, 8].forEach(down => worded.add(cell(x + right, y + down)));
   }
 }
@@ -104,7 +107,7 @@ function turn(group, toY) {
   const [x1, y1, x2, y2] = ['x1', 'y1', 'x2', 'y2'].map(name => +drawn.get(arrow)[name]);
   const fromY = beginning(group, y1);
   const way = { x1, y1, x2, fromY, toY, was: Math.atan2(y2 - y1, x2 - x1), is: Math.atan2(toY - fromY, x2 - x1),
-    length: Math.hypot(toY - fromY, x2 - x1), copy: group.querySelector('.doubled'), labels: [] };
+    length: Math.hypot(toY - fromY, x2 - x1), marked: group.querySelector(BEGINNINGS), labels: [] };
   arrow.setAttribute('y1', fromY);
   arrow.setAttribute('y2', toY);
   const words = said.get(group.dataset.flight)?.children ?? [];
@@ -116,7 +119,7 @@ function turn(group, toY) {
       const tip = `translate(${x2} ${toY}) rotate(${degrees(way.is - way.was)})`;
       element.setAttribute('transform', `${tip} translate(${-x2} ${-y2})`);
     } else {
-      element.setAttribute('transform', `translate(0 ${name.startsWith('doubled') ? fromY - y1 : toY - y2})`);
+      element.setAttribute('transform', `translate(0 ${element.matches(BEGINNINGS) ? fromY - y1 : toY - y2})`);
     }
   }
   return way;

@@ -51,7 +51,11 @@ fn step(view: &StepView, voice: &Voice) -> String {
 /// Returns what a column says. An expectation stands beside the answer, in red
 /// if it failed.
 fn words(view: &StepView, voice: &Voice) -> [String; 3] {
-    let message = view.message.as_ref().map_or(String::new(), names::label);
+    let message = match (&view.message, view.restored) {
+        (Some(message), _) => names::label(message),
+        (None, Some(saved)) => format!("saved in step {saved}"),
+        (None, None) => String::new(),
+    };
     let answer = view.expectation.map_or_else(|| explain::answer(&view.answer), |expected| expected.words());
     [step(view, voice), voice.said(&message), answer]
 }
@@ -71,6 +75,9 @@ pub fn draw(timeline: &Timeline, layout: &Layout, height: f64, svg: &mut Svg) {
     for number in layout.window.from..=layout.window.to {
         let (view, x) = (timeline.step(number), layout.x(number));
         column(svg, view, layout.left(number), height);
+        if view.left {
+            svg.rect("left-behind", at(layout.left(number), 0.0), COLUMN, height);
+        }
         svg.titled(&view.line, About::step(view), |svg| {
             let answer = if view.failed() { "failed" } else { answered(view) };
             let answer = format!("answer {answer}-text");
@@ -118,7 +125,7 @@ fn fitted(svg: &mut Svg, class: &str, spot: Point, words: &str) {
 /// Draws a column's background. Time passes only in the columns of clock steps;
 /// refused steps are red, and failed expectations redder.
 pub fn column(svg: &mut Svg, view: &StepView, left: f64, height: f64) {
-    if view.clock != view.clock_before {
+    if view.passes_time() {
         svg.rect("time", at(left, 0.0), COLUMN, height);
     }
     if matches!(view.answer, Answer::Refused(_)) {

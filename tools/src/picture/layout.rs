@@ -24,6 +24,8 @@ use crate::voice::Voice;
 
 pub const COLUMN: f64 = 48.0;
 pub const ROW: f64 = 21.0;
+/// Half of the gap in all lanes at a return.
+pub const BREAK: f64 = 4.0;
 /// From the server's line down to the first client's: room for a label along
 /// the steepest arrow.
 const FALL: f64 = 132.0;
@@ -155,11 +157,14 @@ impl Layout {
     /// Returns where a message ends that does not reach its receiver's line.
     pub fn short(&self, message: &Message) -> f64 {
         let (sender, receiver) = self.ends(message);
-        if receiver > sender {
-            receiver - SHORT
-        } else {
-            receiver + SHORT
-        }
+        receiver - SHORT * (receiver - sender).signum()
+    }
+
+    /// Returns where a message begins that a return puts under way again: its
+    /// sender does not send it now.
+    pub fn begun(&self, message: &Message) -> f64 {
+        let (sender, receiver) = self.ends(message);
+        sender + SHORT * (receiver - sender).signum()
     }
 
     /// Returns the line that words beside a lane's line stand on.

@@ -1,6 +1,7 @@
 //! The legend: what the marks mean, in as many rows as the width needs.
 
 use super::letters::{width, WORDS};
+use super::marks::{flag, gap};
 use super::svg::{at, Svg};
 use crate::voice::Voice;
 
@@ -10,7 +11,7 @@ pub const SIGN: f64 = 34.0;
 /// Draws a sign in the room from x on, around the middle line y.
 type Sign = fn(&mut Svg, f64, f64);
 
-const SIGNS: [(&str, Sign); 23] = [
+const SIGNS: [(&str, Sign); 27] = [
     ("ask", |svg, x, y| svg.circle("asked", at(x + 14.0, y), 3.0)),
     ("read shown, with its value", |svg, x, y| svg.circle("shown", at(x + 14.0, y), 6.0)),
     ("ask first", |svg, x, y| {
@@ -21,6 +22,12 @@ const SIGNS: [(&str, Sign); 23] = [
     ("column of a failed expectation", |svg, x, y| svg.rect("failure", at(x, y - 7.0), 28.0, 14.0)),
     ("column of a clock step: time passes", |svg, x, y| svg.rect("time", at(x, y - 7.0), 28.0, 14.0)),
     ("restart", |svg, x, y| svg.line("restart", at(x + 14.0, y - 7.0), at(x + 14.0, y + 7.0))),
+    ("save, with its name", |svg, x, y| {
+        svg.line("save", at(x + 14.0, y - 10.0), at(x + 14.0, y + 10.0));
+        svg.shape("saved", &flag(at(x + 14.0, y)));
+    }),
+    ("return: all lanes begin anew with what was saved", |svg, x, y| gap(svg, at(x + 14.0, y - 9.0), 18.0)),
+    ("steps left behind by a return", |svg, x, y| svg.rect("left-behind", at(x, y - 7.0), 28.0, 14.0)),
     ("volume lease of the client", |svg, x, y| svg.rect("volume-lease", at(x, y - 5.5), 28.0, 11.0)),
     ("object lease of the client", |svg, x, y| svg.rect("object-lease", at(x, y - 5.5), 28.0, 11.0)),
     ("copy held", |svg, x, y| svg.line("copy", at(x, y), at(x + 28.0, y))),
@@ -57,6 +64,13 @@ const SIGNS: [(&str, Sign); 23] = [
     ("still under way, with its place in the queue", |svg, x, y| {
         svg.line("arrow renew", at(x, y), at(x + 22.0, y));
         svg.circle("under-way renew", at(x + 25.0, y), 3.0);
+    }),
+    ("under way when a return came; under way again after it", |svg, x, y| {
+        svg.line("arrow renew", at(x, y), at(x + 7.0, y));
+        svg.circle("left-under-way renew", at(x + 7.0, y), 3.0);
+        gap(svg, at(x + 14.0, y - 9.0), 18.0);
+        svg.line("arrow renew", at(x + 21.0, y), at(x + 28.0, y));
+        svg.circle("under-way-again renew", at(x + 21.0, y), 3.0);
     }),
 ];
 

@@ -62,14 +62,15 @@ impl Listing {
     }
 
     /// Writes a step, with what it is about, its kind of answer, the outcome of
-    /// its expectation and the y of its lane.
+    /// its expectation, whether it was left behind, and the y of its lane.
     fn step(&mut self, number: usize, view: &StepView, behind: Option<&str>, layout: &Layout) {
         let (about, answer, lane) = (About::step(view), answered(view), n(layout.lane(view)));
         let expected =
             view.expectation.map_or(String::new(), |_| format!(" data-expected=\"{}\"", held(view)));
         let behind = behind.map_or(String::new(), comment);
+        let left = if view.left { " data-left" } else { "" };
         self.put(&format!(
-            "<p data-step=\"{number}\"{about} data-answer=\"{answer}\"{expected} \
+            "<p data-step=\"{number}\"{about} data-answer=\"{answer}\"{expected}{left} \
              data-lane=\"{lane}\">{}{behind}</p>",
             told(view)
         ));

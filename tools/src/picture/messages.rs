@@ -111,12 +111,12 @@ fn at_end(layout: &Layout, one: &Shown) -> Option<Label> {
 }
 
 /// Returns a point beside the receiver's line, in the column of the step that
-/// ended the flight.
+/// ended the flight. A return leaves any number of them, all in one column.
 fn name_at_end(layout: &Layout, flight: &Flight) -> Option<Point> {
     let step = match flight.end {
         End::Delivered(step) | End::Lost(step) => step,
         End::QueueFull => flight.sent,
-        End::UnderWay => return None,
+        End::UnderWay | End::Left(_) => return None,
     };
     let (_, receiver) = layout.ends(&flight.message);
     layout.window.holds(step).then(|| at(layout.x(step), layout.beside(receiver)))

@@ -1,8 +1,11 @@
 //! The path of each message through the picture.
 
-use super::layout::Layout;
+use super::layout::{Layout, BREAK};
 use super::svg::{at, Point};
 use crate::timeline::flights::{End, Flight};
+
+/// The radius of the ring at a message under way.
+pub const RING: f64 = 3.0;
 
 #[derive(Clone, Copy)]
 pub struct Path {
@@ -63,9 +66,12 @@ fn all(layout: &Layout, flights: &[Flight]) -> Vec<Path> {
 }
 
 /// Returns where a path begins. A copy branches off from the message that it is
-/// a copy of.
+/// a copy of; one under way again begins right of the return.
 fn from(layout: &Layout, paths: &[Path], flight: &Flight) -> Point {
     let (x, (sender, _)) = (layout.x(flight.sent), layout.ends(&flight.message));
+    if flight.again {
+        return at(x + BREAK + RING, layout.begun(&flight.message));
+    }
     flight.copy_of.map_or(at(x, sender), |original| paths[original].at_x(x))
 }
 
@@ -79,6 +85,7 @@ fn to(layout: &Layout, place: usize, flight: &Flight, from: Point) -> Point {
     match flight.end {
         End::Delivered(step) => at(layout.x(step), layout.ends(&flight.message).1),
         End::Lost(step) => at(layout.x(step), short),
+        End::Left(step) => at(layout.x(step) - BREAK - RING, short),
         End::QueueFull => at(from.x + 14.0, short),
         // Sent after the window.
         End::UnderWay => at(from.x, short),

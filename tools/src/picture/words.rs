@@ -59,13 +59,15 @@ pub fn queued(voice: &Voice, place: usize, message: &Message) -> String {
 pub fn flight_title(timeline: &Timeline, flight: &Flight) -> String {
     let what = timeline.voice.said(&names::whole(&flight.message, &timeline.voice));
     let line = |step: usize| &timeline.step(step).line;
-    let begin = match flight.copy_of {
-        Some(_) => format!("copied by step {}", line(flight.sent)),
-        None => format!("sent by step {}", line(flight.sent)),
+    let begin = match (flight.copy_of, flight.again) {
+        (Some(_), _) => format!("copied by step {}", line(flight.sent)),
+        (None, true) => format!("under way again since step {}", line(flight.sent)),
+        (None, false) => format!("sent by step {}", line(flight.sent)),
     };
     let end = match flight.end {
         End::Delivered(step) => format!("received in step {}", line(step)),
         End::Lost(step) => format!("lost by step {}", line(step)),
+        End::Left(step) => format!("left behind by step {}", line(step)),
         End::QueueFull => "lost at once: the queue was full".into(),
         End::UnderWay => "still under way at the end".into(),
     };
@@ -74,8 +76,7 @@ pub fn flight_title(timeline: &Timeline, flight: &Flight) -> String {
 
 /// Returns what fixes a write's latest end.
 fn by(timeline: &Timeline, write: &Span, words: fn(&Cause) -> String) -> String {
-    let cause = timeline.step(write.from).cause.as_ref();
-    format!("by {}", words(cause.expect("a write's span begins where it is opened")))
+    format!("by {}", words(timeline.cause(write)))
 }
 
 /// Returns a bar's labels, from the fullest to the shortest.

@@ -12,6 +12,8 @@ pub enum End {
     UnderWay,
     Delivered(usize),
     Lost(usize),
+    /// Still in the queue when a return restored another.
+    Left(usize),
     /// Sent to a full queue: lost at once.
     QueueFull,
 }
@@ -19,8 +21,10 @@ pub enum End {
 #[derive(Clone, Copy, Debug, PartialEq, Eq)]
 pub struct Flight {
     pub message: Message,
-    /// The step that sent or doubled it.
+    /// The step that sent or doubled it, or the return that put it under way
+    /// again.
     pub sent: usize,
+    pub again: bool,
     /// The index in the list of flights of the message that this is a copy of.
     pub copy_of: Option<usize>,
     pub end: End,
@@ -30,7 +34,7 @@ impl Flight {
     pub fn under_way_after(&self, step: usize) -> bool {
         let ended = match self.end {
             End::UnderWay => false,
-            End::Delivered(end) | End::Lost(end) => end <= step,
+            End::Delivered(end) | End::Lost(end) | End::Left(end) => end <= step,
             End::QueueFull => true,
         };
         self.sent <= step && !ended
@@ -51,6 +55,9 @@ impl Flights {
         if moment.refused() {
             return;
         }
+        if moment.restored().is_some() {
+            return self.restore(moment);
+        }
         let place = usize::from(moment.step.place);
         let copy_of = (moment.step.kind == DOUBLE).then(|| self.under_way[place]);
         if moment.taken().is_some() {
@@ -58,13 +65,27 @@ impl Flights {
             let flight = self.under_way.remove(place);
             self.all[flight].end = end(moment.number);
         }
-        for message in moment.sent() {
+        let (sent, again) = (moment.number, false);
+        for &message in moment.sent() {
             self.under_way.push(self.all.len());
-            self.all.push(Flight { message: *message, sent: moment.number, copy_of, end: End::UnderWay });
+            self.all.push(Flight { message, sent, again, copy_of, end: End::UnderWay });
         }
         for message in turned_away(moment) {
-            self.all.push(Flight { message, sent: moment.number, copy_of, end: End::QueueFull });
+            self.all.push(Flight { message, sent, again, copy_of, end: End::QueueFull });
         }
+    }
+
+    /// Ends what was under way, and begins anew with what was when the state was
+    /// saved.
+    fn restore(&mut self, moment: &Moment) {
+        let (sent, again, copy_of) = (moment.number, true, None);
+        for flight in self.under_way.drain(..) {
+            self.all[flight].end = End::Left(sent);
+        }
+        let restored = moment.after.tables.queue.messages().iter();
+        self.under_way.extend(self.all.len()..self.all.len() + restored.len());
+        let flight = |&message| Flight { message, sent, again, copy_of, end: End::UnderWay };
+        self.all.extend(restored.map(flight));
     }
 
     /// Returns the messages under way, in queue order.

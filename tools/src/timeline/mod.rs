@@ -10,17 +10,19 @@ use model::answer::Answer;
 use model::gen::runs::Run;
 use model::message::Message;
 use model::setup::Setup;
-use model::step_record::{Step, DELIVER, DOUBLE, LOSE};
+use model::step_record::{Step, CLOCK, DELIVER, DOUBLE, LOSE};
 
 use crate::check::verdict;
 use crate::explain;
 use crate::latest_end::{self, Cause};
+use crate::line::Lines;
 use crate::scenario::{Expectation, Scenario, Source};
 use crate::text::steps;
 use crate::trace::Moment;
 use crate::voice::Voice;
 use flights::{Flight, Flights};
 use spans::{Span, Spans};
+use tracks::Track;
 
 pub struct StepView {
     pub step: Step,
@@ -39,6 +41,12 @@ pub struct StepView {
     /// The number of its line in the text.
     pub text_line: Option<usize>,
     pub expectation: Option<Expectation>,
+    /// The step that saved the state which the step restored, for a return that
+    /// was not refused.
+    pub restored: Option<usize>,
+    /// Whether a return has left the step behind: it is not on the line to the
+    /// end of the run.
+    pub left: bool,
 }
 
 impl StepView {
@@ -58,7 +66,15 @@ impl StepView {
             ),
             text_line: line.map(|line| line.number),
             expectation: scenario.expectation(moment.number),
+            restored: moment.restored(),
+            left: false,
         }
+    }
+
+    /// Returns whether time passes in the step. A return moves the clock, too,
+    /// but no time passes.
+    pub fn passes_time(&self) -> bool {
+        self.step.kind == CLOCK && self.clock != self.clock_before
     }
 
     /// Returns whether something else was expected of it.
@@ -78,6 +94,7 @@ pub struct Timeline {
     pub steps: Vec<StepView>,
     pub flights: Vec<Flight>,
     pub spans: Vec<Span>,
+    lines: Lines,
 }
 
 impl Timeline {
@@ -89,12 +106,16 @@ impl Timeline {
     pub fn of(scenario: &Scenario) -> Timeline {
         let mut steps = Vec::with_capacity(scenario.run.steps.len());
         let mut flights = Flights::default();
-        let mut spans = Spans::default();
+        let (mut spans, mut lines) = (Spans::default(), Lines::default());
         scenario.walk(|moment| {
             flights.follow(moment);
-            spans.follow(moment.number, tracks::of(moment.setup, moment.after));
+            let now = tracks::of(moment.setup, moment.after);
+            spans.follow(moment.number, moment.restored().is_some(), now);
+            lines.follow(&moment.step, moment.refused());
             steps.push(StepView::of(scenario, moment));
         });
+        let on_line = lines.on_line(steps.len());
+        steps.iter_mut().zip(on_line).for_each(|(view, on_line)| view.left = !on_line);
         Timeline {
             setup: scenario.run.setup,
             voice: scenario.voice,
@@ -103,6 +124,7 @@ impl Timeline {
             steps,
             flights: flights.all,
             spans: spans.whole(),
+            lines,
         }
     }
 
@@ -111,14 +133,28 @@ impl Timeline {
         &self.steps[number - 1]
     }
 
+    /// Returns what fixes the latest end of a write. If a return put it there
+    /// again, the step that opened it is the last one that did so on its line.
+    pub fn cause(&self, write: &Span) -> &Cause {
+        let Track::Write(object) = write.track else { unreachable!("a write's span") };
+        let mut line = self.lines.back_from(write.from).map(|step| self.step(step));
+        let opened = line.find(|view| opens(view, object)).and_then(|view| view.cause.as_ref());
+        opened.expect("a step on the line opened the write")
+    }
+
     /// Returns where in a step's column a time lies: from 0, the clock before
     /// it, to 1, the clock that it set. Nothing for a time that the step did
     /// not pass.
     pub fn passed(&self, number: usize, time: u32) -> Option<f64> {
         let view = self.step(number);
-        let inside = view.clock_before < time && time <= view.clock;
+        let inside = view.passes_time() && view.clock_before < time && time <= view.clock;
         inside.then(|| f64::from(time - view.clock_before) / f64::from(view.clock - view.clock_before))
     }
+}
+
+/// Returns whether the step opened a write of the object.
+fn opens(view: &StepView, object: usize) -> bool {
+    view.cause.is_some() && usize::from(view.step.object) == object
 }
 
 fn message(moment: &Moment) -> Option<Message> {

@@ -21,11 +21,11 @@ pub struct Spans {
 
 impl Spans {
     /// Follows the spans through one step, after which `now` is there. To be
-    /// called for each step in turn.
-    pub fn follow(&mut self, step: usize, now: BTreeMap<Track, Detail>) {
+    /// called for each step in turn. At a return all of them begin anew.
+    pub fn follow(&mut self, step: usize, returns: bool, now: BTreeMap<Track, Detail>) {
         let ended = &mut self.ended;
         self.open.retain(|track, span| {
-            let lasts = now.get(track) == Some(&span.detail);
+            let lasts = !returns && now.get(track) == Some(&span.detail);
             if !lasts {
                 ended.push(Span { to: Some(step), ..*span });
             }

@@ -1,4 +1,4 @@
-//! The examples' files, and programs run on bytes.
+//! The examples' files, runs with saved states, and programs run on bytes.
 #![allow(dead_code)]
 
 use std::fs;
@@ -6,12 +6,38 @@ use std::io::Write;
 use std::path::{Path, PathBuf};
 use std::process::{Command, Stdio};
 
+use model::gen::rng::Rng;
+use model::gen::runs::Run;
+use model::limits::{FILE_BYTES, STEPS};
+use model::runfile::distance;
+use model::step_record::Step;
+
 pub fn example_path(name: &str) -> PathBuf {
     Path::new(env!("CARGO_MANIFEST_DIR")).join("../examples").join(name)
 }
 
 pub fn example(name: &str) -> Vec<u8> {
     fs::read(example_path(name)).unwrap_or_else(|error| panic!("{name}: {error}"))
+}
+
+/// Returns the run with saves and returns among its steps, some with a name that
+/// is not there.
+pub fn with_returns(mut run: Run) -> Run {
+    let mut rng = Rng::new(run.steps.len() as u64);
+    let mut steps = Vec::new();
+    for step in run.steps {
+        steps.push(step);
+        let name = rng.pick(&[0, 0, 0, 1, 1, 2, 3, 4]);
+        steps.extend(match rng.below(20) {
+            0 | 1 => Some(Step::save(name)),
+            2 => Some(Step::return_to(name)),
+            _ => None,
+        });
+    }
+    steps.truncate(STEPS);
+    run.note.truncate(FILE_BYTES - distance(steps.len()));
+    run.steps = steps;
+    run
 }
 
 pub struct Ended {
