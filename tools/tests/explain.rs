@@ -2,7 +2,7 @@
 
 mod common;
 
-use common::{example, run_program};
+use common::{example, run_program, with_returns};
 use model::gen::runs::{run, Run};
 use tools::explain::listing;
 use tools::text::{from_file, parse};
@@ -40,7 +40,7 @@ fn holds(run: &Run) -> String {
 fn generated_runs_get_the_models_answers() {
     let mut without = 0;
     for number in 0..200 {
-        for line in holds(&run(11, number)).lines() {
+        for line in holds(&with_returns(run(11, number))).lines() {
             assert!(!line.contains(": ;") && !line.contains("; ;") && !line.ends_with([' ', ':']), "{line}");
             let reasons = line.split(": ").count() > 2;
             assert!(reasons || line.contains(" clock "), "{line}");
@@ -82,6 +82,12 @@ fn each_example_tells_why() {
             "51 (clock 5) deliver 1: done: DROPPED 1 from client 1 (volume 0, epoch 1); nothing: no offer stands",
         ),
         (
+            "8-left-behind",
+            "30 (clock 4) return 0: done: restores what step 17 saved: clock 4 (was 9), 1 message under way, no standing \
+             write; object 0 is 0 again, version 1; 2 copies change; under way again: 0 RENEW 3 from client 1 object 0; \
+             leaves behind steps 18 to 29",
+        ),
+        (
             "6-never-held",
             "17 (clock 9) write object 0 value 7: done: stands, latest end 12 by the timeout; waits for client 0; sends \
              INVALIDATE object 0 version 2 to client 0 at place 0",
@@ -103,7 +109,7 @@ fn refusals_name_what_is_there() {
         "3 (clock 0) read client 2 object 0: refused 3: no such item: client 2 of 2, object 0 of 1, counted from 0"
     );
     assert_eq!(lines[1], "4 (clock 0) deliver 1: refused 3: no such item: place 1 of 1, counted from 0");
-    assert!(lines[2].ends_with(": refused 2: kind 77 is not one of 1 to 9"));
+    assert!(lines[2].ends_with(": refused 2: kind 77 is not one of 1 to 11"));
 }
 
 #[test]

@@ -1,6 +1,6 @@
 //! The runs in the repository's examples folder: 01's own, one for each line of
-//! the customer's test sheet, the notice desk's of 02, A3, and the parked
-//! client's of A6.
+//! the customer's test sheet, the notice desk's of 02, A3, the parked client's of
+//! A6, and a branch left behind, of A7.
 
 use crate::gen::runs::Run;
 use crate::gen::setups::sized;
@@ -22,6 +22,7 @@ pub fn all() -> Vec<Example> {
         example("5-old-messages", "line 5 of the sheet", (4, 1, 4), old_messages()),
         example("6-never-held", "request A3, the notice desk", (2, 1, 2), never_held()),
         parked(),
+        example("8-left-behind", "request A7, a branch left behind", (2, 1, 1), left_behind()),
     ]
 }
 
@@ -143,4 +144,18 @@ fn parked() -> Example {
     let mut example = example("7-parked", "request A6, a parked dash", (2, 1, 2), steps);
     example.run.setup.delay = 100;
     example
+}
+
+/// The RENEW of client 1 is under way when the state is saved. On the branch it
+/// arrives, an object is written and the clock goes on; after the return it is
+/// under way again, and lost. There each read, clock step and loss shows one
+/// part that is restored.
+fn left_behind() -> Vec<Step> {
+    let d = Step::deliver;
+    let saved = [Step::clock(4), Step::ask(1, 0), Step::save(0), d(0), d(0)];
+    let write = |value| [Step::write(0, value), d(0), d(0), d(0), d(0)];
+    let granted = |client| [Step::ask(client, 0), d(0), d(0), Step::read(client, 0)];
+    let back = [Step::clock(9), Step::return_to(0), Step::read(0, 0), Step::clock(4), Step::lose(0)];
+    let branch = [&saved[..], &write(7), &granted(0), &back].concat();
+    [&hold(0, 0, 0)[..], &hold(1, 0, 0), &branch, &write(9), &granted(1), &[Step::return_to(1)]].concat()
 }
