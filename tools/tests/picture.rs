@@ -5,11 +5,13 @@ mod common;
 use common::{example, run_program, with_returns};
 use model::gen::runs::{run, Run};
 use model::message::{Kind, Message};
+use tools::line::Lines;
 use tools::picture::layout::Window;
 use tools::text::from_file;
 use tools::timeline::spans::Span;
 use tools::timeline::tracks::Track;
 use tools::timeline::Timeline;
+use tools::trace::walk;
 
 const PICTURE: &str = env!("CARGO_BIN_EXE_picture");
 
@@ -179,26 +181,39 @@ fn a_write_that_a_parked_client_does_not_hold_up_has_no_bar() {
     assert!(last.lines().nth(1).unwrap().starts_with("to step 29 "), "{last}");
 }
 
-/// A write that is pointed at says the same about its latest end as its line.
+/// Returns the explained line of the step that opened a write: if a return put
+/// it there again, of one before it on its line.
+fn opened<'a>(timeline: &'a Timeline, lines: &Lines, write: &Span) -> &'a str {
+    let Track::Write(object) = write.track else { panic!("{write:?}") };
+    let opens = format!(" write object {object} value {}: done: stands, ", write.detail.value);
+    let mut line = lines.back_from(write.from).map(|step| timeline.step(step).line.as_str());
+    line.find(|line| line.contains(&opens)).expect("a step that opened it")
+}
+
+/// A write that is pointed at says the same about its latest end as the line of
+/// the step that opened it.
 #[test]
 fn every_write_tells_what_fixes_its_end() {
-    let mut count = 0;
+    let (mut count, mut again) = (0, 0);
     for number in (2..50).chain(52..100) {
-        let run = run(23, number);
+        let run = with_returns(run(23, number));
         let (picture, timeline) = (svg(&run, whole(&run)), Timeline::new(&run));
+        let mut lines = Lines::default();
+        walk(&run, |moment| lines.follow(&moment.step, moment.refused()));
         // Of the bars; their words say the same.
         let bar = |group: &&str| group.split("</g>").next().unwrap().contains("<rect class=\"write");
         let mut titles = picture.split("<title>write of object ").skip(1).filter(bar);
         for write in timeline.spans.iter().filter(|span| matches!(span.track, Track::Write(_))) {
             let title = titles.next().unwrap().lines().next().unwrap();
-            let line = &timeline.step(write.from).line;
+            let line = opened(&timeline, &lines, write);
+            again += usize::from(timeline.step(write.from).restored.is_some());
             let end = line.split_once(": done: stands, ").unwrap().1.split(';').next().unwrap();
             assert!(end.contains(" by the ") && title.ends_with(&format!(", {end}")), "{title}\n{line}");
             count += 1;
         }
         assert!(titles.next().is_none());
     }
-    assert!(count > 100, "{count}");
+    assert!(count > 100 && again > 10, "{count} {again}");
 }
 
 #[test]
