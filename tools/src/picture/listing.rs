@@ -68,7 +68,7 @@ impl Listing {
         let expected =
             view.expectation.map_or(String::new(), |_| format!(" data-expected=\"{}\"", held(view)));
         let behind = behind.map_or(String::new(), comment);
-        let left = if view.left { " data-left" } else { "" };
+        let left = left(view);
         self.put(&format!(
             "<p data-step=\"{number}\"{about} data-answer=\"{answer}\"{expected}{left} \
              data-lane=\"{lane}\">{}{behind}</p>",
@@ -83,10 +83,20 @@ impl Listing {
         let (number, clock) = (line.number, timeline.voice.ticks(view.clock));
         let (written, behind) =
             (escaped(&line.written), line.behind.as_deref().map_or(String::new(), comment));
+        let left = left(view);
         self.put(&format!(
-            "<details class=\"join\"{about}><summary>{first} to {last} (line {number}, clock {clock}) \
+            "<details class=\"join\"{about}{left}><summary>{first} to {last} (line {number}, clock {clock}) \
              {written}{behind}</summary>"
         ));
+    }
+}
+
+/// Returns the attribute of a step left behind.
+fn left(view: &StepView) -> &'static str {
+    if view.left {
+        " data-left"
+    } else {
+        ""
     }
 }
 
