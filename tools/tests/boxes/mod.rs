@@ -1,5 +1,6 @@
 //! The room that each text of a picture takes, read only from the picture and
 //! its style.
+#![allow(dead_code)]
 
 use std::collections::BTreeMap;
 
