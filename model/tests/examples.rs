@@ -55,6 +55,10 @@ fn each_mistake_changes_exactly_its_line() {
         ("6-never-held", "latest_end_by_old_rule", "22 3 1", "22 0 0"),
         ("6-never-held", "latest_end_by_greater", "22 3 1", "22 0 0"),
         ("7-parked", "waits_for_parked", "18 3 1", "18 0 0"),
+        ("8-left-behind", "return_keeps_copies", "31 1 0", "31 1 7"),
+        ("8-left-behind", "return_keeps_clock", "32 0 0", "32 4 4"),
+        ("8-left-behind", "return_keeps_messages", "33 0 0", "33 4 3"),
+        ("8-left-behind", "never_saved_is_nothing", "43 4 11", "43 0 0"),
     ] {
         let expected = vec![(honest.to_string(), wrong.to_string())];
         assert_eq!(differences(example, Mistakes::named(mistake)), expected, "{example}, {mistake}");

@@ -25,7 +25,8 @@ pub fn take(b: &mut Builder, count: usize) {
     }
 }
 
-fn any(b: &mut Builder) -> Step {
+/// Returns a step of any kind, for the state that the steps so far led to.
+pub fn any(b: &mut Builder) -> Step {
     let (client, object) = (b.any_client(), b.any_object());
     let place = place(b);
     match b.rng.below(100) {
