@@ -35,9 +35,9 @@ extern "C" {
 
 /* The version of this library. The second number grows when callers or files
    have to change, and CHANGES.md in the repository says how; else the third. */
-#define GEVTSOMI_VERSION "0.6.0"
+#define GEVTSOMI_VERSION "0.7.0"
 #define GEVTSOMI_VERSION_MAJOR 0
-#define GEVTSOMI_VERSION_MINOR 6
+#define GEVTSOMI_VERSION_MINOR 7
 #define GEVTSOMI_VERSION_PATCH 0
 
 /* What a call returns when it is not refused. */
@@ -52,12 +52,15 @@ extern "C" {
 #define GEVTSOMI_NO_RUN_FILE 9
 /* No run file has these parts, or the output is too short for the file. */
 #define GEVTSOMI_NOT_WRITTEN 10
+/* In a listing: a step with a name above 3, or a return to a name that was never
+   saved. No call returns it. */
+#define GEVTSOMI_NO_SAVED_STATE 11
 
 /* The most bytes that a run file can have, bytes enough for the listing of any
    run file, and the most stack that the calls need. */
 #define GEVTSOMI_FILE_BYTES 65536
 #define GEVTSOMI_LISTING_BYTES 112640
-#define GEVTSOMI_LIST_STACK_BYTES 147456
+#define GEVTSOMI_LIST_STACK_BYTES 221184
 #define GEVTSOMI_WRITE_STACK_BYTES 278528
 
 /* The lengths of a setup and a step in a run file, the most objects of a setup,
@@ -78,11 +81,13 @@ extern "C" {
    and a step, with 0 in the fields that its kind does not use,
 
     0  kind: 1 clock, 2 read, 3 ask, 4 write, 5 deliver, 6 lose, 7 double,
-       8 restart of the server, 9 restart of a client; a step of any other
-       kind may have anything in the other fields
+       8 restart of the server, 9 restart of a client, 10 save, 11 return to
+       what was saved; a step of any other kind may have anything in the other
+       fields
     1  client, for kinds 2, 3 and 9
     2  object, for kinds 2, 3 and 4
-    3  place in the message list, for kinds 5, 6 and 7
+    3  place in the message list, for kinds 5, 6 and 7; name of the saved
+       state, 0 to 3, for kinds 10 and 11
     4  clock, for kind 1, in 4 bytes
     8  value, for kind 4, in 8 */
 #define GEVTSOMI_SETUP_BYTES 48

@@ -52,14 +52,15 @@ impl Setup {
 #[derive(Clone, Copy, Debug, Default, PartialEq, Eq)]
 pub struct Step {
     /// 1 clock, 2 read, 3 ask, 4 write, 5 deliver, 6 lose, 7 double, 8 restart
-    /// of the server, 9 restart of a client. Any other is unknown.
+    /// of the server, 9 restart of a client, 10 save, 11 return to what was
+    /// saved. Any other is unknown.
     pub kind: u8,
     /// The client of a read, an ask or a client's restart.
     pub client: u8,
     /// The object of a read, an ask or a write.
     pub object: u8,
     /// The place in the message list of the message that is delivered, lost or
-    /// doubled.
+    /// doubled; the name of the state that is saved or returned to, 0 to 3.
     pub place: u8,
     /// The time that the clock is set to.
     pub clock: u32,

@@ -9,7 +9,7 @@ pub const FILE_BYTES: usize = 65_536;
 pub const LISTING_BYTES: usize = 112_640;
 
 /// The most stack that [`list`] needs.
-pub const LIST_STACK_BYTES: usize = 147_456;
+pub const LIST_STACK_BYTES: usize = 221_184;
 
 /// Writes the listing of a run file to the start of `output` and returns its
 /// length. The bytes of `output` past the listing do not change.

@@ -167,12 +167,32 @@ fn an_output_too_short_stays_as_it_was() {
 #[test]
 fn steps_of_an_unknown_kind_are_written_as_they_are() {
     let setup = setup(1, 1, 1).bytes();
-    for kind in [0, 10, 255] {
+    for kind in [0, 12, 255] {
         let step =
             Step { kind, client: 1, object: 2, place: 3, clock: 0x0706_0504, value: 0x0f0e_0d0c_0b0a_0908 };
         let file = written(FILE_BYTES, |output| write(&[], &setup, &step.record(), output));
         assert_eq!(file[48], kind);
         assert!(file[49..64].iter().copied().eq(1..16));
+    }
+}
+
+/// A save and a return use the place, for the name, and nothing else.
+#[test]
+fn saves_and_returns_have_a_name_alone() {
+    let setup = setup(1, 1, 1).bytes();
+    for kind in [10, 11] {
+        let step = Step { kind, place: 255, ..Step::default() };
+        let file = written(FILE_BYTES, |output| write(&[], &setup, &step.record(), output));
+        assert_eq!(file[48..64], step.record());
+        let others = [
+            Step { client: 1, ..step },
+            Step { object: 1, ..step },
+            Step { clock: 1, ..step },
+            Step { value: 1, ..step },
+        ];
+        for other in others {
+            refused(10, FILE_BYTES, |output| write(&[], &setup, &other.record(), output));
+        }
     }
 }
 

@@ -1,8 +1,8 @@
 //! The C header has the same numbers as the package.
 
 use gevtsomi::{
-    decode, list, workload, write, Setup, FILE_BYTES, FRAME_BYTES, LISTING_BYTES, LIST_STACK_BYTES, OBJECTS,
-    SETUP_BYTES, STEPS, STEP_BYTES, WRITE_STACK_BYTES,
+    decode, list, workload, write, Setup, Step, FILE_BYTES, FRAME_BYTES, LISTING_BYTES, LIST_STACK_BYTES,
+    OBJECTS, SETUP_BYTES, STEPS, STEP_BYTES, WRITE_STACK_BYTES,
 };
 
 const HEADER: &str = include_str!("../gevtsomi.h");
@@ -39,6 +39,17 @@ fn its_lengths_are_the_packages() {
     assert_eq!(defined("GEVTSOMI_FRAME_BYTES"), FRAME_BYTES);
 }
 
+const SETUP: Setup = Setup {
+    clients: 1,
+    volumes: 1,
+    objects: 1,
+    volume_lease: 1,
+    object_lease: 1,
+    timeout: 1,
+    delay: 1,
+    volume_of: [0; OBJECTS],
+};
+
 #[test]
 fn its_refusals_are_those_given() {
     let no_file = list(&[], &mut []).unwrap_err();
@@ -47,20 +58,24 @@ fn its_refusals_are_those_given() {
     assert_eq!(defined("GEVTSOMI_NO_RUN_FILE"), no_file.number.into());
     assert_eq!(defined("GEVTSOMI_NO_FRAME_OR_ROOM"), no_room.number.into());
     assert_eq!(defined("GEVTSOMI_NO_FRAME_OR_ROOM"), no_frame.number.into());
-    let setup = Setup {
-        clients: 1,
-        volumes: 1,
-        objects: 1,
-        volume_lease: 1,
-        object_lease: 1,
-        timeout: 1,
-        delay: 1,
-        volume_of: [0; OBJECTS],
-    };
-    for (setup, name) in [(&[][..], "GEVTSOMI_BAD_SETUP"), (&setup.bytes(), "GEVTSOMI_NOT_WRITTEN")] {
+    for (setup, name) in [(&[][..], "GEVTSOMI_BAD_SETUP"), (&SETUP.bytes(), "GEVTSOMI_NOT_WRITTEN")] {
         let not_written = write(&[], setup, &[], &mut []).unwrap_err();
         let not_drawn = workload(1, &[], setup, 0, &mut []).unwrap_err();
         assert_eq!(defined(name), not_written.number.into());
         assert_eq!(defined(name), not_drawn.number.into());
     }
+}
+
+/// A name above 3, and a return to a name that was never saved.
+#[test]
+fn its_refusal_of_a_name_is_the_listings() {
+    let steps =
+        [(10, 4), (11, 0), (10, 0), (11, 0)].map(|(kind, place)| Step { kind, place, ..Step::default() });
+    let (mut file, mut listing) = (vec![0; FILE_BYTES], vec![0; LISTING_BYTES]);
+    let len =
+        write(&[], &SETUP.bytes(), &steps.map(|step| step.record()).concat(), &mut file).expect("a file");
+    let len = list(&file[..len], &mut listing).expect("a listing");
+    let refused = defined("GEVTSOMI_NO_SAVED_STATE");
+    let lines = format!("step answer value\n1 4 {refused}\n2 4 {refused}\n3 0 0\n4 0 0\n");
+    assert_eq!(String::from_utf8_lossy(&listing[..len]), lines);
 }
