@@ -40,20 +40,24 @@ fn the_librarys_copy_is_the_document() {
 }
 
 /// Many of these runs have a parked client at a write, so the rule before 02's
-/// A6 would list them otherwise.
+/// A6 would list them otherwise; and many return to a saved state, so a return
+/// that restores no clock would.
 #[test]
 fn generated_runs_are_the_models() {
-    let mut parked = 0;
+    let (mut parked, mut returned) = (0, 0);
     let rule_before_a6 = Mistakes::named("waits_for_parked");
+    let clock_kept = Mistakes::named("return_keeps_clock");
     for seed in SEEDS {
         for number in 0..RUNS {
             let file = runs::run(seed, number).file();
             let lines = listing(&file);
             assert!(listed(&file) == lines, "seed {seed}, run {number}");
             parked += usize::from(listing_with(rule_before_a6, &file) != lines);
+            returned += usize::from(listing_with(clock_kept, &file) != lines);
         }
     }
     assert!(parked > 400, "{parked}");
+    assert!(returned > 200, "{returned}");
 }
 
 /// Refusals are the model's, even where the output has no room for a listing.
