@@ -11,7 +11,7 @@ use model::gen::setups::sized;
 use model::limits::STEPS;
 use model::runfile::parts;
 use model::setup::Setup;
-use model::step_record::{Step, WRITE};
+use model::step_record::{Step, RETURN, SAVE, WRITE};
 use model::unchecked_writer::{setup_bytes, write};
 
 /// The seed of the workload.
@@ -113,9 +113,12 @@ fn described(name: &'static str, file: Vec<u8>) -> Timed {
 }
 
 /// Takes a random step: reads, asks, writes and restarts, with the message list
-/// mostly full, and some messages lost or doubled.
+/// mostly full, and some messages lost or doubled. Saves and returns are left
+/// out: a kind of their own times them.
 fn by_chance(builder: &mut Builder) {
-    random_steps::take(builder, 1);
+    let steps = std::iter::repeat_with(|| random_steps::any(builder));
+    let step = { steps }.find(|step| ![SAVE, RETURN].contains(&step.kind)).expect("steps without end");
+    builder.push(step);
 }
 
 /// Takes a step of a run that delivers messages from the front before there are

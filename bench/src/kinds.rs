@@ -59,6 +59,8 @@ pub fn kinds() -> Vec<Kind> {
         ),
         run("restart server", "with no write standing", "0 0", &[], &[Step::restart_server()]),
         run("restart client", "with no copy held", "0 0", &[], &[Step::restart_client(0)]),
+        run("save", "under one name, over and over", "0 0", &[], &[Step::save(0)]),
+        run("return", "to what the first step saved", "0 0", &[Step::save(0)], &[Step::return_to(0)]),
     ]
 }
 

@@ -9,7 +9,7 @@ use model::message::Message;
 use model::mistakes::Mistakes;
 use model::rules::{Papers, Rules};
 use model::setup::Setup;
-use model::state::State;
+use model::state::Machine;
 use model::step_record::{Step, DELIVER, LOSE};
 use model::unchecked_writer::write;
 use model::world::World;
@@ -75,7 +75,7 @@ fn both(reach: Parked, parked: u8, written: u8) -> [Sent; 2] {
 
 struct Run {
     setup: Setup,
-    state: State,
+    machine: Machine,
     rule: Rule,
     steps: Vec<Step>,
     sent: usize,
@@ -86,7 +86,7 @@ struct Run {
 impl Run {
     fn new(rule: Rule) -> Run {
         let setup = Setup { delay: 60, ..sized(CLIENTS as u8, 1, OBJECTS) };
-        Run { setup, state: State::fresh(), rule, steps: Vec::new(), sent: 0, switched_off: 0 }
+        Run { setup, machine: Machine::fresh(), rule, steps: Vec::new(), sent: 0, switched_off: 0 }
     }
 
     /// All clients hold all objects. The first ones let their volume lease end,
@@ -137,7 +137,7 @@ impl Run {
     }
 
     fn under_way(&self) -> &[Message] {
-        self.state.tables.queue.messages()
+        self.machine.state.tables.queue.messages()
     }
 
     /// Takes a step and counts what it sends. The list is never full, so
@@ -145,8 +145,7 @@ impl Run {
     fn take(&mut self, step: Step) -> Answer {
         assert!(self.steps.len() < STEPS, "a run has an end");
         let left = self.under_way().len() - usize::from([DELIVER, LOSE].contains(&step.kind));
-        let (tables, copies, requests) = self.state.parts(&self.setup);
-        let answer = (self.rule)(&mut World { setup: &self.setup, tables, copies, requests }, &step);
+        let answer = (self.rule)(&mut self.machine.world(&self.setup), &step);
         self.steps.push(step);
         self.sent += self.under_way().len() - left;
         answer
