@@ -44,7 +44,7 @@ usesName x = isSave x || isReturn x
 abbrev pub worldSound : Setup → World → Bool
 worldSound s w = sound s (w .tables) (recordsSound s (w .copies) (w .requests))
 
--- 1. "A saved state must be sound too": a name that was never saved asks nothing
+-- 1. "A saved state must be sound too"; nothing is asked of a name that was never saved
 abbrev pub soundUnder : Setup → Saved World → Bool
 soundUnder s never = true
 soundUnder s (state w) = worldSound s w
