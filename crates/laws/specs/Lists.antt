@@ -45,6 +45,11 @@ module _ {ℓ κ} {A : Type ℓ} (P : A → Type κ) where
   all-at (y ∷ l) zero d h a = a .0
   all-at (y ∷ l) (suc i) d h a = all-at l i d (le-of-suc-le-suc h) (a .1)
 
+  pub all-part : (l : List A) (x : A) (m : List A) → All P (l ++ (x ∷ m)) → P x
+  unfolding All
+  all-part [] x m a = a .0
+  all-part (y ∷ l) x m a = all-part l x m (a .1)
+
 pub all-map {ℓ κ λ′} : {A : Type ℓ} {P : A → Type κ} {Q : A → Type λ′} → ((x : A) → P x → Q x) → (l : List A) → All P l → All Q l
 unfolding All
 all-map f [] a = tt
