@@ -6,4 +6,5 @@ pub mod Fates
 pub mod Told
 pub mod Explains
 pub mod ByAnswer
+pub mod Lasts
 pub mod Examples

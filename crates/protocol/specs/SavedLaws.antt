@@ -29,7 +29,7 @@ use Rattle.protocol.specs.Soundness.Answered.{accepted-not-refused}
 use Rattle.protocol.specs.Soundness.Question.{SoundWorld, stepped-sound, fresh-sound, sounds, RefusedOne, number-of, never-one}
 
 -- ---- steps of 01's kinds
-or-yes-right : (a b : Bool) → (a || b) ≡ true → a ≡ false → b ≡ true
+pub or-yes-right : (a b : Bool) → (a || b) ≡ true → a ≡ false → b ≡ true
 or-yes-right a b h e = rw e at h
 
 -- question 1 of the present state and of the saved ones, apart

@@ -1,6 +1,6 @@
 -- The same event told by a step's answer, for whoever keeps the last event beside a run: an answer carries the message that was delivered, so that the copy
 -- before and after the step and the request before it are all that must be looked at.
--- Letters: s setup, w world, x a step, a an answer, r a request, d client, o object, c and g the copy before and after, k the last event, e an entry.
+-- Letters: s setup, w world, x a step, a an answer, r a request, d client, o object, c and g the copy before and after, k the last event, e its kind.
 use Prim.Native.Nat.{ℕ, _<_}
 use native.Mathlib.Omega.{arith}
 use mathlib.Core.Bool.{Bool, true, false, cond, _&&_}
@@ -26,8 +26,9 @@ use Rattle.protocol.specs.Ledger.{accepts}
 use Rattle.protocol.specs.Soundness.StepCases.{Accepted, accepted, by-kind, copyOf, requestOf, recordsOf, performedOf, accepted-answer, refused-answer, clock-performed, read-performed, ask-performed, write-performed, deliver-performed, lose-performed, double-performed, server-performed, client-performed}
 use Rattle.protocol.specs.Soundness.Question.{SoundWorld}
 use Rattle.protocol.specs.Safety.View.{copyAt, requestAt}
-use Rattle.protocol.specs.Line.{Entry}
-use Rattle.promises.specs.Reasons.Events.{deliveredBy, deliversTo, isGrant, grants, invalidates, offers, restarts, vanished, erases, receiptCause, cause, Last, granted, erased, lastAfter}
+use Rattle.promises.specs.declared.reasons.Event.{Event}
+use Rattle.promises.specs.declared.reasons.Event.the-variants.{Nothing, Granted, Erased}
+use Rattle.promises.specs.Reasons.Events.{deliveredBy, deliversTo, isGrant, grants, invalidates, offers, restarts, vanished, erases, receiptCause, cause, eventOf}
 use Rattle.promises.specs.Reasons.Told.{How, how}
 
 abbrev pub grantedBy : Request → ℕ → ℕ → Answer → Bool
@@ -49,9 +50,8 @@ deliveredCause (Refused _) = 0
 abbrev pub causeBy : Step → Answer → ℕ
 causeBy x a = cond (isRestartClient x) 4 (deliveredCause a)
 
-unfoldable pub lastBy : ℕ → ℕ → Request → Copy → Copy → Last → Entry → Last
-lastBy d o r c g k e =
-    cond (grantedBy r d o (e .answer)) (granted (e .number)) (cond (vanished c g) (erased (causeBy (e .step) (e .answer)) (e .number)) k)
+unfoldable pub eventBy : ℕ → ℕ → Request → Copy → Copy → Step → Answer → Event
+eventBy d o r c g x a = cond (grantedBy r d o a) Granted (cond (vanished c g) (Erased (causeBy x a)) Nothing)
 
 module _ (s : Setup) (w : World) (x : Step) where
   abbrev pub GrantTold : ℕ → ℕ → Type 0
@@ -118,26 +118,23 @@ module _ (s : Setup) (w : World) (x : Step) where
       ⊎-elim (λ e. by-delivery d (and-true _ _ (h .two e) .0)) (λ n.
       ⊎-elim (λ e. by-delivery d (and-true _ _ (h .three e) .0)) (λ f. by-restart d (h .four (omega (arith, h .above, h .below, n, f)))) (same? (cause w x) 3)) (same? (cause w x) 2)
 
--- what is told by the answer is the last event
-pub last-told : (s : Setup) (w : World) → SoundWorld s w → (d o : ℕ) → d < s .clients → o < s .objects → (k : Last) (e : Entry) → e .answer ≡ answerOf s w (e .step)
-    → lastAfter s d o w k e ≡ lastBy d o (requestAt (w .requests) d) (copyAt s (w .copies) d o) (copyAt s (stepped s w (e .step) .copies) d o) k e
-unfolding lastAfter lastBy erases
-last-told s w sound d o hd ho k e q = rw q (⊎-elim filling unfilled (true-or-false (grants s w x d o)))
-  where
-    x : Step
-    x = e .step
+  -- what is told by the answer is the event
+  pub event-told : SoundWorld s w → (d o : ℕ) → d < s .clients → o < s .objects
+      → eventOf s w x d o ≡ eventBy d o (requestAt (w .requests) d) (copyAt s (w .copies) d o) (copyAt s (stepped s w x .copies) d o) x (answerOf s w x)
+  unfolding eventOf eventBy erases
+  event-told sound d o hd ho = ⊎-elim filling unfilled (true-or-false (grants s w x d o))
+    where
+      told : grantedBy (requestAt (w .requests) d) d o (answerOf s w x) ≡ grants s w x d o
+      told = sym (grants-told d o)
 
-    told : grantedBy (requestAt (w .requests) d) d o (answerOf s w x) ≡ grants s w x d o
-    told = sym (grants-told s w x d o)
+      Same : Type 0
+      Same =
+          cond (grants s w x d o) Granted (cond (erases s w x d o) (Erased (cause w x)) Nothing)
+          ≡ cond (grantedBy (requestAt (w .requests) d) d o (answerOf s w x)) Granted (cond (erases s w x d o) (Erased (causeBy x (answerOf s w x))) Nothing)
 
-    Same : Type 0
-    Same =
-        cond (grants s w x d o) (granted (e .number)) (cond (erases s w x d o) (erased (cause w x) (e .number)) k)
-        ≡ cond (grantedBy (requestAt (w .requests) d) d o (answerOf s w x)) (granted (e .number)) (cond (erases s w x d o) (erased (causeBy x (answerOf s w x)) (e .number)) k)
+      filling : grants s w x d o ≡ true → Same
+      filling g = rw told (rw g)
 
-    filling : grants s w x d o ≡ true → Same
-    filling g = rw told (rw g)
-
-    unfilled : grants s w x d o ≡ false → Same
-    unfilled g =
-        rw told (rw g (⊎-elim (λ v. rw v (ap (λ (n : ℕ). erased n (e .number)) (cause-told s w x d o (how s d o hd ho w x sound g v)))) (λ v. rw v) (true-or-false (erases s w x d o))))
+      unfilled : grants s w x d o ≡ false → Same
+      unfilled g =
+          rw told (rw g (⊎-elim (λ v. rw v (ap Erased (cause-told d o (how s d o hd ho w x sound g v)))) (λ v. rw v) (true-or-false (erases s w x d o))))

@@ -22,6 +22,9 @@ use Rattle.protocol.specs.World.{World, freshWorld, stepped}
 use Rattle.protocol.specs.Ledger.{accepts}
 use Rattle.protocol.specs.Safety.View.{copyAt, requestAt}
 use Rattle.protocol.specs.Line.{Entry}
+use Rattle.promises.specs.declared.reasons.Event.{Event}
+use Rattle.promises.specs.declared.reasons.Event.the-variants.{Nothing, Granted, Erased}
+use Rattle.promises.specs.declared.reasons.Last.{Last}
 
 -- ---- what a step does to client d's copy of object o
 abbrev pub deliveredBy : World → Step → Message
@@ -104,19 +107,26 @@ receiptCause (Cleared _ _ _ _) = 0
 unfoldable pub cause : World → Step → ℕ
 cause w x = cond (isRestartClient x) 4 (receiptCause (deliveredBy w x .kind))
 
--- ---- the last event, with the number of its step
-pub data Last : Type 0 where
-  nothing : Last
-  granted : (n : ℕ) → Last
-  erased : (why n : ℕ) → Last
+-- what step x on w does to the copy
+unfoldable pub eventOf : Setup → World → Step → ℕ → ℕ → Event
+eventOf s w x d o = cond (grants s w x d o) Granted (cond (erases s w x d o) (Erased (cause w x)) Nothing)
 
-unfoldable pub lastAfter : Setup → ℕ → ℕ → World → Last → Entry → Last
-lastAfter s d o w k e =
-    cond (grants s w (e .step) d o) (granted (e .number)) (cond (erases s w (e .step) d o) (erased (cause w (e .step)) (e .number)) k)
+-- ---- the last event, with the number of its step
+abbrev pub noEvent : Last
+noEvent = record { event = Nothing; step = 0 }
+
+-- k, or an event in step n
+abbrev pub latest : Last → ℕ → Event → Last
+latest k n Nothing = k
+latest k n Granted = record { event = Granted; step = n }
+latest k n (Erased why) = record { event = Erased why; step = n }
+
+abbrev pub lastAfter : Setup → ℕ → ℕ → World → Last → Entry → Last
+lastAfter s d o w k e = latest k (e .number) (eventOf s w (e .step) d o)
 
 -- beside the state, along a line
 abbrev pub after : Setup → ℕ → ℕ → World × Last → Entry → World × Last
 after s d o a e = (stepped s (a .0) (e .step), lastAfter s d o (a .0) (a .1) e)
 
 abbrev pub lastOf : Setup → ℕ → ℕ → List Entry → Last
-lastOf s d o l = made (after s d o) (freshWorld s, nothing) l .1
+lastOf s d o l = made (after s d o) (freshWorld s, noEvent) l .1

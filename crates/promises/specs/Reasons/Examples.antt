@@ -26,7 +26,7 @@ use Rattle.protocol.specs.SavedEdges.{save, return}
 use Rattle.protocol.specs.Line.{entriesFrom}
 use Rattle.protocol.specs.Edges.{step, clock, write}
 use Rattle.promises.specs.UntilShown.Policy.{read, ask, deliver}
-use Rattle.promises.specs.Reasons.Events.{grants, invalidates, offers, restarts, vanished, erases, cause, lastAfter}
+use Rattle.promises.specs.Reasons.Events.{grants, invalidates, offers, restarts, vanished, erases, cause, eventOf}
 use Rattle.promises.specs.Reasons.Reason.{asksFirst, reasonOf}
 use Rattle.laws.specs.Sets as sets
 use Rattle.laws.specs.Sets.{allIn, setOf, added, less, bitAt}
@@ -64,5 +64,5 @@ pub reasons-given : (map (reasonAt 100) (2 ∷ 13 ∷ 17 ∷ 20 ∷ 26 ∷ 33 �
     × (map (reasonAt 100) (0 ∷ 1 ∷ 10 ∷ 36 ∷ []) ≡ (0, 0) ∷ (0, 0) ∷ (0, 0) ∷ (0, 0) ∷ [])
     × (reasonAt 10 13 ≡ (5, 9))
     × (reasonAt 5 13 ≡ (6, 9))
-unfolding leased asking save return reasonOf asksFirst grants invalidates offers restarts vanished erases cause lastAfter made movedBy entriesFrom along answerTo moved refusalIn savedSound knownKind named step clock write foldFrom anyFrom allFrom firstFrom removeAt storeEach inRange pushed removed freshTables serverAlive clientAlive clientClock guardPassed endOver waits latestEnd opened awaited notified waited ready due deserted posted released completed settled written noted offered lowestWaited volumeRenewed objectRenewed granted mustDrop renewedBy renewed ackTaken acked ackStaged dropTaken disowned dropped dropStaged serverRestarted showable stands forgotten swept sweptAll queueSound tablesSound copiesSound requestsSound sound known exists timely vacant growable refusalOfStep refusal grantReceived invalidateReceived offerReceived received readDecided askDecided deliverDecided performed decided target decision stepped restartDecided greatest clientRestarted bitAt less added setOf allIn objectsIn delays delayed aged agedIn clockSet batched clearTaken notesDropped notesCleared batchReceived sets.removed
+unfolding leased asking save return reasonOf asksFirst grants invalidates offers restarts vanished erases cause eventOf made movedBy entriesFrom along answerTo moved refusalIn savedSound knownKind named step clock write foldFrom anyFrom allFrom firstFrom removeAt storeEach inRange pushed removed freshTables serverAlive clientAlive clientClock guardPassed endOver waits latestEnd opened awaited notified waited ready due deserted posted released completed settled written noted offered lowestWaited volumeRenewed objectRenewed granted mustDrop renewedBy renewed ackTaken acked ackStaged dropTaken disowned dropped dropStaged serverRestarted showable stands forgotten swept sweptAll queueSound tablesSound copiesSound requestsSound sound known exists timely vacant growable refusalOfStep refusal grantReceived invalidateReceived offerReceived received readDecided askDecided deliverDecided performed decided target decision stepped restartDecided greatest clientRestarted bitAt less added setOf allIn objectsIn delays delayed aged agedIn clockSet batched clearTaken notesDropped notesCleared batchReceived sets.removed
 reasons-given = (refl, refl, refl, refl)

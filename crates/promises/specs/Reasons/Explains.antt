@@ -34,11 +34,14 @@ use Rattle.protocol.specs.Line.{Entry, Listed, stepsIn, ranBy}
 use Rattle.protocol.specs.Along.{line-listed}
 use Rattle.protocol.specs.SavedLaws.{ordinary-answer, saved-sounds, machine-sound, fresh-machine-sound}
 use Rattle.protocol.specs.Demand3.{demand-3-along}
-use Rattle.promises.specs.Reasons.Events.{grants, invalidates, offers, restarts, erases, cause, Last, nothing, granted, erased, lastOf}
-use Rattle.promises.specs.Reasons.Reason.{noStep, chosen, earlier, metBy, lineBefore, isAskFirst, asksFirst, viewUntil, copyUntil, reasonBy, reasonOf, Happened, Erased, Granted, Explains, Explained}
+use Rattle.promises.specs.declared.reasons.Event.{Event}
+use Rattle.promises.specs.declared.reasons.Event.the-variants.{Nothing, Granted, Erased}
+use Rattle.promises.specs.declared.reasons.Last.{Last}
+use Rattle.promises.specs.Reasons.Events.{grants, invalidates, offers, restarts, erases, cause, lastOf}
+use Rattle.promises.specs.Reasons.Reason.{noStep, chosen, earlier, metBy, lineBefore, isAskFirst, asksFirst, viewUntil, copyUntil, whyBy, reasonBy, reasonOf, Happened, Missing, Holding, Explains, Explained}
 use Rattle.promises.specs.Reasons.Worth.{at-worth, run-worth}
 use Rattle.promises.specs.Reasons.Fates.{fills}
-use Rattle.promises.specs.Reasons.Told.{ran-parts, Erasing, Tells, last-tells, AsBefore, vanished-still, copyIn, uneventful-keeps, How, how}
+use Rattle.promises.specs.Reasons.Told.{ran-parts, Erasing, TellsOf, last-tells, AsBefore, vanished-still, copyIn, uneventful-keeps, How, how}
 
 -- ---- of two leases one is dead: the earlier one, if it is not the later
 earlier-dead : (clock a b : ℕ) → (clientAlive clock a && clientAlive clock b) ≡ false → a ≤ b → clientAlive clock a ≡ false
@@ -80,7 +83,7 @@ module _ (s : Setup) (i : inRange s ≡ true) (l : List Entry) (d o : ℕ) (hd :
     unfolding met
     way = how s d o hd ho (met h) (h .event .step) (met-sound h) (h .occurred .ungranted) (h .occurred .erases)
 
-    by : (f : World → Step → Bool) → f (met h) (h .event .step) ≡ true → Happened s d o l n (Erased s d o u f)
+    by : (f : World → Step → Bool) → f (met h) (h .event .step) ≡ true → Happened s d o l n (Missing s d o u f)
     unfolding met erases
     by f p = told h (record { erases = h .occurred .erases; still = vanished-still _ _ _ (since-then h) (h .occurred .erases); how = p })
 
@@ -115,7 +118,7 @@ module _ (s : Setup) (i : inRange s ≡ true) (l : List Entry) (d o : ℕ) (hd :
       unfolding showable clock
       one-dead = rw (ne-eqb (copyAt s (u .copies) d o .version) 0 (λ e. omega (arith, version-held))) at unshown
 
-      event : Happened s d o l n (Granted s d o u)
+      event : Happened s d o l n (Holding s d o u)
       unfolding met
       event = told h (record { grants = h .occurred; held = λ e. omega (arith, version-held) })
 
@@ -145,24 +148,24 @@ module _ (s : Setup) (i : inRange s ≡ true) (l : List Entry) (d o : ℕ) (hd :
         objectOver = λ e. (event, later-dead clock (viewUntil s u d o) (copyUntil s u d o) one-dead (omega arith), lt);
       }
 
-    by-last : (k : Last) → Tells s d o l k → Explains s l u d o (reasonBy s u d o k)
-    by-last nothing h = record {
+    by-last : (n : ℕ) (g : Event) → TellsOf s d o l n g → Explains s l u d o (record { why = whyBy (viewUntil s u d o) (copyUntil s u d o) g; step = n })
+    by-last n Nothing h = record {
       some = omega arith;
       within = omega arith;
-      neverGranted = λ e. (refl, h);
+      neverGranted = λ e. h;
       invalidated = λ e. absurd (omega arith);
       dropped = λ e. absurd (omega arith);
       restarted = λ e. absurd (omega arith);
       volumeOver = λ e. absurd (omega arith);
       objectOver = λ e. absurd (omega arith);
     }
-    by-last (granted n) h =
+    by-last n Granted h =
         cond-keeps (λ (why : ℕ). Explains s l u d o (record { why = why; step = n })) (leb (viewUntil s u d o) (copyUntil s u d o))
         (λ e. by-volume n h (leb-true _ _ e)) (λ e. by-object n h (leb-false _ _ e))
-    by-last (erased why n) h = explains-erased why n h
+    by-last n (Erased why) h = explains-erased why n h
 
     line-explains : Explains s l u d o (reasonBy s u d o (lastOf s d o l))
-    line-explains = by-last (lastOf s d o l) (last-tells s d o l)
+    line-explains = let k = lastOf s d o l in by-last (k .step) (k .event) (last-tells s d o l)
 
 -- ---- a read answered "ask first": it was accepted, and its copy may not be shown
 pub record Unshown (s : Setup) (w : World) (x : Step) : Type 0 where

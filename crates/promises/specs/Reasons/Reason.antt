@@ -19,7 +19,11 @@ use Rattle.protocol.specs.World.{World, freshWorld, stepped}
 use Rattle.protocol.specs.Safety.View.{copyAt}
 use Rattle.protocol.specs.Saved.{freshMachine, answerTo, movedBy}
 use Rattle.protocol.specs.Line.{Entry, presentLine, ranBy}
-use Rattle.promises.specs.Reasons.Events.{grants, invalidates, offers, restarts, vanished, erases, happens, Last, nothing, granted, erased, lastOf}
+use Rattle.promises.specs.declared.reasons.Event.{Event}
+use Rattle.promises.specs.declared.reasons.Event.the-variants.{Nothing, Granted, Erased}
+use Rattle.promises.specs.declared.reasons.Last.{Last}
+use Rattle.promises.specs.declared.reasons.Reason.{Reason}
+use Rattle.promises.specs.Reasons.Events.{grants, invalidates, offers, restarts, vanished, erases, happens, lastOf}
 
 -- ---- the chosen step
 -- past the end of the run there is none
@@ -48,10 +52,6 @@ unfoldable pub asksFirst : Setup → List Step → ℕ → Bool
 asksFirst s xs n = leb 1 n && (isRead (chosen xs n) && isAskFirst (answerTo s (movedBy s (freshMachine s) (earlier xs n)) (chosen xs n)))
 
 -- ---- the reason: its number, and "that event's step, or 0"
-pub record Reason : Type 0 where
-  pub why : ℕ
-  pub step : ℕ
-
 abbrev pub viewUntil : Setup → World → ℕ → ℕ → ℕ
 viewUntil s w d o = viewExpiryAt (w .tables) d (volumeOf s o)
 
@@ -59,16 +59,23 @@ abbrev pub copyUntil : Setup → World → ℕ → ℕ → ℕ
 copyUntil s w d o = copyAt s (w .copies) d o .expiry
 
 -- "After a grant, the earlier of the dash's two expiries at the read decides, the volume on a tie."
+abbrev pub whyBy : (view copy : ℕ) → Event → ℕ
+whyBy view copy Nothing = 1
+whyBy view copy Granted = cond (leb view copy) 5 6
+whyBy view copy (Erased why) = why
+
 abbrev pub reasonBy : Setup → World → ℕ → ℕ → Last → Reason
-reasonBy s w d o nothing = record { why = 1; step = 0 }
-reasonBy s w d o (granted k) = record { why = cond (leb (viewUntil s w d o) (copyUntil s w d o)) 5 6; step = k }
-reasonBy s w d o (erased why k) = record { why = why; step = k }
+reasonBy s w d o k = record { why = whyBy (viewUntil s w d o) (copyUntil s w d o) (k .event); step = k .step }
+
+-- of every other step
+abbrev pub noReason : Reason
+noReason = record { why = 0; step = 0 }
 
 unfoldable pub reasonOf : Setup → List Step → ℕ → Reason
 reasonOf s xs n =
     cond (asksFirst s xs n)
     (reasonBy s (metBy s xs n) (chosen xs n .client) (chosen xs n .object) (lastOf s (chosen xs n .client) (chosen xs n .object) (lineBefore s xs n)))
-    (record { why = 0; step = 0 })
+    noReason
 
 -- ---- the claim
 -- none of these entries is an event, each on what the ones before left
@@ -87,13 +94,13 @@ pub record Happened (s : Setup) (d o : ℕ) (l : List Entry) (k : ℕ) (P : Worl
   pub since : Uneventful s d o (stepped s (ranBy s older) (event .step)) newer
 
 -- the step x on w erased the copy, and what went to 0 then is 0 still in u, the state that the read meets; `by` says how
-pub record Erased (s : Setup) (d o : ℕ) (u : World) (by : World → Step → Bool) (w : World) (x : Step) : Type 0 where
+pub record Missing (s : Setup) (d o : ℕ) (u : World) (by : World → Step → Bool) (w : World) (x : Step) : Type 0 where
   pub erases : erases s w x d o ≡ true
   pub still : vanished (copyAt s (w .copies) d o) (copyAt s (u .copies) d o) ≡ true
   pub how : by w x ≡ true
 
 -- the step x on w granted the copy, and it is held still in u
-pub record Granted (s : Setup) (d o : ℕ) (u : World) (w : World) (x : Step) : Type 0 where
+pub record Holding (s : Setup) (d o : ℕ) (u : World) (w : World) (x : Step) : Type 0 where
   pub grants : grants s w x d o ≡ true
   pub held : copyAt s (u .copies) d o .version ≡ 0 → ⊥
 
@@ -107,12 +114,12 @@ pub record Explains (s : Setup) (l : List Entry) (u : World) (d o : ℕ) (r : Re
   -- "for 1, that there was none"
   pub neverGranted : r .why ≡ 1 → (r .step ≡ 0) × Uneventful s d o (freshWorld s) l
   -- "that the named event occurred and that no later event restored the copy"
-  pub invalidated : r .why ≡ 2 → Happened s d o l (r .step) (Erased s d o u (λ w x. invalidates s w x d o))
-  pub dropped : r .why ≡ 3 → Happened s d o l (r .step) (Erased s d o u (λ w x. offers s w x d o))
-  pub restarted : r .why ≡ 4 → Happened s d o l (r .step) (Erased s d o u (λ w x. restarts s w x d))
+  pub invalidated : r .why ≡ 2 → Happened s d o l (r .step) (Missing s d o u (λ w x. invalidates s w x d o))
+  pub dropped : r .why ≡ 3 → Happened s d o l (r .step) (Missing s d o u (λ w x. offers s w x d o))
+  pub restarted : r .why ≡ 4 → Happened s d o l (r .step) (Missing s d o u (λ w x. restarts s w x d))
   -- "for 5 and 6, that the named lease was dead"
-  pub volumeOver : r .why ≡ 5 → Happened s d o l (r .step) (Granted s d o u) × Dead u d (viewUntil s u d o) × (viewUntil s u d o ≤ copyUntil s u d o)
-  pub objectOver : r .why ≡ 6 → Happened s d o l (r .step) (Granted s d o u) × Dead u d (copyUntil s u d o) × (copyUntil s u d o < viewUntil s u d o)
+  pub volumeOver : r .why ≡ 5 → Happened s d o l (r .step) (Holding s d o u) × Dead u d (viewUntil s u d o) × (viewUntil s u d o ≤ copyUntil s u d o)
+  pub objectOver : r .why ≡ 6 → Happened s d o l (r .step) (Holding s d o u) × Dead u d (copyUntil s u d o) × (copyUntil s u d o < viewUntil s u d o)
 
 -- of a chosen step: 0 and 0 where it is no read answered "ask first", or there is none
 pub record Explained (s : Setup) (xs : List Step) (n : ℕ) (r : Reason) : Type 0 where

@@ -20,7 +20,10 @@ use Rattle.protocol.specs.Safety.View.{copyAt}
 use Rattle.protocol.specs.Saved.{names}
 use Rattle.protocol.specs.Line.{Entry, entryAct, stepLines, stepsIn, ranBy}
 use Rattle.protocol.specs.Reached.{ran-on}
-use Rattle.promises.specs.Reasons.Events.{grants, invalidates, offers, restarts, vanished, wentToZero, erases, happens, cause, Last, nothing, granted, erased, lastAfter, after, lastOf}
+use Rattle.promises.specs.declared.reasons.Event.{Event}
+use Rattle.promises.specs.declared.reasons.Event.the-variants.{Nothing, Granted, Erased}
+use Rattle.promises.specs.declared.reasons.Last.{Last}
+use Rattle.promises.specs.Reasons.Events.{grants, invalidates, offers, restarts, vanished, wentToZero, erases, happens, cause, eventOf, noEvent, lastAfter, after, lastOf}
 use Rattle.promises.specs.Reasons.Reason.{Uneventful, Happened}
 use Rattle.promises.specs.Reasons.Fates.{Fate, stays, filled, invalidated, offered, batched, restarted, ended, fate}
 
@@ -32,10 +35,10 @@ module _ (s : Setup) (d o : ℕ) where
   beside [] w k = refl
   beside (e ∷ l) w k = beside l (stepped s w (e .step)) (lastAfter s d o w k e)
 
-  last-longer : (l : List Entry) (e : Entry) → lastOf s d o (longer l e) ≡ lastAfter s d o (ranBy s l) (lastOf s d o l) e
+  pub last-longer : (l : List Entry) (e : Entry) → lastOf s d o (longer l e) ≡ lastAfter s d o (ranBy s l) (lastOf s d o l) e
   last-longer l e =
-      ap (λ (a : World × Last). a .1) (made-snoc (after s d o) (freshWorld s, nothing) l e)
-      ∙ ap (λ (w : World). lastAfter s d o w (lastOf s d o l) e) (beside l (freshWorld s) nothing)
+      ap (λ (a : World × Last). a .1) (made-snoc (after s d o) (freshWorld s, noEvent) l e)
+      ∙ ap (λ (w : World). lastAfter s d o w (lastOf s d o l) e) (beside l (freshWorld s) noEvent)
 
   uneventful-longer : (l : List Entry) (w : World) (e : Entry) → Uneventful s d o w l → happens s (ran s w (stepsIn l)) (e .step) d o ≡ false → Uneventful s d o w (longer l e)
   unfolding Uneventful ran
@@ -49,10 +52,13 @@ module _ (s : Setup) (d o : ℕ) where
     pub ungranted : grants s w x d o ≡ false
     pub reason : why ≡ cause w x
 
+  abbrev pub TellsOf : List Entry → ℕ → Event → Type 0
+  TellsOf l n Nothing = (n ≡ 0) × Uneventful s d o (freshWorld s) l
+  TellsOf l n Granted = Happened s d o l n (λ w x. grants s w x d o ≡ true)
+  TellsOf l n (Erased why) = Happened s d o l n (Erasing why)
+
   abbrev pub Tells : List Entry → Last → Type 0
-  Tells l nothing = Uneventful s d o (freshWorld s) l
-  Tells l (granted n) = Happened s d o l n (λ w x. grants s w x d o ≡ true)
-  Tells l (erased why n) = Happened s d o l n (Erasing why)
+  Tells l k = TellsOf l (k .step) (k .event)
 
   pub ran-parts : (older : List Entry) (e : Entry) (newer : List Entry) → ranBy s (older ++ (e ∷ newer)) ≡ ran s (stepped s (ranBy s older) (e .step)) (stepsIn newer)
   unfolding ran
@@ -73,19 +79,19 @@ module _ (s : Setup) (d o : ℕ) where
   unfolding Uneventful
   newest P l e p = record { older = l; event = e; newer = []; parts = refl; number = refl; occurred = p; since = tt }
 
-  tells-still : (l : List Entry) (e : Entry) (k : Last) → happens s (ranBy s l) (e .step) d o ≡ false → Tells l k → Tells (longer l e) k
-  tells-still l e nothing q h = uneventful-longer l (freshWorld s) e h q
-  tells-still l e (granted n) q h = happened-longer (λ w x. grants s w x d o ≡ true) l n e q h
-  tells-still l e (erased why n) q h = happened-longer (Erasing why) l n e q h
+  tells-still : (l : List Entry) (e : Entry) (n : ℕ) (g : Event) → happens s (ranBy s l) (e .step) d o ≡ false → TellsOf l n g → TellsOf (longer l e) n g
+  tells-still l e n Nothing q h = (h .0, uneventful-longer l (freshWorld s) e (h .1) q)
+  tells-still l e n Granted q h = happened-longer (λ w x. grants s w x d o ≡ true) l n e q h
+  tells-still l e n (Erased why) q h = happened-longer (Erasing why) l n e q h
 
   tells-longer : (l : List Entry) (e : Entry) (k : Last) → Tells l k → Tells (longer l e) (lastAfter s d o (ranBy s l) k e)
-  unfolding lastAfter
+  unfolding eventOf
   tells-longer l e k h = ⊎-elim (λ g. rw g (newest (λ w x. grants s w x d o ≡ true) l e g)) unfilled (true-or-false (grants s (ranBy s l) (e .step) d o))
     where
       unfilled : grants s (ranBy s l) (e .step) d o ≡ false → Tells (longer l e) (lastAfter s d o (ranBy s l) k e)
       unfilled g =
           ⊎-elim (λ r. rw g (rw r (newest (Erasing (cause (ranBy s l) (e .step))) l e (record { erases = r; ungranted = g; reason = refl }))))
-          (λ r. rw g (rw r (tells-still l e k (rw g r) h))) (true-or-false (erases s (ranBy s l) (e .step) d o))
+          (λ r. rw g (rw r (tells-still l e (k .step) (k .event) (rw g r) h))) (true-or-false (erases s (ranBy s l) (e .step) d o))
 
   tells-on : (l m : List Entry) → Tells m (lastOf s d o m) → Tells (m ++ l) (lastOf s d o (m ++ l))
   tells-on [] m h = rw (append-nil m) h
@@ -93,12 +99,12 @@ module _ (s : Setup) (d o : ℕ) where
 
   pub last-tells : (l : List Entry) → Tells l (lastOf s d o l)
   unfolding made Uneventful
-  last-tells l = tells-on l [] tt
+  last-tells l = tells-on l [] (refl, tt)
 
 -- ---- the last event is saved and restored with the state: kept so, beside each state, it is the one of that state's line
 pub last-along : (s : Setup) (d o : ℕ) (es : List Entry)
-    → along (after s d o) (start names (freshWorld s, nothing)) (map entryAct es) ≡ keptAs (made (after s d o) (freshWorld s, nothing)) (stepLines es)
-last-along s d o es = of-line (after s d o) (freshWorld s, nothing) names (map entryAct es)
+    → along (after s d o) (start names (freshWorld s, noEvent)) (map entryAct es) ≡ keptAs (made (after s d o) (freshWorld s, noEvent)) (stepLines es)
+last-along s d o es = of-line (after s d o) (freshWorld s, noEvent) names (map entryAct es)
 
 -- ---- a copy as long as no event comes
 -- version and expiry are the same
