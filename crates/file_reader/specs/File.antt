@@ -13,13 +13,17 @@ use Rattle.file_reader.specs.declared.Contents.{Contents}
 abbrev pub contents : ℕ → Setup → ℕ → ℕ → Contents
 contents refusal s count first = record { refusal = refusal; setup = s; count = count; first = first }
 
+-- The setup of a file.
+abbrev pub setupOf : List ℕ → Setup
+setupOf l = setupIn l (setupPlace l)
+
 -- The contents returned for a refused file: "its setup in range? 9."
 abbrev pub noContents : Contents
 noContents = contents 9 noSetup 0 0
 
 -- The contents of a file, if it is a "Run file shaped as above, its setup in range".
 unfoldable pub contentsOf : List ℕ → Contents
-contentsOf l = cond (wellFormed l) (contents 0 (setupIn l (setupPlace l)) (countOf l) (firstPlace l)) noContents
+contentsOf l = cond (wellFormed l) (contents 0 (setupOf l) (countOf l) (firstPlace l)) noContents
 
 -- "The reader hands back the note as that part of the caller's file": the bytes before the setup, "a rider's note of any length"; none for a refused file.
 unfoldable pub noteOf : List ℕ → List ℕ

@@ -1,6 +1,6 @@
 -- What a loop over an accepted file's steps can rely on.
 use Prim.Native.Nat.{ℕ, _<_}
-use mathlib.Core.Bool.{true}
+use mathlib.Core.Bool.{true, false}
 use mathlib.Core.List.{List}
 use mathlib.Core.Logic.{⊎-elim}
 use mathlib.Core.Path.{_≡_, sym, ap, _∙_}
@@ -9,12 +9,11 @@ use lib.ListN.{getD}
 use Rattle.laws.specs.Choice.{true-or-false}
 use Rattle.protocol.specs.declared.step.Step.{Step}
 use Rattle.protocol.specs.Setup.{inRange}
-use Rattle.file_records.specs.Records.{setupIn}
-use Rattle.file_shape.specs.Shape.{countOf, setupPlace, firstPlace, wellFormed}
+use Rattle.file_shape.specs.Shape.{countOf, firstPlace, wellFormed}
 use Rattle.file_shape.specs.Parts.{Parts, formed-parts, formed-in-range}
 use Rattle.file_shape.specs.Places.{placeBefore, place-first}
 use Rattle.file_reader.specs.declared.Contents.{Contents}
-use Rattle.file_reader.specs.File.{stepAt, contents, contentsOf}
+use Rattle.file_reader.specs.File.{setupOf, stepAt, contents, contentsOf}
 use Rattle.file_reader.specs.Steps.{stepsOf, step-is}
 
 -- Facts about an accepted file: the lengths of its parts, a setup in range, the number of steps, and where the running place starts.
@@ -23,6 +22,11 @@ pub record Accepted (l : List ℕ) (r : Contents) : Type 0 where
   pub in-range : inRange (r .setup) ≡ true
   pub counted : r .count ≡ countOf l
   pub starts : r .first ≡ placeBefore l 0
+
+-- r is what the reader returns for file l, which is refused.
+pub unformed : (l : List ℕ) (r : Contents) → r ≡ contentsOf l → (r .refusal ≡ 0 → ⊥) → wellFormed l ≡ false
+unfolding contentsOf
+unformed l r e a = ⊎-elim (λ t. absurd (a (ap (λ (x : Contents). x .refusal) (rw t at e)))) (λ t. t) (true-or-false (wellFormed l))
 
 -- r is what the reader returns for file l, which is accepted.
 module _ (l : List ℕ) (r : Contents) (e : r ≡ contentsOf l) (a : r .refusal ≡ 0) where
@@ -33,7 +37,7 @@ module _ (l : List ℕ) (r : Contents) (e : r ≡ contentsOf l) (a : r .refusal 
       never : _≡_ {A = ℕ} 0 9 → ⊥
       never q = omega arith
 
-  pub contents-read : r ≡ contents 0 (setupIn l (setupPlace l)) (countOf l) (firstPlace l)
+  pub contents-read : r ≡ contents 0 (setupOf l) (countOf l) (firstPlace l)
   unfolding contentsOf
   contents-read = rw formed at e
 

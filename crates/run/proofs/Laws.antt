@@ -3,55 +3,34 @@ use Prim.Native.Nat.{ℕ, _+_, _*_, _<_, _≤_}
 use native.Mathlib.Omega.{arith}
 use mathlib.Core.Bool.{true, false}
 use mathlib.Core.List.{List, _++_}
-use mathlib.Core.Logic.{⊎-elim}
 use mathlib.Core.Path.{_≡_, refl, ap, _∙_}
-use lib.ListN.{length, take, drop, replicate}
+use lib.ListN.{length, take, drop}
 use lib.Seq.{sets-eq, take-append-seam, length-take-le}
-use Rattle.laws.specs.Choice.{true-or-false}
-use Rattle.protocol.specs.declared.setup.Setup.{Setup}
-use Rattle.protocol.specs.Setup.{inRange}
-use Rattle.protocol.specs.Tables.{freshTables}
-use Rattle.protocol.specs.Saved.{names, freshMachine}
-use Rattle.state_words.specs.Fields.{WORDS}
-use Rattle.state_words.specs.View.{tablesOf, recordsOf, freshRecords}
-use Rattle.state_words.specs.Worlds.{fresh-world}
-use Rattle.state_words.specs.Saved.{machineOf, none-saved}
 use Rattle.file_shape.specs.Shape.{countOf, firstPlace, wellFormed}
 use Rattle.file_reader.specs.declared.Contents.{Contents}
-use Rattle.file_reader.specs.File.{contents, contentsOf}
-use Rattle.file_reader.specs.Reading.{formed, contents-read, accepted}
+use Rattle.file_reader.specs.File.{setupOf, contents, contentsOf}
+use Rattle.file_reader.specs.Reading.{unformed, formed, contents-read, accepted}
 use Rattle.listing.specs.Listing.{header, length-header}
 use Rattle.bytes_layout.specs.Written.{Written, written-then}
 use Rattle.run.specs.Ran.{linesOf}
 use Rattle.bytes_layout.specs.declared.output.Report.{Report}
 use Rattle.bytes_layout.specs.declared.output.Report.the-variants as report
 use Rattle.bytes_layout.specs.Report.{Reports, all-written, none-written}
-use Rattle.run.specs.Listed.{setupOf, answersOf, fileListing, listRefusal, listing-fits, listed-all, listed-short, listed-none}
-
--- ---- before the first step
--- words of zeros hold no saved state
-pub fresh-machine : (s : Setup) (w x : List ℕ) (xs : List (List ℕ)) → inRange s ≡ true → (tablesOf w x ≡ freshTables) × (recordsOf w x ≡ freshRecords)
-    → machineOf s w x (replicate names (replicate WORDS 0)) xs ≡ freshMachine s
-fresh-machine s w x xs i f = rw (fresh-world s w x i f, none-saved s xs)
+use Rattle.run.specs.Listed.{answersOf, fileListing, listRefusal, listing-fits, listed-all, listed-short, listed-none}
 
 -- ---- reading the file
-module _ (l : List ℕ) (r : Contents) (e : r ≡ contentsOf l) where
-  pub refused : (r .refusal ≡ 0 → ⊥) → wellFormed l ≡ false
-  unfolding contentsOf
-  refused a = ⊎-elim (λ t. absurd (a (ap (λ (x : Contents). x .refusal) (rw t at e)))) (λ t. t) (true-or-false (wellFormed l))
+module _ (l : List ℕ) (r : Contents) (e : r ≡ contentsOf l) (a : r .refusal ≡ 0) (out₀ out : List ℕ) (at : ℕ) (w : Written out₀ out 0 header at) where
+  read-is : r ≡ contents 0 (setupOf l) (countOf l) (firstPlace l)
+  read-is = contents-read l r e a
 
-  module _ (a : r .refusal ≡ 0) (out₀ out : List ℕ) (at : ℕ) (w : Written out₀ out 0 header at) where
-    read-is : r ≡ contents 0 (setupOf l) (countOf l) (firstPlace l)
-    read-is = contents-read l r e a
+  pub print-fits : 112640 ≤ length out₀ → at + 28 * r .count + 63 ≤ length out
+  print-fits h =
+      let c = accepted l r e a in
+      omega (arith, c .parts .few, c .counted, w .next, length-header, w .bytes .long)
 
-    pub print-fits : 112640 ≤ length out₀ → at + 28 * r .count + 63 ≤ length out
-    print-fits h =
-        let c = accepted l r e a in
-        omega (arith, c .parts .few, c .counted, w .next, length-header, w .bytes .long)
-
-    pub print-written : (out′ : List ℕ) (next : ℕ) → Written out out′ at (linesOf (r .setup) l) next → Written out₀ out′ 0 (fileListing l) next
-    unfolding fileListing answersOf
-    print-written out′ next g = written-then out₀ out out′ 0 at next header _ w (rw read-is at g)
+  pub print-written : (out′ : List ℕ) (next : ℕ) → Written out out′ at (linesOf (r .setup) l) next → Written out₀ out′ 0 (fileListing l) next
+  unfolding fileListing answersOf
+  print-written out′ next g = written-then out₀ out out′ 0 at next header _ w (rw read-is at g)
 
 -- ---- copying the listing to the lent output
 abbrev Does : List ℕ → List ℕ → List ℕ → Report → Type 0
@@ -59,7 +38,7 @@ Does l out out′ r = Reports (listRefusal l (length out)) (fileListing l) out o
 
 module _ (l : List ℕ) (r : Contents) (e : r ≡ contentsOf l) where
   pub list-refused : (out : List ℕ) → (r .refusal ≡ 0 → ⊥) → Does l out out (report.Refused 9)
-  list-refused out a = none-written _ _ out 9 (listed-none l (length out) (refused l r e a)) refl
+  list-refused out a = none-written _ _ out 9 (listed-none l (length out) (unformed l r e a)) refl
 
   module _ (a : r .refusal ≡ 0) (room buffer : List ℕ) (n : ℕ) (k : length room ≡ 112640) (w : Written room buffer 0 (fileListing l) n) where
     fits : length (fileListing l) ≤ 112640

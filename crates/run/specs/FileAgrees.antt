@@ -7,10 +7,11 @@ use Rattle.protocol.specs.Saved.{Machine, freshMachine}
 use Rattle.protocol.specs.Line.{presentLine, stepsIn, answersIn}
 use Rattle.protocol.specs.History.{HistoryAgrees}
 use Rattle.file_shape.specs.Parts.{formed-in-range}
+use Rattle.file_reader.specs.File.{setupOf}
 use Rattle.file_reader.specs.Steps.{stepsOf}
 use Rattle.listing.specs.Listing.{listingOf}
 use Rattle.promises.specs.Calls.{Calls, KeptByCalls, calls-answer, calls-there, calls-keep, calls-in-words}
-use Rattle.run.specs.Listed.{setupOf, answersOf, leftBy, fileListing, listRefusal, listed-formed}
+use Rattle.run.specs.Listed.{answersOf, leftBy, fileListing, listRefusal, listed-formed}
 
 -- The bytes are the listing of the answers rs. The answers and the machine r left after them are those of the file's steps, and each of its states agrees
 -- with its ledger after every step of its line. The present one agrees with the customer's words about the history of its line: "judged along the line of

@@ -12,14 +12,11 @@ use Rattle.protocol.specs.declared.step.Answer.{Answer}
 use Rattle.protocol.specs.declared.step.Step.{Step}
 use Rattle.protocol.specs.Gate.{orRefuse, asked}
 use Rattle.protocol.specs.Saved.{Machine, freshMachine, moved, movedBy, answersTo}
-use Rattle.file_records.specs.Records.{setupIn}
-use Rattle.file_shape.specs.Shape.{setupPlace, wellFormed}
+use Rattle.file_shape.specs.Shape.{wellFormed}
 use Rattle.file_shape.specs.Parts.{Parts, formed-parts}
+use Rattle.file_reader.specs.File.{setupOf}
 use Rattle.file_reader.specs.Steps.{stepsOf, length-steps}
 use Rattle.listing.specs.Listing.{listingOf, listing-short}
-
-abbrev pub setupOf : List ℕ → Setup
-setupOf l = setupIn l (setupPlace l)
 
 -- the answers to a file's steps, from fresh tables on and with nothing saved
 unfoldable pub answersOf : List ℕ → List Answer

@@ -2,7 +2,7 @@
 -- Letters: s setup, w words, x values, ws and xs the words and the values under each name, n a name, u what is saved under it.
 use Prim.Native.Nat.{ℕ, _<_}
 use native.Mathlib.Omega.{arith}
-use mathlib.Core.Bool.{Bool, false, cond}
+use mathlib.Core.Bool.{Bool, true, false, cond}
 use mathlib.Core.List.{List, []}
 use mathlib.Core.Path.{_≡_, ap}
 use lib.ListN.{length, getD, set, replicate, getD-replicate}
@@ -12,10 +12,13 @@ use Rattle.laws.specs.Line.{Saved, never, state}
 use Rattle.laws.specs.Parts.{parts, part-at, stored, part-length, part-replicate}
 use Rattle.laws.specs.Tabulate.{tabulate, tabulate-at, tabulate-one, tabulate-set}
 use Rattle.protocol.specs.declared.setup.Setup.{Setup}
+use Rattle.protocol.specs.Setup.{inRange}
+use Rattle.protocol.specs.Tables.{freshTables}
 use Rattle.protocol.specs.World.{World}
-use Rattle.protocol.specs.Saved.{Machine, names}
+use Rattle.protocol.specs.Saved.{Machine, names, freshMachine}
 use Rattle.state_words.specs.Fields.{wordLengths, at, WORDS, SAVED}
-use Rattle.state_words.specs.View.{tablesOf, recordsOf, worldOf}
+use Rattle.state_words.specs.View.{tablesOf, recordsOf, freshRecords, worldOf}
+use Rattle.state_words.specs.Worlds.{fresh-world}
 
 -- whether a state was saved in these words
 abbrev pub isSaved : List ℕ → Bool
@@ -76,7 +79,7 @@ module _ (s : Setup) (ws xs : List (List ℕ)) (n : ℕ) (h : n < names) where
       (rw (getD-set-same ws n w [] (omega arith), getD-set-same xs n x [] (omega arith)))
 
 -- words of zeros are no saved state
-pub none-saved : (s : Setup) (xs : List (List ℕ)) → savedOf s (replicate names (replicate WORDS 0)) xs ≡ replicate names never
+none-saved : (s : Setup) (xs : List (List ℕ)) → savedOf s (replicate names (replicate WORDS 0)) xs ≡ replicate names never
 unfolding savedOf
 none-saved s xs = tabulate-one _ never 0 names (λ n a b. rw (getD-replicate names n zeros [] (omega arith), unmarked-zeros))
   where
@@ -85,3 +88,8 @@ none-saved s xs = tabulate-one _ never 0 names (λ n a b. rw (getD-replicate nam
 
     unmarked-zeros : isSaved zeros ≡ false
     unmarked-zeros = rw (part-replicate wordLengths WORDS 0 SAVED (omega arith))
+
+-- so fresh words beside words of zeros are the machine that a run starts from
+pub fresh-machine : (s : Setup) (w x : List ℕ) (xs : List (List ℕ)) → inRange s ≡ true → (tablesOf w x ≡ freshTables) × (recordsOf w x ≡ freshRecords)
+    → machineOf s w x (replicate names (replicate WORDS 0)) xs ≡ freshMachine s
+fresh-machine s w x xs i f = rw (fresh-world s w x i f, none-saved s xs)

@@ -210,7 +210,7 @@ module _ (s : Setup) (i : inRange s ≡ true) (xs : List Step) (n : ℕ) where
   answer-sound : savedSound s q ≡ true
   answer-sound = saved-sounds s i q (machine-sound s i (earlier xs n) (freshMachine s) (fresh-machine-sound s i))
 
-  reading : asksFirst s xs n ≡ true → Unshown s (metBy s xs n) x
+  pub reading : asksFirst s xs n ≡ true → Unshown s (metBy s xs n) x
   unfolding asksFirst
   reading h =
       let a = and-true (isRead x) (isAskFirst (answerTo s q x)) (and-true (leb 1 n) _ h .1) in

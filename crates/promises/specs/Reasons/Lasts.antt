@@ -51,7 +51,7 @@ abbrev pub NameKnown : Step → Answer → Type 0
 NameKnown x a = usesName x ≡ true → isRefused a ≡ false → x .place < names
 
 -- ---- a list that grows by a step
-moved-snoc : (s : Setup) (q : Machine) (xs : List Step) (x : Step) → movedBy s q (xs ++ (x ∷ [])) ≡ moved s (movedBy s q xs) x
+pub moved-snoc : (s : Setup) (q : Machine) (xs : List Step) (x : Step) → movedBy s q (xs ++ (x ∷ [])) ≡ moved s (movedBy s q xs) x
 unfolding movedBy
 moved-snoc s q [] x = refl
 moved-snoc s q (y ∷ xs) x = moved-snoc s (moved s q y) xs x

@@ -2,11 +2,10 @@ use native.Mathlib.Omega.{arith}
 use Prim.Native.Nat.{_-_, _≤_}
 use mathlib.Core.Path.{_≡_, refl, _∙_}
 use lib.ListN.{length}
-use Rattle.state_words.specs.Saved.{machineOf}
+use Rattle.state_words.specs.Saved.{machineOf, fresh-machine}
 use Rattle.file_shape.specs.Places.{placeBefore, place-next, record-there}
 use Rattle.file_reader.specs.Reading.{accepted}
 use Rattle.run.specs.Ran.{Running, run-starts, run-ends, line-fits, run-again}
-use Rattle.run.proofs.Laws.{fresh-machine}
 use borrow.Author.Needs.{needs}
 use Rattle.run.proofs.steps.run_steps.Statement.{statement}
 use Rattle.run.proofs.steps.run_steps.Tie as tie
