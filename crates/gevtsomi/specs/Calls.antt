@@ -16,6 +16,10 @@ use Rattle.file_records.specs.Held.{held}
 use Rattle.run.specs.Listed.{fileListing, listRefusal}
 use Rattle.file_writer.specs.File.{writeRefusal}
 use Rattle.workload.specs.Workload.{workload, fileRefusal}
+use Rattle.promises.specs.declared.reasons.Reason.{Reason}
+use Rattle.reason.specs.declared.Explanation.{Explanation}
+use Rattle.reason.specs.declared.Explanation.the-variants as explanation
+use Rattle.reason.specs.Explained.{explanationOf}
 
 -- The caller's length after the call: the number of bytes written, or the old length after a refusal.
 abbrev pub lengthAfter : Report → ℕ → ℕ
@@ -40,3 +44,22 @@ WritesFile note s x before after n m r = Writes (writeRefusal (length note) s x 
 abbrev pub WritesWorkload : ℕ → List ℕ → Setup → ℕ → List ℕ → List ℕ → ℕ → ℕ → ℕ → Type 0
 WritesWorkload seed note s count before after n m r =
     Writes (fileRefusal (length note) s count (length before)) (fileBytes note s (workload s seed count)) before after n m r
+
+-- 02, A8: what a caller gets of an explanation. A refusal leaves its reason and its event as they were.
+abbrev pub explainedNumber : Explanation → ℕ
+explainedNumber (explanation.Given r) = 0
+explainedNumber (explanation.Refused k) = k
+
+abbrev pub reasonAfter : Explanation → ℕ → ℕ
+reasonAfter (explanation.Given r) before = r .why
+reasonAfter (explanation.Refused k) before = before
+
+abbrev pub eventAfter : Explanation → ℕ → ℕ
+eventAfter (explanation.Given r) before = r .step
+eventAfter (explanation.Refused k) before = before
+
+-- The call stores the reason of a file's step, r before and r′ after it, and the number of its event's step, e before and e′ after it.
+pub record TellsWhy (file : List ℕ) (step r r′ e e′ n : ℕ) : Type 0 where
+  pub number : n ≡ explainedNumber (explanationOf file step)
+  pub reason : r′ ≡ reasonAfter (explanationOf file step) r
+  pub event : e′ ≡ eventAfter (explanationOf file step) e

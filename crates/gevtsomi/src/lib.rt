@@ -3,10 +3,11 @@
 ghost use mathlib.Core.Path.{_≡_};
 ghost use Rattle.bytes_layout.specs.Report.{reportNumber};
 ghost use Rattle.export_parts.specs.Lent.{setupLent, stepsLent};
-ghost use Rattle.gevtsomi.specs.Calls.{lengthAfter, Lists, WritesFile, WritesWorkload};
+ghost use Rattle.gevtsomi.specs.Calls.{lengthAfter, Lists, WritesFile, WritesWorkload, explainedNumber, reasonAfter, eventAfter, TellsWhy};
 ghost use Rattle.export_frames.specs.Calls.{EncodesFields, DecodesFields};
 ghost use Rattle.export_frames.specs.Numbers.{fieldsFrom};
 use bytes_layout::output::Report;
+use reason::Explanation;
 
 // Returns 0 or the refusal's number; if bytes were written, stores how many.
 fn status_of(report: Report, written: &mut usize) -> u8
@@ -90,4 +91,29 @@ pub extern "C" fn gevtsomi_decode(frame: &[u8], fields: &mut [u64]) -> u8
     ensures { λ r. ⌜ DecodesFields (now (frame .entry)) (now (fields .entry)) (now (fields .exit)) r ⌝ }
 {
     export_frames::decode(frame, fields)
+}
+
+// Returns 0 or the refusal's number; if a reason was given, stores it and the step of its event.
+fn tell(explanation: Explanation, reason: &mut u8, event: &mut u32) -> u8
+    ensures number { λ r. ⌜ r ≡ explainedNumber explanation ⌝ }
+    ensures reason { λ _. ⌜ now (reason .exit) ≡ reasonAfter explanation (now (reason .entry)) ⌝ }
+    ensures event { λ _. ⌜ now (event .exit) ≡ eventAfter explanation (now (event .entry)) ⌝ }
+{
+    match explanation {
+        Explanation::Given(r) => {
+            *reason = r.why;
+            *event = r.step;
+            0
+        }
+        Explanation::Refused(k) => k,
+    }
+}
+
+// Stores why a step of a run file, by its number from 1, was answered "ask first", 1 to 6, and the number of the event's step or 0; both are 0 for any
+// other step. Returns 9 for bytes that are not a run file.
+#[no_mangle]
+pub extern "C" fn gevtsomi_why(file: &[u8], step: u32, reason: &mut u8, event: &mut u32) -> u8
+    ensures { λ r. ⌜ TellsWhy (now (file .entry)) step (now (reason .entry)) (now (reason .exit)) (now (event .entry)) (now (event .exit)) r ⌝ }
+{
+    tell(reason::why(file, step), reason, event)
 }

@@ -106,14 +106,13 @@ loop-again c =
     let at-advance = at-copy-of2 .before .before .before in
     let at-copy-of = at-advance .before .before .before .before .before in
     let at-request-of = at-copy-of .before .before .before in
-    let at-step-at = at-request-of .before .before .before in
-    (
+    let at-step-at = at-request-of .before .before .before in (
       omega (arith, taken),
       (
         place-next _ _ _ (l .loop .inv .1 .0),
         again p _ _ _ (l .loop .inv .1 .1) taken _ (l .loop .inv .1 .0) _ (at-step-at .step-at .ensures) _ _ (l .before .before .target .ensures) _ _ (at-advance .advance .ensures)
-        _ (at-request-of .request-of .ensures) _ _ (at-copy-of .copy-of .ensures) (at-copy-of2 .copy-of2 .ensures)
-        _ (at-event .event .ensures) _ (at-latest .latest .ensures) _ (c .follow .ensures),
+            _ (at-request-of .request-of .ensures) _ _ (at-copy-of .copy-of .ensures) (at-copy-of2 .copy-of2 .ensures)
+            _ (at-event .event .ensures) _ (at-latest .latest .ensures) _ (c .follow .ensures),
       ),
     )
 
