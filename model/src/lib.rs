@@ -8,6 +8,7 @@ pub mod answer;
 pub mod bits;
 pub mod checked_writer;
 pub mod copies;
+pub mod events;
 pub mod frame;
 pub mod limits;
 pub mod listing;
@@ -24,6 +25,7 @@ pub mod step_call;
 pub mod step_record;
 pub mod tables;
 pub mod unchecked_writer;
+pub mod why;
 pub mod workload;
 pub mod world;
 

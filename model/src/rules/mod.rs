@@ -1,5 +1,5 @@
-//! The rules of document 01, with A3, A4, A6 and A7 of document 02: a trait for
-//! each part of the papers, a method for each rule, in the papers' words. A
+//! The rules of document 01, with A3, A4, A6, A7 and A8 of document 02: a trait
+//! for each part of the papers, a method for each rule, in the papers' words. A
 //! mistake overrides a method (`mistakes`). The rules are a type, so calling one
 //! costs no more than calling a plain function.
 
@@ -9,6 +9,7 @@ mod grant;
 mod latest_end;
 mod network;
 mod notes;
+mod reasons;
 mod saved;
 mod server;
 mod writes;
@@ -19,6 +20,7 @@ pub use grant::GrantRules;
 pub use latest_end::LatestEnd;
 pub use network::NetworkRules;
 pub use notes::NoteRules;
+pub use reasons::*;
 pub use saved::SavedRules;
 pub use server::{waited_in, Renew, ServerRules};
 pub use writes::{alive_set, WriteRules};
@@ -109,3 +111,4 @@ impl WriteRules for Papers {}
 impl ServerRules for Papers {}
 impl SavedRules for Papers {}
 impl Rules for Papers {}
+impl ReasonRules for Papers {}
