@@ -52,6 +52,7 @@ mod latest_end;
 mod network;
 mod notes;
 mod parked;
+pub mod reasons;
 mod rows;
 mod saved;
 mod saved_names;

@@ -15,6 +15,7 @@ macro_rules! mistakes_about {
 /// otherwise the papers' rules.
 macro_rules! implement {
     (RowRules $name:ident $rule:tt) => { impl crate::cases::RowRules for $name $rule };
+    (ReasonRules $name:ident $rule:tt) => { impl crate::rules::ReasonRules for $name $rule };
     (SoundRules $name:ident $rule:tt) => { impl crate::sound::SoundRules for $name $rule };
     (Gate Gate $name:ident $rule:tt) => { impl crate::rules::Gate for $name $rule };
     (NetworkRules NetworkRules $name:ident $rule:tt) => { impl crate::rules::NetworkRules for $name $rule };
