@@ -145,7 +145,7 @@ fn batches_name_their_objects() {
 #[test]
 fn notes_name_their_objects() {
     let mut sizes = [0; 2];
-    for number in (2..150).filter(|number| number % 50 > 1) {
+    for number in (2..200).filter(|number| number % 50 > 1) {
         let run = run(25, number);
         let (picture, timeline) = (svg(&run, whole(&run)), Timeline::new(&run));
         let title = |span: &Span| match span.track {

@@ -15,6 +15,7 @@ pub mod scenes_leases;
 pub mod scenes_marks;
 pub mod scenes_parked;
 pub mod scenes_queue;
+pub mod scenes_reasons;
 pub mod scenes_restart;
 pub mod scenes_saved;
 pub mod scenes_writes;

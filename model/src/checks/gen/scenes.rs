@@ -2,7 +2,8 @@
 
 use crate::gen::builder::Builder;
 use crate::gen::{random_steps, scenes_answers, scenes_grants, scenes_latest_end, scenes_leases};
-use crate::gen::{scenes_marks, scenes_parked, scenes_queue, scenes_restart, scenes_saved, scenes_writes};
+use crate::gen::{scenes_marks, scenes_parked, scenes_queue, scenes_reasons};
+use crate::gen::{scenes_restart, scenes_saved, scenes_writes};
 use crate::limits::CLOCK_MAX;
 use crate::step_record::Step;
 
@@ -21,6 +22,7 @@ pub fn all() -> Vec<Scene> {
         scenes_marks::SCENES,
         scenes_queue::SCENES,
         scenes_saved::SCENES,
+        scenes_reasons::SCENES,
         random_steps::SCENES,
     ]
     .concat()
