@@ -16,7 +16,6 @@ use Rattle.file_records.specs.Held.{held}
 use Rattle.run.specs.Listed.{fileListing, listRefusal}
 use Rattle.file_writer.specs.File.{writeRefusal}
 use Rattle.workload.specs.Workload.{workload, fileRefusal}
-use Rattle.promises.specs.declared.reasons.Reason.{Reason}
 use Rattle.reason.specs.declared.Explanation.{Explanation}
 use Rattle.reason.specs.declared.Explanation.the-variants as explanation
 use Rattle.reason.specs.Explained.{explanationOf}

@@ -1,16 +1,16 @@
 -- A run that is followed up to a read: after k steps, the machine is the one that they leave, and the last events are those of its lines.
 -- Letters: s setup, xs the steps of the run, x the next one, q the machine, r the next one, a the answer, d client, o object, ls the last events, n a number of a step.
-use Prim.Native.Nat.{ℕ, suc, _+_, _-_, _<_, _≤_}
+use Prim.Native.Nat.{ℕ, _+_, _-_, _<_}
 use native.Mathlib.Omega.{arith}
 use native.Mathlib.Numerals.{add-one}
-use mathlib.Core.Bool.{Bool, true, false, cond, _&&_}
+use mathlib.Core.Bool.{true, false, cond}
 use mathlib.Core.List.{List, [], _∷_, _++_}
 use mathlib.Core.Logic.{⊎-elim}
 use mathlib.Core.Path.{_≡_, refl, sym, ap, _∙_}
 use lib.Dec.{ltb, leb}
 use lib.ListN.{length, getD, take}
 use lib.Seq.{length-take-le, take-suc}
-use borrow.Author.Tests.{eqb-true, ltb-true, lt-ltb, le-leb}
+use borrow.Author.Tests.{ltb-true, lt-ltb, le-leb}
 use Rattle.laws.specs.Choice.{true-or-false, and-true, both-true, not-both}
 use Rattle.protocol.specs.declared.records.Copy.{Copy}
 use Rattle.protocol.specs.declared.records.Request.{Request}
@@ -20,7 +20,7 @@ use Rattle.protocol.specs.declared.step.Step.{Step}
 use Rattle.protocol.specs.Setup.{inRange}
 use Rattle.protocol.specs.Gate.{isRead}
 use Rattle.protocol.specs.Safety.View.{copyAt, requestAt}
-use Rattle.protocol.specs.Saved.{Machine, freshMachine, answerTo, moved, movedBy, Called}
+use Rattle.protocol.specs.Saved.{Machine, freshMachine, answerTo, movedBy, Called}
 use Rattle.protocol.specs.SavedLaws.{SoundMachine, fresh-machine-sound, machine-sound}
 use Rattle.protocol.specs.Line.{actOf, entries, stepLines}
 use Rattle.promises.specs.declared.reasons.Event.{Event}
@@ -31,7 +31,7 @@ use Rattle.promises.specs.Reasons.Events.{latest, lastOf}
 use Rattle.promises.specs.Reasons.ByAnswer.{eventBy}
 use Rattle.promises.specs.Reasons.Lasts.{noEvents, NameKnown, followed, moved-snoc, Follows, name-known, follows-on, follows-start}
 use Rattle.promises.specs.Reasons.Reason.{noStep, chosen, metBy, lineBefore, asksFirst, isAskFirst, noReason, reasonBy, reasonOf}
-use Rattle.promises.specs.Reasons.Explains.{Unshown, reading}
+use Rattle.promises.specs.Reasons.Explains.{reading}
 use Rattle.reason.specs.Explained.{readsIn, ifAsked}
 
 -- ---- steps that are no read answered "ask first"

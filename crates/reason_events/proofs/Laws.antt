@@ -22,7 +22,6 @@ use Rattle.protocol.specs.declared.step.Answer.the-variants.{Done, Shown, AskFi
 use Rattle.protocol.specs.declared.step.Step.{Step}
 use Rattle.protocol.specs.Client.{stands}
 use Rattle.protocol.specs.Answers.{answerNumber}
-use Rattle.protocol.specs.Gate.{isRestartClient}
 use Rattle.protocol.specs.Saved.{names, usesName}
 use Rattle.protocol.specs.Line.{actOf}
 use Rattle.promises.specs.declared.reasons.Event.{Event}

@@ -1,12 +1,11 @@
 -- One lemma for each path through a function: the facts found along the path give its contract.
 use Prim.Native.Nat.{ℕ, _+_, _*_, _<_, _≤_}
 use native.Mathlib.Omega.{arith}
-use mathlib.Core.Bool.{true, false}
 use mathlib.Core.List.{List, _++_}
-use mathlib.Core.Path.{_≡_, refl, ap, _∙_}
+use mathlib.Core.Path.{_≡_, refl, _∙_}
 use lib.ListN.{length, take, drop}
 use lib.Seq.{sets-eq, take-append-seam, length-take-le}
-use Rattle.file_shape.specs.Shape.{countOf, firstPlace, wellFormed}
+use Rattle.file_shape.specs.Shape.{countOf, firstPlace}
 use Rattle.file_reader.specs.declared.Contents.{Contents}
 use Rattle.file_reader.specs.File.{setupOf, contents, contentsOf}
 use Rattle.file_reader.specs.Reading.{unformed, formed, contents-read, accepted}

@@ -36,7 +36,6 @@ use Rattle.protocol.specs.SavedLaws.{ordinary-answer, saved-sounds, machine-sou
 use Rattle.protocol.specs.Demand3.{demand-3-along}
 use Rattle.promises.specs.declared.reasons.Event.{Event}
 use Rattle.promises.specs.declared.reasons.Event.the-variants.{Nothing, Granted, Erased}
-use Rattle.promises.specs.declared.reasons.Last.{Last}
 use Rattle.promises.specs.Reasons.Events.{grants, invalidates, offers, restarts, erases, cause, lastOf}
 use Rattle.promises.specs.Reasons.Reason.{noStep, chosen, earlier, metBy, lineBefore, isAskFirst, asksFirst, viewUntil, copyUntil, whyBy, reasonBy, reasonOf, Happened, Missing, Holding, Explains, Explained}
 use Rattle.promises.specs.Reasons.Worth.{at-worth, run-worth}

@@ -161,6 +161,12 @@ module _ (s : Setup) (w : World) (x : Step) (sound : SoundWorld s w) (d o : ℕ)
         unfolding received grantReceived new
         grant-left z = after (Grant i n p f ver q y) h (grantStored (copyAt s (w .copies) (m .client) i) ver q y) (rw z) ∙ rw (swept-keep s)
 
+        grant-fills : isGrant (requestAt (w .requests) (m .client)) o (m .kind) ≡ true → d ≡ m .client → copyAt s (stepped s w x .copies) d o .version ≡ ver
+        unfolding new
+        grant-fills g b =
+            let r = and-true (eqb i o) (stands (requestAt (w .requests) (m .client)) n) (rw h at g) in
+            ap (λ (c : Copy). c .version) (grant-left (r .1) ∙ at-place (stored i granted-exists new) b (sym (eqb-true i o (r .0))))
+
         by-grant : Left
         unfolding received grantReceived grants
         by-grant = ⊎-elim taking (λ z. by-server _ h (uncounted (taken (w .tables) (x .place))) (rw z)) (true-or-false (stands (requestAt (w .requests) (m .client)) n))
@@ -170,12 +176,6 @@ module _ (s : Setup) (w : World) (x : Step) (sound : SoundWorld s w) (d o : ℕ)
 
             taking : stands (requestAt (w .requests) (m .client)) n ≡ true → Left
             taking z = ⊎-elim (λ b. filled (granting z (b .0) (b .1))) (λ b. stays (grant-left z ∙ b .1)) (stored i granted-exists new)
-
-        grant-fills : isGrant (requestAt (w .requests) (m .client)) o (m .kind) ≡ true → d ≡ m .client → copyAt s (stepped s w x .copies) d o .version ≡ ver
-        unfolding new
-        grant-fills g b =
-            let r = and-true (eqb i o) (stands (requestAt (w .requests) (m .client)) n) (rw h at g) in
-            ap (λ (c : Copy). c .version) (grant-left (r .1) ∙ at-place (stored i granted-exists new) b (sym (eqb-true i o (r .0))))
 
       by-invalidate : (i f ver : ℕ) → m .kind ≡ Invalidate i f ver → Left
       unfolding received invalidateReceived invalidates cause

@@ -13,16 +13,13 @@ use lib.Seq.{getD-set-same, getD-set-other}
 use borrow.Author.Tests.{ltb-true}
 use Rattle.laws.specs.Choice.{and-true, not-both, same?}
 use Rattle.laws.specs.Each.{each-getD, each-replicate}
-use Rattle.laws.specs.Line.{Saved, never, state, Kept, start, savedUnder, stateOr, Act, go, save, back, idle, follow, longer, along, along-on, length-along, made, OfSaved, savedAs, keptAs, under-as}
-use Rattle.protocol.specs.declared.records.Copy.{Copy}
-use Rattle.protocol.specs.declared.records.Request.{Request}
+use Rattle.laws.specs.Line.{Saved, never, state, Kept, start, savedUnder, stateOr, Act, go, save, back, idle, follow, longer, along, along-on, length-along, made, OfSaved, savedAs, under-as}
 use Rattle.protocol.specs.declared.setup.Setup.{Setup}
 use Rattle.protocol.specs.declared.step.Answer.{Answer}
 use Rattle.protocol.specs.declared.step.Answer.the-variants.{Done, Refused}
 use Rattle.protocol.specs.declared.step.Step.{Step}
 use Rattle.protocol.specs.Setup.{inRange}
 use Rattle.protocol.specs.Answers.{isRefused}
-use Rattle.protocol.specs.World.{World}
 use Rattle.protocol.specs.Safety.View.{copyAt, requestAt}
 use Rattle.protocol.specs.Saved.{Machine, names, freshMachine, isSave, isReturn, usesName, worldSound, savedSound, isThere, named, answerTo, moved, movedBy}
 use Rattle.protocol.specs.SavedLaws.{or-yes-right, ordinary-answer, ordinary-move, name-answer, saved-sounds}

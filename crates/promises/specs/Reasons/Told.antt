@@ -3,13 +3,13 @@
 use Prim.Native.Nat.{ℕ, _<_, _≤_}
 use native.Mathlib.Omega.{arith}
 use mathlib.Core.Bool.{Bool, true, false, not, _&&_}
-use mathlib.Core.List.{List, [], _∷_, _++_, map, map-append, append-assoc, append-nil}
+use mathlib.Core.List.{List, [], _∷_, _++_, map-append, append-assoc, append-nil}
 use mathlib.Core.Logic.{⊎-elim}
 use mathlib.Core.Path.{_≡_, refl, sym, ap, _∙_}
 use lib.Dec.{eqb}
 use borrow.Author.Tests.{eqb-true}
 use Rattle.laws.specs.Choice.{true-or-false, or-false, not-both}
-use Rattle.laws.specs.Line.{start, along, made, made-snoc, longer, keptAs, of-line}
+use Rattle.laws.specs.Line.{made, made-snoc, longer}
 use Rattle.protocol.specs.declared.records.Copy.{Copy}
 use Rattle.protocol.specs.declared.setup.Setup.{Setup}
 use Rattle.protocol.specs.declared.step.Step.{Step}
@@ -17,8 +17,7 @@ use Rattle.protocol.specs.Tables.{noCopy}
 use Rattle.protocol.specs.World.{World, freshWorld, stepped, ran}
 use Rattle.protocol.specs.Soundness.Question.{SoundWorld, stepped-sound}
 use Rattle.protocol.specs.Safety.View.{copyAt}
-use Rattle.protocol.specs.Saved.{names}
-use Rattle.protocol.specs.Line.{Entry, entryAct, stepLines, stepsIn, ranBy}
+use Rattle.protocol.specs.Line.{Entry, stepsIn, ranBy}
 use Rattle.protocol.specs.Reached.{ran-on}
 use Rattle.promises.specs.declared.reasons.Event.{Event}
 use Rattle.promises.specs.declared.reasons.Event.the-variants.{Nothing, Granted, Erased}
@@ -101,20 +100,11 @@ module _ (s : Setup) (d o : ℕ) where
   unfolding made Uneventful
   last-tells l = tells-on l [] (refl, tt)
 
--- ---- the last event is saved and restored with the state: kept so, beside each state, it is the one of that state's line
-pub last-along : (s : Setup) (d o : ℕ) (es : List Entry)
-    → along (after s d o) (start names (freshWorld s, noEvent)) (map entryAct es) ≡ keptAs (made (after s d o) (freshWorld s, noEvent)) (stepLines es)
-last-along s d o es = of-line (after s d o) (freshWorld s, noEvent) names (map entryAct es)
-
 -- ---- a copy as long as no event comes
 -- version and expiry are the same
 pub record AsBefore (c g : Copy) : Type 0 where
   pub version : g .version ≡ c .version
   pub expiry : g .expiry ≡ c .expiry
-
--- what stays where nothing went to 0
-was-zero : (a : ℕ) → wentToZero a 0 ≡ false → a ≡ 0
-was-zero a h = ⊎-elim (λ e. eqb-true a 0 e) (λ e. not-both (rw e) h) (true-or-false (eqb a 0))
 
 none-went : (a : ℕ) → wentToZero a a ≡ false
 none-went a = pick (eqb a 0)
@@ -122,6 +112,10 @@ none-went a = pick (eqb a 0)
     pick : (b : Bool) → (not b && b) ≡ false
     pick true = refl
     pick false = refl
+
+-- what stays where nothing went to 0
+was-zero : (a : ℕ) → wentToZero a 0 ≡ false → a ≡ 0
+was-zero a h = ⊎-elim (λ e. eqb-true a 0 e) (λ e. not-both (rw e) h) (true-or-false (eqb a 0))
 
 none-vanished : (c : Copy) → vanished c noCopy ≡ false → AsBefore c noCopy
 unfolding vanished

@@ -1,7 +1,7 @@
 use native.Mathlib.Nat.{le-of-lt}
 use native.Mathlib.Omega.{arith}
 use Prim.Native.Nat.{_-_, _≤_}
-use mathlib.Core.Path.{_≡_, refl, _∙_}
+use mathlib.Core.Path.{_≡_}
 use Rattle.state_words.specs.Saved.{machineOf, fresh-machine}
 use Rattle.file_shape.specs.Places.{placeBefore, place-next}
 use Rattle.file_reader.specs.Steps.{stepsOf}
