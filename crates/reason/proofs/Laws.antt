@@ -8,7 +8,7 @@ use mathlib.Core.List.{List}
 use mathlib.Core.Path.{_≡_, sym, _∙_}
 use lib.Dec.{ltb}
 use lib.ListN.{length, getD, List·getD-eq-default}
-use borrow.Author.Tests.{eqb-true, eq-eqb, ne-eqb, ltb-true, le-leb, lt-leb}
+use borrow.Author.Tests.{eq-eqb, ne-eqb, ltb-true, le-leb, lt-leb}
 use Rattle.laws.specs.Choice.{and-true}
 use Rattle.laws.specs.Parts.{part-at}
 use Rattle.protocol.specs.declared.records.Copy.{Copy}
@@ -17,12 +17,11 @@ use Rattle.protocol.specs.declared.setup.Setup.{Setup}
 use Rattle.protocol.specs.declared.step.Answer.{Answer}
 use Rattle.protocol.specs.declared.step.Step.{Step}
 use Rattle.protocol.specs.declared.step.Target.{Target}
-use Rattle.protocol.specs.declared.tables.Tables.{Tables}
 use Rattle.protocol.specs.Tables.{byVolume, noCopy, noRequest}
 use Rattle.protocol.specs.Setup.{inRange}
 use Rattle.protocol.specs.Answers.{answerNumber}
 use Rattle.protocol.specs.Gate.{isRead}
-use Rattle.protocol.specs.World.{World, targetAt, target}
+use Rattle.protocol.specs.World.{World, targetAt}
 use Rattle.protocol.specs.Saved.{Machine, answerTo, Called}
 use Rattle.protocol.specs.Line.{actOf}
 use Rattle.protocol.specs.Safety.View.{copyAt, requestAt}
@@ -61,17 +60,13 @@ pub view-is : (s : Setup) (w v : List ℕ) (x : Step) (m : ℕ) → x .client < 
 unfolding tablesOf
 view-is s w v x m h p = rw (← p .is) (part-at wordLengths w VIEW-EXPIRY (byVolume (x .client) m) (omega (arith, p .clients, p .volume)))
 
--- a read touches the records that it names
-pub read-target : (s : Setup) (t : Tables) (x : Step) → x .kind ≡ 2 → target s t x ≡ targetAt s (x .client) (x .object)
-unfolding target
-read-target s t x e = rw e
-
-module _ (s : Setup) (t : Tables) (x : Step) (e : x .kind ≡ 2) (at : Target) (f : at ≡ target s t x) where
+-- the records that a read names
+module _ (s : Setup) (x : Step) (at : Target) (f : at ≡ targetAt s (x .client) (x .object)) where
   pub copy-read : (cs : List Copy) (c : Copy) → c ≡ getD cs (at .copy) noCopy → c ≡ copyAt s cs (x .client) (x .object)
-  copy-read cs c p = rw (f ∙ read-target s t x e) at p
+  copy-read cs c p = rw f at p
 
   pub request-read : (rs : List Request) (r : Request) → r ≡ getD rs (at .client) noRequest → r ≡ requestAt rs (x .client)
-  request-read rs r p = rw (f ∙ read-target s t x e) at p
+  request-read rs r p = rw f at p
 
   pub reasoned : (w : World) (k : Last) (c : Copy) (view why : ℕ) → c ≡ getD (w .copies) (at .copy) noCopy → view ≡ viewUntil s w (x .client) (x .object)
       → why ≡ whyBy view (c .expiry) (k .event) → record { why = why; step = k .step } ≡ reasonBy s w (x .client) (x .object) k
@@ -93,9 +88,6 @@ module _ {l : List ℕ} {c : Contents} {k : ℕ} {x : Step} (p : Chosen l c k x)
   pub in-range : inRange (c .setup) ≡ true
   in-range = facts .in-range
 
-  pub is-read : x .kind ≡ 2
-  is-read = eqb-true (x .kind) 2 (and-true (isRead x) _ (p .reads) .0)
-
   pub client-there : x .client < c .setup .clients
   client-there = ltb-true _ _ (and-true (ltb (x .client) (c .setup .clients)) _ (and-true (isRead x) _ (p .reads) .1) .0)
 
@@ -114,15 +106,15 @@ module _ {l : List ℕ} {c : Contents} {k : ℕ} {x : Step} (p : Chosen l c k x)
     pub named : (a : Answer) → a ≡ answerTo (c .setup) q y → NameKnown y a
     named = follow-named (c .setup) (stepsOf l) x in-range q ls j g (within j (le-of-lt h)) (p .reads) y (step-there place j e (le-of-lt h) y f)
 
-    pub again : (t : Tables) (at : Target) → at ≡ target (c .setup) t x → (a : Answer) (r : Machine) → Called (c .setup) q y a r
+    pub again : (at : Target) → at ≡ targetAt (c .setup) (x .client) (x .object) → (a : Answer) (r : Machine) → Called (c .setup) q y a r
         → (u : Request) → u ≡ getD (q .now .requests) (at .client) noRequest
         → (b b′ : Copy) → b ≡ getD (q .now .copies) (at .copy) noCopy → b′ ≡ getD (r .now .copies) (at .copy) noCopy
         → (v : Event) → v ≡ eventBy (x .client) (x .object) u b b′ y a → (m : Last) → m ≡ latest (ls .now) (j + 1) v → (ls′ : Lasts) → ls′ ≡ followed ls (actOf m y a)
         → Following (c .setup) (stepsOf l) x r ls′ (j + 1)
-    again t at i a r d u ue b b′ be be′ =
+    again at i a r d u ue b b′ be be′ =
         follow-again (c .setup) (stepsOf l) x in-range q ls j g (within j (le-of-lt h)) (p .reads) y (step-there place j e (le-of-lt h) y f) a r d
-        u (request-read (c .setup) t x is-read at i (q .now .requests) u ue)
-        b b′ (copy-read (c .setup) t x is-read at i (q .now .copies) b be) (copy-read (c .setup) t x is-read at i (r .now .copies) b′ be′)
+        u (request-read (c .setup) x at i (q .now .requests) u ue)
+        b b′ (copy-read (c .setup) x at i (q .now .copies) b be) (copy-read (c .setup) x at i (r .now .copies) b′ be′)
 
   -- the read itself
   pub ends : (q : Machine) (ls : Lasts) (j : ℕ) → Following (c .setup) (stepsOf l) x q ls j → j ≤ k → k ≤ j → (a : Answer) → a ≡ answerTo (c .setup) q x

@@ -53,12 +53,11 @@ pub fn reason_by<'a>(
     last: Last,
 ) -> Reason
     requires { ⌜ inRange setup ≡ true ⌝ }
-    requires { ⌜ read .kind ≡ 2 ⌝ }
     requires { ⌜ read .client < setup .clients ⌝ }
     requires { ⌜ read .object < setup .objects ⌝ }
     ensures { λ r. ⌜ r ≡ reasonBy setup (worldOf setup (now (words .entry)) (now (values .entry))) (read .client) (read .object) last ⌝ }
 {
-    let at = step_target::target(setup, words, values, read);
+    let at = step_target::target_at(setup, read.client, read.object);
     let copy = client_apply::copy_of(setup, words, values, at);
     let view = view_until(setup, words, values, read);
     let event = last.event;

@@ -40,7 +40,7 @@ pub fn run_until(file: &[u8], c: Contents, count: u32, read: Step) -> Reason
     let mut saved = [[0; WORDS]; NAMES];
     let mut saved_values = [[0; VALUES]; NAMES];
     state_words::fresh::fresh(&mut words, &mut values);
-    let at = step_target::target(s, &words, &values, read);
+    let at = step_target::target_at(s, read.client, read.object);
     let mut lasts = reason_events::no_events();
     let mut place = c.first;
     let mut k = 0;

@@ -46,7 +46,7 @@ fn object_of(k: Kind) -> u8
 }
 
 // Returns the places of a client's records and of its copy of an object.
-fn target_at(setup: Setup, client: u8, object: u8) -> Target
+pub fn target_at(setup: Setup, client: u8, object: u8) -> Target
     ensures { λ r. ⌜ r ≡ targetAt setup client object ⌝ }
 {
     let first = client as usize * setup.objects as usize;

@@ -93,7 +93,8 @@ erases s w x d o = vanished (copyAt s (w .copies) d o) (copyAt s (stepped s w x 
 abbrev pub happens : Setup → World → Step → ℕ → ℕ → Bool
 happens s w x d o = grants s w x d o || erases s w x d o
 
--- ---- which reason an erasing step is: "copy invalidated, leases dropped on an offer or batch, dash restarted", 2 to 4. No other step erases a copy
+-- ---- which reason an erasing step is; no other step erases a copy
+-- "copy invalidated, leases dropped on an offer or batch"
 abbrev pub receiptCause : Kind → ℕ
 receiptCause (Renew _ _ _ _) = 0
 receiptCause (Grant _ _ _ _ _ _ _) = 0
@@ -104,6 +105,7 @@ receiptCause (Dropped _ _ _) = 0
 receiptCause (Batch _ _ _ _) = 3
 receiptCause (Cleared _ _ _ _) = 0
 
+-- "dash restarted"
 unfoldable pub cause : World → Step → ℕ
 cause w x = cond (isRestartClient x) 4 (receiptCause (deliveredBy w x .kind))
 

@@ -2,20 +2,21 @@
 -- dead."
 -- Letters: s setup, l a line, u the state that it leads to, w an earlier one, d client, o object, k the last event, xs the steps of the run, n the number of the
 -- chosen one, x the chosen one, q the machine that it meets.
-use Prim.Native.Nat.{ℕ, _-_, _<_, _≤_}
+use Prim.Native.Nat.{ℕ, zero, suc, _-_, _<_, _≤_}
 use native.Mathlib.Omega.{arith}
 use mathlib.Core.Bool.{Bool, true, false, _&&_}
-use mathlib.Core.List.{List}
+use mathlib.Core.List.{List, [], _∷_}
 use mathlib.Core.Logic.{_⊎_, inl, inr, ⊎-elim}
 use mathlib.Core.Path.{_≡_, refl, sym, ap, _∙_}
 use lib.Dec.{leb, ltb}
-use lib.ListN.{length-take}
+use lib.ListN.{length, length-take, getD, take}
 use lib.Seq.{getD-take}
 use borrow.Author.Tests.{eqb-true, ne-eqb, leb-true, leb-false, ltb-true, lt-ltb}
 use Rattle.laws.specs.Choice.{cond-keeps, true-or-false, and-true, both-true, not-both}
 use Rattle.laws.specs.Lists.{all-part}
 use Rattle.protocol.specs.declared.records.Copy.{Copy}
 use Rattle.protocol.specs.declared.setup.Setup.{Setup}
+use Rattle.protocol.specs.declared.step.Answer.{Answer}
 use Rattle.protocol.specs.declared.step.Decision.{Decision}
 use Rattle.protocol.specs.declared.step.Step.{Step}
 use Rattle.protocol.specs.Setup.{inRange}
@@ -29,7 +30,7 @@ use Rattle.protocol.specs.Soundness.StepCases.{Accepted, accepted, copyOf, requ
 use Rattle.protocol.specs.Soundness.Question.{SoundWorld, stepped-sound}
 use Rattle.protocol.specs.Safety.View.{copyAt}
 use Rattle.protocol.specs.Reached.{run-sound}
-use Rattle.protocol.specs.Saved.{Machine, freshMachine, savedSound, answerTo, movedBy}
+use Rattle.protocol.specs.Saved.{Machine, freshMachine, savedSound, answerTo, moved, movedBy, answersTo}
 use Rattle.protocol.specs.Line.{Entry, Listed, stepsIn, ranBy}
 use Rattle.protocol.specs.Along.{line-listed}
 use Rattle.protocol.specs.SavedLaws.{ordinary-answer, saved-sounds, machine-sound, fresh-machine-sound}
@@ -228,6 +229,17 @@ module _ (s : Setup) (i : inRange s ≡ true) (xs : List Step) (n : ℕ) where
   pub explains : Explained s xs n (reasonOf s xs n)
   unfolding reasonOf
   explains = record { other = λ h. rw h (refl, refl); asked = λ h. rw h (reasoned h) }
+
+-- ---- the answer to the chosen step is the one in the listing of all answers
+answer-at : (s : Setup) (q : Machine) (xs : List Step) (k : ℕ) (b : Answer) → k < length xs → getD (answersTo s q xs) k b ≡ answerTo s (movedBy s q (take k xs)) (getD xs k noStep)
+unfolding answersTo movedBy
+answer-at s q [] k b h = absurd (omega arith)
+answer-at s q (x ∷ xs) zero b h = refl
+answer-at s q (x ∷ xs) (suc k) b h = answer-at s (moved s q x) xs k b (omega arith)
+
+pub chosen-listed : (s : Setup) (xs : List Step) (n : ℕ) (b : Answer) → 1 ≤ n → n ≤ length xs
+    → getD (answersTo s (freshMachine s) xs) (n - 1) b ≡ answerTo s (movedBy s (freshMachine s) (earlier xs n)) (chosen xs n)
+chosen-listed s xs n b h i = answer-at s (freshMachine s) xs (n - 1) b (omega arith)
 
 -- ---- "It also names that event's step": the number is its place in the list, before the chosen one
 module _ (s : Setup) (xs : List Step) (n d o k : ℕ) {P : World → Step → Type 0} (h : Happened s d o (lineBefore s xs n) k P) where

@@ -51,7 +51,8 @@ isAskFirst a = eqb (answerNumber a) 2
 unfoldable pub asksFirst : Setup → List Step → ℕ → Bool
 asksFirst s xs n = leb 1 n && (isRead (chosen xs n) && isAskFirst (answerTo s (movedBy s (freshMachine s) (earlier xs n)) (chosen xs n)))
 
--- ---- the reason: its number, and "that event's step, or 0"
+-- ---- the reason
+-- when the client's lease on the object's volume ends, and when that on the object does
 abbrev pub viewUntil : Setup → World → ℕ → ℕ → ℕ
 viewUntil s w d o = viewExpiryAt (w .tables) d (volumeOf s o)
 
@@ -64,6 +65,7 @@ whyBy view copy Nothing = 1
 whyBy view copy Granted = cond (leb view copy) 5 6
 whyBy view copy (Erased why) = why
 
+-- "It also names that event's step, or 0."
 abbrev pub reasonBy : Setup → World → ℕ → ℕ → Last → Reason
 reasonBy s w d o k = record { why = whyBy (viewUntil s w d o) (copyUntil s w d o) (k .event); step = k .step }
 

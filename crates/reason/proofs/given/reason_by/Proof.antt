@@ -3,8 +3,8 @@ use borrow.Author.Needs.{needs}
 use Rattle.reason.proofs.given.reason_by.Statement.{statement}
 use Rattle.reason.proofs.given.reason_by.Tie as tie
 
-target-requires : tie.Need-target-requires
-target-requires c κs = search needs
+target-at-requires : tie.Need-target-at-requires
+target-at-requires c κs = search needs
 
 copy-of-requires : tie.Need-copy-of-requires
 copy-of-requires c κs = search needs
@@ -21,4 +21,4 @@ returns c = search reasoned
 pub reason-by-spec : {M : Type 1} → statement M
 reason-by-spec =
     tie.close
-    (tie.spec target-requires copy-of-requires view-until-requires why-by-requires returns)
+    (tie.spec target-at-requires copy-of-requires view-until-requires why-by-requires returns)
