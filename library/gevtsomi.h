@@ -1,7 +1,7 @@
 /*
  * The lease system of documents 01 and 02 for C and C++. It lists whole runs,
- * writes run files from their parts or from a seed, and converts messages to
- * and from frames.
+ * tells why a read was answered "ask first", writes run files from their parts
+ * or from a seed, and converts messages to and from frames.
  *
  * The work is done by the proved code in libgevtsomi.a. It allocates nothing,
  * does no input or output and keeps nothing from call to call, so threads may
@@ -20,8 +20,8 @@
  * - lets nobody else write what is lent, or read an output, until the call
  *   returns;
  * - has enough stack left: GEVTSOMI_LIST_STACK_BYTES for gevtsomi_list,
- *   GEVTSOMI_WRITE_STACK_BYTES for gevtsomi_write and gevtsomi_workload, 4,096
- *   bytes for the others.
+ *   GEVTSOMI_WHY_STACK_BYTES for gevtsomi_why, GEVTSOMI_WRITE_STACK_BYTES for
+ *   gevtsomi_write and gevtsomi_workload, 4,096 bytes for the others.
  */
 #ifndef GEVTSOMI_H
 #define GEVTSOMI_H
@@ -35,9 +35,9 @@ extern "C" {
 
 /* The version of this library. The second number grows when callers or files
    have to change, and CHANGES.md in the repository says how; else the third. */
-#define GEVTSOMI_VERSION "0.7.0"
+#define GEVTSOMI_VERSION "0.8.0"
 #define GEVTSOMI_VERSION_MAJOR 0
-#define GEVTSOMI_VERSION_MINOR 7
+#define GEVTSOMI_VERSION_MINOR 8
 #define GEVTSOMI_VERSION_PATCH 0
 
 /* What a call returns when it is not refused. */
@@ -61,6 +61,7 @@ extern "C" {
 #define GEVTSOMI_FILE_BYTES 65536
 #define GEVTSOMI_LISTING_BYTES 112640
 #define GEVTSOMI_LIST_STACK_BYTES 221184
+#define GEVTSOMI_WHY_STACK_BYTES 106496
 #define GEVTSOMI_WRITE_STACK_BYTES 278528
 
 /* The lengths of a setup and a step in a run file, the most objects of a setup,
@@ -94,6 +95,19 @@ extern "C" {
 #define GEVTSOMI_STEP_BYTES 16
 #define GEVTSOMI_OBJECTS 28
 #define GEVTSOMI_STEPS 4000
+
+/* Why a read was answered "ask first": what happened last to the client's copy
+   of the object (its leases are dropped on an OFFER or a BATCH) or, after a
+   grant, which of the two leases ran out first, the volume lease if both did at
+   once. */
+enum gevtsomi_reason {
+    GEVTSOMI_NEVER_GRANTED = 1,
+    GEVTSOMI_COPY_INVALIDATED,
+    GEVTSOMI_LEASES_DROPPED,
+    GEVTSOMI_CLIENT_RESTARTED,
+    GEVTSOMI_VOLUME_LEASE_RAN_OUT,
+    GEVTSOMI_OBJECT_LEASE_RAN_OUT
+};
 
 /* The length of a frame. */
 #define GEVTSOMI_FRAME_BYTES 32
@@ -139,6 +153,16 @@ enum gevtsomi_field {
    output; else 8 if output is shorter than the listing. */
 uint8_t gevtsomi_list(const uint8_t *file, size_t file_len, uint8_t *output, size_t output_len,
                       size_t *written);
+
+/* Writes to reason why a step of a run file was answered "ask first", and to
+   event the step of the event that it comes from: the one that erased the copy
+   or dropped its lease or, after a grant, the object's last GRANT; 0 if the
+   client was never granted the object. Steps count from 1, as in the listing.
+   Only events on the line of steps that led to the read count, not those that a
+   return has left behind. Both are 0 for a step that is not a read answered "ask
+   first" or not in the run. Returns 9 if the bytes are not a run file. */
+uint8_t gevtsomi_why(const uint8_t *file, size_t file_len, uint32_t step, uint8_t *reason,
+                     uint32_t *event);
 
 /* Writes the run file of this note, setup and these step records, one after
    the other, to the start of output, and its length to written. It is the only

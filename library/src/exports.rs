@@ -18,6 +18,14 @@ mod ffi {
             written: *mut usize,
         ) -> u8;
 
+        pub fn gevtsomi_why(
+            file: *const u8,
+            file_len: usize,
+            step: u32,
+            reason: *mut u8,
+            event: *mut u32,
+        ) -> u8;
+
         pub fn gevtsomi_encode(
             head: *const [u8; 4],
             numbers: *const [u32; 5],
@@ -71,6 +79,15 @@ pub fn list(file: &[u8], output: &mut [u8]) -> Result<usize, Refused> {
         ffi::gevtsomi_list(file.as_ptr(), file.len(), output.as_mut_ptr(), output.len(), &mut written)
     };
     accepted(number).map(|()| written)
+}
+
+/// Returns the numbers of the reason and of the event's step.
+pub fn why(file: &[u8], step: u32) -> Result<(u8, u32), Refused> {
+    let (mut reason, mut event) = (0, 0);
+    // SAFETY: the slice is valid for its length while the call lasts; `reason`
+    // and `event` are locals.
+    let number = unsafe { ffi::gevtsomi_why(file.as_ptr(), file.len(), step, &mut reason, &mut event) };
+    accepted(number).map(|()| (reason, event))
 }
 
 pub fn encode(fields: &Fields, output: &mut [u8]) -> Result<(), Refused> {

@@ -1,8 +1,8 @@
 //! The C header has the same numbers as the package.
 
 use gevtsomi::{
-    decode, list, workload, write, Setup, Step, FILE_BYTES, FRAME_BYTES, LISTING_BYTES, LIST_STACK_BYTES,
-    OBJECTS, SETUP_BYTES, STEPS, STEP_BYTES, WRITE_STACK_BYTES,
+    decode, list, why, workload, write, Reason, Setup, Step, FILE_BYTES, FRAME_BYTES, LISTING_BYTES,
+    LIST_STACK_BYTES, OBJECTS, SETUP_BYTES, STEPS, STEP_BYTES, WHY_STACK_BYTES, WRITE_STACK_BYTES,
 };
 
 const HEADER: &str = include_str!("../gevtsomi.h");
@@ -31,12 +31,31 @@ fn its_lengths_are_the_packages() {
     assert_eq!(defined("GEVTSOMI_FILE_BYTES"), FILE_BYTES);
     assert_eq!(defined("GEVTSOMI_LISTING_BYTES"), LISTING_BYTES);
     assert_eq!(defined("GEVTSOMI_LIST_STACK_BYTES"), LIST_STACK_BYTES);
+    assert_eq!(defined("GEVTSOMI_WHY_STACK_BYTES"), WHY_STACK_BYTES);
     assert_eq!(defined("GEVTSOMI_WRITE_STACK_BYTES"), WRITE_STACK_BYTES);
     assert_eq!(defined("GEVTSOMI_SETUP_BYTES"), SETUP_BYTES);
     assert_eq!(defined("GEVTSOMI_STEP_BYTES"), STEP_BYTES);
     assert_eq!(defined("GEVTSOMI_OBJECTS"), OBJECTS);
     assert_eq!(defined("GEVTSOMI_STEPS"), STEPS);
     assert_eq!(defined("GEVTSOMI_FRAME_BYTES"), FRAME_BYTES);
+}
+
+/// The enum's first name has a number, and the others follow it.
+#[test]
+fn its_reasons_are_the_packages() {
+    let body = HEADER.split_once("enum gevtsomi_reason {\n").expect("the enum").1;
+    let lines = body.lines().take_while(|line| !line.starts_with('}'));
+    let names: Vec<&str> = lines.map(|line| line.trim().trim_end_matches(',')).collect();
+    let reasons = [
+        (Reason::NeverGranted, "GEVTSOMI_NEVER_GRANTED = 1"),
+        (Reason::CopyInvalidated, "GEVTSOMI_COPY_INVALIDATED"),
+        (Reason::LeasesDropped, "GEVTSOMI_LEASES_DROPPED"),
+        (Reason::ClientRestarted, "GEVTSOMI_CLIENT_RESTARTED"),
+        (Reason::VolumeLeaseRanOut, "GEVTSOMI_VOLUME_LEASE_RAN_OUT"),
+        (Reason::ObjectLeaseRanOut, "GEVTSOMI_OBJECT_LEASE_RAN_OUT"),
+    ];
+    assert_eq!(names, reasons.map(|(_, name)| name));
+    assert_eq!(reasons.map(|(reason, _)| reason as u8), [1, 2, 3, 4, 5, 6]);
 }
 
 const SETUP: Setup = Setup {
@@ -54,8 +73,10 @@ const SETUP: Setup = Setup {
 fn its_refusals_are_those_given() {
     let no_file = list(&[], &mut []).unwrap_err();
     let no_room = list(FILE, &mut []).unwrap_err();
+    let no_run = why(&[], 1).unwrap_err();
     let no_frame = decode(&[]).unwrap_err();
     assert_eq!(defined("GEVTSOMI_NO_RUN_FILE"), no_file.number.into());
+    assert_eq!(defined("GEVTSOMI_NO_RUN_FILE"), no_run.number.into());
     assert_eq!(defined("GEVTSOMI_NO_FRAME_OR_ROOM"), no_room.number.into());
     assert_eq!(defined("GEVTSOMI_NO_FRAME_OR_ROOM"), no_frame.number.into());
     for (setup, name) in [(&[][..], "GEVTSOMI_BAD_SETUP"), (&SETUP.bytes(), "GEVTSOMI_NOT_WRITTEN")] {
