@@ -1,6 +1,6 @@
 //! Runs executed by the proved library.
 
-use gevtsomi::{list, LISTING_BYTES};
+use gevtsomi::{list, Why, LISTING_BYTES};
 use model::gen::runs::Run;
 
 use crate::listed::{line, Listed};
@@ -14,6 +14,13 @@ pub fn listing(run: &Run) -> Vec<u8> {
 /// Returns the answer to each step.
 pub fn answers(run: &Run) -> Vec<Listed> {
     answers_of(&to_file(run))
+}
+
+/// Returns why the run's last step was answered "ask first", if it is a read
+/// answered so.
+pub fn why(run: &Run) -> Option<Why> {
+    let last = run.steps.len() as u32;
+    gevtsomi::why(&to_file(run), last).expect("a run file")
 }
 
 /// Returns the listing of a file that the library wrote, which it never

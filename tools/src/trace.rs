@@ -1,9 +1,10 @@
 //! Runs a run through the model, step by step.
 
+use gevtsomi::Why;
 use model::answer::Answer;
 use model::copies::ObjectCopy;
 use model::gen::runs::Run;
-use model::message::Message;
+use model::message::{Kind, Message};
 use model::requests::Request;
 use model::setup::Setup;
 use model::state::{Machine, Saved, State};
@@ -12,6 +13,7 @@ use model::step_record::Step;
 use model::tables::{Server, Write};
 
 use crate::line::Lines;
+use crate::proved;
 use crate::voice::Voice;
 
 /// One step, with the model's state before and after it.
@@ -25,10 +27,21 @@ pub struct Moment<'a> {
     pub before: &'a State,
     pub after: &'a State,
     pub answer: Answer,
+    /// The steps so far, this one too. Step k is at index k - 1.
+    pub past: &'a [Past],
     /// The saved states after it, by name.
     pub saved: &'a Saved,
     /// The lines of the steps up to this one.
     pub lines: &'a Lines,
+}
+
+/// A step as a later one looks back at it.
+pub struct Past {
+    pub step: Step,
+    /// The clock after it.
+    pub clock: u32,
+    /// The message that it delivered.
+    pub delivered: Option<Kind>,
 }
 
 /// A run in progress: the states that its steps so far have led to and saved.
@@ -37,12 +50,12 @@ pub struct Walk<'a> {
     voice: Voice,
     machine: Machine,
     lines: Lines,
-    taken: usize,
+    past: Vec<Past>,
 }
 
 impl<'a> Walk<'a> {
     pub fn fresh(setup: &'a Setup, voice: Voice) -> Walk<'a> {
-        Walk { setup, voice, machine: Machine::fresh(), lines: Lines::default(), taken: 0 }
+        Walk { setup, voice, machine: Machine::fresh(), lines: Lines::default(), past: Vec::new() }
     }
 
     /// Returns the messages under way.
@@ -55,11 +68,16 @@ impl<'a> Walk<'a> {
     pub fn take<T>(&mut self, record: Step, seen: impl FnOnce(&Moment) -> T) -> T {
         let before = self.machine.state;
         let answer = step(&mut self.machine.world(self.setup), &record);
-        self.taken += 1;
+        let delivered = match answer {
+            Answer::Delivered { message, .. } => Some(message.kind),
+            _ => None,
+        };
+        self.past.push(Past { step: record, clock: self.machine.state.tables.clock, delivered });
         self.lines.follow(&record, matches!(answer, Answer::Refused(_)));
-        let (number, setup, voice) = (self.taken, self.setup, self.voice);
-        let (Machine { state: after, saved }, lines) = (&self.machine, &self.lines);
-        seen(&Moment { number, step: record, setup, voice, before: &before, after, answer, saved, lines })
+        let (number, setup, voice) = (self.past.len(), self.setup, self.voice);
+        let (Machine { state: after, saved }, lines, past) = (&self.machine, &self.lines, &self.past);
+        let (step, before) = (record, &before);
+        seen(&Moment { number, step, setup, voice, before, after, answer, past, saved, lines })
     }
 }
 
@@ -79,6 +97,13 @@ pub fn walk_in(run: &Run, voice: Voice, mut each: impl FnMut(&Moment)) {
 impl<'a> Moment<'a> {
     pub fn refused(&self) -> bool {
         matches!(self.answer, Answer::Refused(_))
+    }
+
+    /// Returns why the step was answered "ask first", if it is a read answered so.
+    /// This is the library's answer, about the run up to here.
+    pub fn why(&self) -> Option<Why> {
+        let steps = self.past.iter().map(|past| past.step).collect();
+        proved::why(&Run { note: Vec::new(), setup: *self.setup, steps })
     }
 
     /// Returns the step that saved the state which this step restored, if it is

@@ -68,7 +68,7 @@ fn every_failure_is_told_in_words() {
     let text = TEXT.replace("ask first", "shown 7").replace("completed 1", "done");
     let failures = [
         "line 11, step 12, clock 10, read client 0 object 0: FAILED: expected shown 7, found ask first: volume \
-         lease ended at 10",
+         lease ran out at 10; granted in step 7 (clock 0)",
         "line 12, step 13, clock 11, clock 11: FAILED: expected done, found completed 1 write: object 0 becomes 7, \
          version 2, latest end 10 passed, client 0 marked unreachable",
     ];

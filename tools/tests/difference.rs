@@ -27,7 +27,7 @@ fn the_same_bytes_have_none() {
 #[test]
 fn an_answer_is_told_with_the_step() {
     let step = "first difference at line 14 of the listing\ntheirs: 13 shown 0\n\
-        ours:   13 (clock 10) read client 0 object 0: ask first: volume lease ended at 10";
+        ours:   13 (clock 10) read client 0 object 0: ask first: volume lease ran out at 10; granted in step 8 (clock 0)";
     assert_eq!(differs("\n13 2 0\n", "\n13 1 0\n"), step);
     // Only the first one counts.
     let both = changed(|ours| ours.replace("\n13 2 0\n", "\n13 1 0\n").replace("\n14 3 1\n", "\n14 0 0\n"));

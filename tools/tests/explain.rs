@@ -59,10 +59,20 @@ fn each_example_tells_why() {
              client 0; sends INVALIDATE object 0 version 2 to client 0 at place 0",
         ),
         ("0-document", "12 (clock 10) clock 10: done: write of object 0 stands, latest end 10, waits for client 0"),
-        ("0-document", "13 (clock 10) read client 0 object 0: ask first: volume lease ended at 10"),
+        ("0-document", "1 (clock 0) read client 0 object 0: ask first: never granted"),
+        (
+            "0-document",
+            "13 (clock 10) read client 0 object 0: ask first: volume lease ran out at 10; granted in step 8 (clock 0)",
+        ),
         ("0-document", "15 (clock 11) clock 4: refused 4: the time must be from 11 to 2147483647"),
-        ("1-one-lease-alone", "14 (clock 130) read client 0 object 0: ask first: volume lease ended at 60"),
-        ("1-one-lease-alone", "22 (clock 130) read client 0 object 0: ask first: no object lease"),
+        (
+            "1-one-lease-alone",
+            "14 (clock 130) read client 0 object 0: ask first: volume lease ran out at 60; granted in step 7 (clock 0)",
+        ),
+        (
+            "1-one-lease-alone",
+            "22 (clock 130) read client 0 object 0: ask first: leases dropped on an OFFER in step 17 (clock 130)",
+        ),
         (
             "2-renew-while-waiting",
             "17 (clock 8) deliver 0: done: RENEW 4 from client 0 (object 1, epoch 1, version 1); the write of object 0 still \

@@ -141,7 +141,8 @@ fn expectations_are_held_on_both_sides() {
          read client 0 object 0 => shown 7\nreturn 3 => refused 11\n",
     );
     let told = told(&scenario);
-    assert!(told.contains("read client 0 object 0: ask first, as expected: no copy"));
+    assert!(told
+        .contains("read client 0 object 0: ask first, as expected: copy invalidated in step 10 (clock 0)"));
     assert!(told.contains("return 3: refused 11, as expected: state 3 was never saved, only 0 was\n"));
     assert!(told.contains("read client 0 object 0: FAILED: expected shown 7, found shown 0: version 1; "));
     assert_eq!(Timeline::of(&scenario).steps.iter().filter(|view| view.failed()).count(), 1);

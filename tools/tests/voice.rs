@@ -59,10 +59,18 @@ fn the_first_word_of_the_setup_decides() {
         words(&format!("note \"the dash rides\"\n# dash\n{mixed}read dash 0 notice 0\n")),
         Vocabulary::Field
     );
-    let read = told(&scenario(&format!("{SETUP}read client 0 notice 0\n")));
-    assert_eq!(read, "1 (line 5, clock 0) read client 0 notice 0: ask first: no copy; no region lease\n");
-    let read = told(&scenario(&format!("{mixed}read dash 0 notice 0\n")));
-    assert_eq!(read, "1 (line 5, clock 0) read dash 0 notice 0: ask first: no copy; no volume lease\n");
+    let read = |setup: &str, line: &str| {
+        let told = told(&scenario(&format!("{setup}join client 0 object 0\nclock 10\n{line}\n")));
+        told.lines().last().unwrap().to_string()
+    };
+    assert_eq!(
+        read(SETUP, "read client 0 notice 0"),
+        "9 (line 7, clock 10) read client 0 notice 0: ask first: region lease ran out at 10; granted in step 7 (clock 0)"
+    );
+    assert_eq!(
+        read(&mixed, "read dash 0 notice 0"),
+        "9 (line 7, clock 10) read dash 0 notice 0: ask first: volume lease ran out at 10; granted in step 7 (clock 0)"
+    );
 }
 
 /// Failures, bad lines, what cannot be met and the count of refused steps.
@@ -73,13 +81,14 @@ fn check_answers_in_the_users_words() {
         assert_eq!(ended.status, 1);
         (String::from_utf8(ended.output).unwrap(), ended.errors)
     };
-    let (output, errors) = check("read dash 0 notice 0 => shown 1\nread dash 9 notice 0\n");
+    let (output, errors) =
+        check("join dash 0 notice 0\nclock 10\nread dash 0 notice 0 => shown 1\nread dash 9 notice 0\n");
     assert_eq!(
         output.lines().last().unwrap(),
-        "standard input: line 5, step 1, clock 0, read dash 0 notice 0: FAILED: expected shown 1, found ask first: no \
-         copy; no region lease"
+        "standard input: line 7, step 9, clock 10, read dash 0 notice 0: FAILED: expected shown 1, found ask first: \
+         region lease ran out at 10; granted in step 7 (clock 0)"
     );
-    assert_eq!(errors, "2 steps, 1 refused: 1 with 3 (no such dash, notice or place)\n");
+    assert_eq!(errors, "10 steps, 1 refused: 1 with 3 (no such dash, notice or place)\n");
     assert_eq!(
         check("ask dash 0 notice 0\nlose OFFER to dash 0\n").1,
         "line 6: found no OFFER to dash 0 under way, expected one that is: 0 RENEW 1 from dash 0 notice 0\n\
@@ -167,7 +176,8 @@ fn explain_tells_the_time_beside_the_ticks() {
         volume 0 objects 0\njoin client 0 object 0\nclock 90\nread client 0 object 0\n";
     let ended = run_program(EXPLAIN, &[], text.as_bytes());
     let explained = String::from_utf8(ended.output).unwrap();
-    let last = "9 (line 8, clock 90 = 1 h 30 min) read client 0 object 0: ask first: volume lease ended at 10 = 10 min\n";
+    let last = "9 (line 8, clock 90 = 1 h 30 min) read client 0 object 0: ask first: volume lease ran out at 10 = 10 min; \
+        granted in step 7 (clock 0 = 0 s)\n";
     assert!(explained.ends_with(last), "{explained}");
     for number in 0..120 {
         let scenario = scenario(&format!("{TICK}\n{}", print(&run(43, number))));
@@ -181,8 +191,17 @@ fn explain_tells_the_time_beside_the_ticks() {
 }
 
 fn assert_times(explained: &str) {
-    const BEFORE: [&str; 7] =
-        [", clock ", "lease to ", "ended at ", "latest end ", "guard ", "guard, ", "time must be from "];
+    const BEFORE: [&str; 9] = [
+        ", clock ",
+        "(clock ",
+        "lease to ",
+        "ended at ",
+        "ran out at ",
+        "latest end ",
+        "guard ",
+        "guard, ",
+        "time must be from ",
+    ];
     for line in explained.lines().filter(|line| line.starts_with(|c: char| c.is_ascii_digit())) {
         assert!(line.contains(BEFORE[0]), "{line}");
         for rest in BEFORE.iter().flat_map(|before| line.split(before).skip(1)) {

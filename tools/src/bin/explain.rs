@@ -24,7 +24,14 @@ A line has the step's number, the clock after it, the step as in the text form,
 roadrun's answer in words, and what in the model's tables shows why:
 
   12 (clock 10) clock 10: done: write of object 0 stands, latest end 10, waits for client 0
-  13 (clock 10) read client 0 object 0: ask first: volume lease ended at 10
+  13 (clock 10) read client 0 object 0: ask first: volume lease ran out at 10; granted in step 8 (clock 0)
+
+A read answered "ask first" tells why, with the step of the event and its clock:
+the client was never granted the object; an INVALIDATE erased its copy; it
+dropped its leases on an OFFER or a BATCH; it restarted; or the volume lease or
+the object lease that it was granted ran out, whichever ended first. The last
+such event decides, on the line of steps that led to the read. The proved
+library gives the reason.
 
 A write that is accepted and stands tells what fixes its latest end, as in
 "latest end 10 by the volume lease of client 0": the clients whose lease ends

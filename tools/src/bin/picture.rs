@@ -19,6 +19,7 @@ writes a file instead of standard output. Each step is a column; the clock moves
 in the columns of clock steps alone. The server has a lane and each client one:
 leases are bars, messages arrows from sending to delivery, writes bars from
 acceptance to completion with their latest end and what fixes it, reads circles.
+What is pointed at tells all about itself, a read answered "ask first" also why.
 A bar in the volume's row shows what the server has noted for a client. A return
 to a saved state breaks all lanes: bars and messages end there, and those that
 it restores begin anew. The steps that it leaves behind are shaded.

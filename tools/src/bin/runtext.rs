@@ -101,11 +101,12 @@ client whose volume lease has ended while its object lease lives. A file with 29
 to 32 objects cannot be rewritten: objects end at 28 today. To an old text add
 the line `delay D` after the line with `timeout`.
 
-check tells how many expectations hold and every one that fails. encode, check
-and load end with a line on standard error that counts refused steps. A bad line
-is told with its number, what was found and what was expected; then nothing is
-written and the exit status is 1, as it is where an expectation fails (2 is a
-wrong call).
+check tells how many expectations hold and every one that fails, with why the
+answer was another: for a read answered "ask first" the reason that explain
+gives. encode, check and load end with a line on standard error that counts
+refused steps. A bad line is told with its number, what was found and what was
+expected; then nothing is written and the exit status is 1, as it is where an
+expectation fails (2 is a wrong call).
 "#;
 
 const FORMS: &str = "encode, check, format, decode, load or upgrade";

@@ -57,8 +57,8 @@ pub fn written(line: &Line, moment: &Moment) -> String {
     }
 }
 
-/// Returns the answer and the reason. The reason comes from the model, so it is
-/// left out if the library gave another answer.
+/// Returns the answer and the reason. Most reasons come from the model, so they
+/// are left out if the library gave another answer.
 pub fn answered(moment: &Moment, expectation: Option<Expectation>) -> String {
     let answer = Listed::of(&moment.answer);
     let words = match expectation {

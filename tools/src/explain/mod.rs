@@ -1,9 +1,11 @@
 //! One line of words per step: what it was, what was answered, and the part of
-//! the model's state that shows why.
+//! the model's state that shows why; for a read answered "ask first" the
+//! library's reason.
 
 mod delivery;
 mod lines;
 mod notes;
+mod read;
 mod refusal;
 mod saved;
 mod steps;
@@ -49,7 +51,7 @@ fn plain_reasons(moment: &Moment) -> Vec<String> {
         (Answer::Refused(number), _) => refusal::reasons(moment, number),
         (Answer::Delivered { message, .. }, _) => delivery::reasons(moment, &message),
         (_, CLOCK) => steps::clock(moment),
-        (_, READ) => steps::read(moment),
+        (_, READ) => read::reasons(moment),
         (_, ASK) => steps::ask(moment),
         (_, WRITE) => steps::write(moment),
         (_, LOSE) => steps::lose(moment),

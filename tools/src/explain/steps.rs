@@ -1,52 +1,19 @@
-//! Reasons for every accepted step except a delivery.
+//! Reasons for every accepted step except a delivery, a read, a save and a
+//! return.
 
 use model::limits::QUEUE;
 use model::message::Message;
-use model::tables::{alive, Write};
+use model::tables::Write;
 
 use super::notes;
 use crate::latest_end;
 use crate::names::{clients, label, routed, whole};
 use crate::trace::Moment;
 
-/// Returns "volume lease to 10", "volume lease ended at 10" or "no volume
-/// lease".
-fn lease(moment: &Moment, what: &str, expiry: u32) -> String {
-    let ticks = moment.voice.ticks(expiry);
-    match expiry {
-        0 => format!("no {what} lease"),
-        _ if alive(expiry, moment.before.tables.clock) => format!("{what} lease to {ticks}"),
-        _ => format!("{what} lease ended at {ticks}"),
-    }
-}
-
 /// Returns what the step sends, with places among the messages under way.
 pub fn sends(moment: &Moment) -> Vec<String> {
     let sends = |(place, sent)| format!("sends {} at place {place}", whole(sent, &moment.voice));
     moment.placed().map(sends).collect()
-}
-
-/// Returns what a shown copy rests on or, if none was shown, only what is
-/// missing.
-pub fn read(moment: &Moment) -> Vec<String> {
-    let (client, object) = (usize::from(moment.step.client), usize::from(moment.step.object));
-    let tables = &moment.before.tables;
-    let copy = moment.copy_before(client, object);
-    let volume_expiry = tables.clients.expiry[client][moment.setup.volume(object)];
-    let shown = matches!(moment.answer, model::answer::Answer::Shown(_));
-    let mut reasons = Vec::new();
-    if shown {
-        reasons.push(format!("version {}", copy.version));
-    } else if copy.version == 0 {
-        reasons.push("no copy".into());
-    }
-    for (what, expiry, told) in [("volume", volume_expiry, true), ("object", copy.expiry, copy.version != 0)]
-    {
-        if told && shown == alive(expiry, tables.clock) {
-            reasons.push(lease(moment, what, expiry));
-        }
-    }
-    reasons
 }
 
 pub fn ask(moment: &Moment) -> Vec<String> {
