@@ -4,7 +4,7 @@ use std::process::ExitCode;
 
 use tools::arguments::Arguments;
 use tools::command::{self, Failure};
-use tools::explain::{at, line_of, tables, told};
+use tools::explain::{at, line_at, line_of, tables, told};
 use tools::input::Input;
 use tools::listed::Listed;
 use tools::output::Output;
@@ -14,6 +14,7 @@ use tools::{difference, proved, refusals, refused_file, trace};
 const HELP: &str = r#"explain: the listing of a run in words
 
   explain [FILE]                    a line for each step
+  explain --why N [FILE]            why step N, a read, was answered "ask first"
   explain --tables N [FILE]         the tables after step N; 0 is before step 1
   explain --listing THEIRS [FILE]   the first difference from another listing
 
@@ -31,7 +32,8 @@ the client was never granted the object; an INVALIDATE erased its copy; it
 dropped its leases on an OFFER or a BATCH; it restarted; or the volume lease or
 the object lease that it was granted ran out, whichever ended first. The last
 such event decides, on the line of steps that led to the read. The proved
-library gives the reason.
+library gives the reason. --why prints the line of that read and below it the
+line of the event.
 
 A write that is accepted and stands tells what fixes its latest end, as in
 "latest end 10 by the volume lease of client 0": the clients whose lease ends
@@ -57,24 +59,27 @@ listing goes up to there and ends with the reason; the exit status is then 1.
 THEIRS with the proved library's. Where they differ, the line is told with both
 answers and why ours is so, and the exit status is 1.
 
-A file that the reader refuses, or a bad line of a text, is told on standard
-error, with exit status 1; 2 is a wrong call.
+A file that the reader refuses, a bad line of a text, or a step after --why that
+is no read answered "ask first" is told on standard error, with exit status 1; 2
+is a wrong call.
 "#;
 
 fn main() -> ExitCode {
     command::main(HELP, |arguments| {
         let mut arguments = Arguments::new(arguments);
+        let read = arguments.number("--why", "the number of a step")?;
         let step = arguments.number("--tables", "the number of a step")?;
         let theirs = arguments.option("--listing", "the file of a listing")?;
         let input = Input::read(arguments.file()?.as_deref())?;
-        match (step, theirs) {
-            (None, None) => {
+        match (read, step, theirs) {
+            (None, None, None) => {
                 let scenario = input.scenario()?;
                 Ok(counted(&input, &scenario, told(&scenario).into()))
             }
-            (Some(step), None) => tables_after(&input, step),
-            (None, Some(theirs)) => differences(&input, &Input::read(Some(&theirs))?.bytes),
-            _ => Err(Failure::Usage("found --tables and --listing, expected one of them".into())),
+            (Some(step), None, None) => why(&input, step),
+            (None, Some(step), None) => tables_after(&input, step),
+            (None, None, Some(theirs)) => differences(&input, &Input::read(Some(&theirs))?.bytes),
+            _ => Err(Failure::Usage("found several of --why, --tables and --listing, expected one".into())),
         }
     })
 }
@@ -87,6 +92,23 @@ fn counted(input: &Input, scenario: &Scenario, output: Output) -> Output {
     let mut output = input.told_of(scenario, output);
     output.told.extend(refusals::counted(answers).map(|line| scenario.voice.said(&line)));
     output
+}
+
+/// Returns the line of a read answered "ask first", and below it the line of the
+/// event that the reason comes from, if there is one.
+fn why(input: &Input, step: usize) -> Result<Output, Failure> {
+    let scenario = input.scenario()?;
+    let found = at(&scenario, step, |moment| (line_of(&scenario, moment), moment.why()));
+    let steps = scenario.run.steps.len();
+    let wrong = || format!("--why: found {step}, expected a step from 1 to {steps}");
+    let (line, why) = found.ok_or_else(|| input.too_short(&scenario, wrong()))?;
+    let Some(why) = why else {
+        let wrong = format!("--why: found step {step}, expected a read answered \"ask first\"");
+        return Err(input.failure(&[wrong, line]));
+    };
+    let event = line_at(&scenario, why.event as usize);
+    let text = [Some(line), event].into_iter().flatten().map(|line| line + "\n").collect::<String>();
+    Ok(counted(input, &scenario, text.into()))
 }
 
 fn tables_after(input: &Input, step: u64) -> Result<Output, Failure> {
