@@ -154,6 +154,16 @@ fn parked(builder: &mut Builder) {
     builder.push(step);
 }
 
+/// Returns the run with messages delivered in time, with a read at its end that
+/// is answered "ask first", by an event shortly before.
+pub fn asked_last() -> Vec<u8> {
+    let file = &runs()[1].file;
+    let run = parts(file).expect("a run file");
+    let mut steps: Vec<Step> = run.steps().collect();
+    steps[STEPS - 1] = Step::read(15, 3);
+    write(&[], &run.setup, &steps)
+}
+
 /// Returns what a run grows by, with a run for each size: messages delivered in
 /// time with more and more clients, and with more and more objects; and an ask
 /// and a loss at the front in turn, with more and more messages under way.

@@ -10,13 +10,13 @@ use std::{env, fs};
 
 use model::limits::STEPS;
 
-use crate::files::runs;
+use crate::files::{asked_last, runs};
 use crate::kinds::kinds;
-use crate::subjects::{named, same};
+use crate::subjects::{named, same, same_why};
 
 const VALGRIND: &str = "valgrind";
 
-/// How often a file is listed in each of the two processes whose counts are
+/// How often it is done in each of the two processes whose counts are
 /// subtracted. Start-up and the extra cost of the first listing are in both
 /// counts and cancel out.
 const REPEATS: [usize; 2] = [2, 4];
@@ -35,17 +35,31 @@ pub fn report() -> io::Result<()> {
         "Instructions a step, from a file's bytes to its listing's, by the library and by the model that"
     );
     println!("does not ask question 1. Counted by callgrind: those of {more} listings less those of {fewer}. Answers");
-    println!("are as in a listing, answer and value. One kind of step is in the setup of the first run.\n");
+    println!(
+        "are as in a listing, answer and value. One kind of step is in the setup of the first run. The last"
+    );
+    println!(
+        "row is not a listing: it tells why the last step of the run above was answered \"ask first\".\n"
+    );
     println!("| run of {STEPS} steps | library | model | ratio |\n|---|---|---|---|");
     let runs = runs().into_iter().map(|run| (run.to_string(), run.file));
     let kinds = kinds().into_iter().map(|kind| (kind.to_string(), kind.file));
-    for (made, file) in runs.chain(kinds) {
+    let asked = asked_last();
+    let last = ("the second run with a read at its end".to_string(), asked.clone());
+    for (made, file) in runs.chain(kinds).chain([last]) {
         same(&file);
-        let stored = Stored::new(&file)?;
-        let library = per_step(&stored.0, "proved")?;
-        let model = per_step(&stored.0, "trusting")?;
-        println!("| {made} | {library:.1} | {model:.1} | {:.2} |", library / model);
+        row(&made, &file, ["proved", "trusting"])?;
     }
+    same_why(&asked);
+    row("why that read was answered \"ask first\"", &asked, ["proved-why", "model-why"])
+}
+
+/// Prints the row of a file, by the library's and the model's subject.
+fn row(made: &str, file: &[u8], subjects: [&str; 2]) -> io::Result<()> {
+    let stored = Stored::new(file)?;
+    let library = per_step(&stored.0, subjects[0])?;
+    let model = per_step(&stored.0, subjects[1])?;
+    println!("| {made} | {library:.1} | {model:.1} | {:.2} |", library / model);
     Ok(())
 }
 
@@ -99,7 +113,7 @@ fn collected(said: &str) -> Option<u64> {
     said.lines().find_map(|line| line.split_once("Collected : ")?.1.trim().parse().ok())
 }
 
-/// Lists the file on standard input `times` times.
+/// Does what the subject does with the file on standard input, `times` times.
 pub fn repeat(subject: &str, times: &str) -> io::Result<()> {
     let (subject, times) = (named(subject)?, times.parse::<usize>().map_err(io::Error::other)?);
     let mut file = Vec::new();

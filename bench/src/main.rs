@@ -1,6 +1,6 @@
 //! Compares the proved library with the model, on the same files in one
-//! process: time per step, how it grows, time to read and to write a file, peak
-//! memory and stack. `--brief` prints the same tables from a few repetitions,
+//! process: time per step, how it grows, time to read and to write a file and to
+//! tell why a read was answered "ask first", peak memory and stack. `--brief` prints the same tables from a few repetitions,
 //! `--instructions` prints instructions per step, which are the same every
 //! time, and `--messages` the messages that parked clients cost.
 
@@ -12,6 +12,7 @@ mod memory;
 mod messages;
 mod subjects;
 mod timing;
+mod why_times;
 
 use std::process::ExitCode;
 use std::{env, io};
@@ -23,6 +24,7 @@ use kinds::{kinds, Kind};
 use model::limits::STEPS;
 use subjects::{asking, proved, same, trusting};
 use timing::{medians, Effort, BRIEF, FULL};
+use why_times::{reasons, stack_of_a_reason};
 
 const USAGE: &str = "usage: bench [--brief | --instructions | --messages]";
 
@@ -76,11 +78,13 @@ fn report(effort: Effort) -> io::Result<()> {
     growth(effort);
     reading(effort);
     writing(effort);
+    reasons(effort);
     println!("peak memory of a process that lists the first file once");
     for subject in ["nothing", "proved", "asking"] {
         println!("  {subject:10} {:6} KiB", memory::of(subject)?);
     }
     println!("stack that a listing of the first file takes: {} KiB", stack_of_a_listing()?);
+    println!("stack that telling why a read was answered \"ask first\" takes: {} KiB", stack_of_a_reason()?);
     let [seed, steps] = stack_of_writing()?;
     println!(
         "stack that writing the workload's file takes: from its seed {seed} KiB, from its steps {steps} KiB"
