@@ -29,6 +29,17 @@ check('a failed expectation is red, in the listing and on top', () => {
   same(header.querySelectorAll('.failure').length, failed().length, 'columns');
 });
 
+check('a read told to ask first says why when it is tapped', () => {
+  const mark = lanes.querySelector('.ask-first');
+  mark.scrollIntoView({ block: 'center', inline: 'center' });
+  const { left, top, width, height } = bounds(mark);
+  const [clientX, clientY] = [left + width / 2, top + height / 2];
+  document.elementFromPoint(clientX, clientY).dispatchEvent(new MouseEvent('click', { clientX, clientY, bubbles: true }));
+  const why = 'ask first, as expected: region lease ran out at 10 = 2.5 s; granted in step 14 (clock 0 = 0 s)';
+  same(get('told').textContent, `21 (line 20, clock 10 = 2.5 s) read dash 1 notice 0: ${why}`, 'told');
+  get('told').click();
+});
+
 check('a join is one entry that opens into its steps', () => {
   joins.forEach(join => join.open = false);
   same(joins.map(join => join.querySelectorAll('[data-step]').length), [7, 7], 'steps');
