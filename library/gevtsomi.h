@@ -5,7 +5,8 @@
  *
  * The work is done by the proved code in libgevtsomi.a. It allocates nothing,
  * does no input or output and keeps nothing from call to call, so threads may
- * call it at the same time. It needs only memcpy and memset from its host.
+ * call it at the same time. It needs only memcpy, memmove and memset from its
+ * host.
  *
  * Each call returns 0, or the number of the question in documents 01 and 02
  * that was answered "no". A refused call changes nothing that it was lent.
