@@ -77,8 +77,8 @@ module _ (a : Answer) (r : Reason) (n : ℕ) (p : n ≡ answerNumber a) where
   pub is-asked : n ≡ 2 → r ≡ ifAsked a r
   is-asked e = rw (eq-eqb _ 2 (sym p ∙ e))
 
-  pub not-asked : (n ≡ 2 → ⊥) → noReason ≡ ifAsked a r
-  not-asked h = rw (ne-eqb (answerNumber a) 2 (λ e. h (p ∙ e)))
+  pub not-asked : (n ≡ 2 → ⊥) → (u : Reason) → u ≡ noReason → u ≡ ifAsked a r
+  not-asked h u f = f ∙ rw (ne-eqb (answerNumber a) 2 (λ e. h (p ∙ e)))
 
 -- ---- the chosen read of an accepted file
 module _ {l : List ℕ} {c : Contents} {k : ℕ} {x : Step} (p : Chosen l c k x) where

@@ -4,7 +4,7 @@ ghost use mathlib.Core.Bool.{true};
 ghost use mathlib.Core.Path.{_≡_};
 ghost use Rattle.protocol.specs.Setup.{inRange};
 ghost use Rattle.state_words.specs.View.{worldOf};
-ghost use Rattle.promises.specs.Reasons.Reason.{viewUntil, whyBy, reasonBy};
+ghost use Rattle.promises.specs.Reasons.Reason.{noReason, viewUntil, whyBy, reasonBy};
 use lease_tests::place;
 use promises::reasons::Event;
 use promises::reasons::Last;
@@ -16,6 +16,13 @@ use setup::limits::VOLUMES;
 use state_words::Values;
 use state_words::Words;
 use state_words::client;
+
+// Returns the reason of a step that is not a read answered "ask first".
+pub fn no_reason() -> Reason
+    ensures { λ r. ⌜ r ≡ noReason ⌝ }
+{
+    Reason { why: 0, step: 0 }
+}
 
 // Returns the number of the reason: "After a grant, the earlier of the dash's two expiries at the read decides, the volume on a tie."
 fn why_by(view: u32, copy: u32, event: Event) -> u8

@@ -5,8 +5,9 @@ pub mod steps;
 ghost use mathlib.Core.Path.{_≡_};
 ghost use Rattle.file_reader.specs.File.{contentsOf};
 ghost use Rattle.file_reader.specs.Steps.{stepsOf};
-ghost use Rattle.promises.specs.Reasons.Reason.{noReason, reasonOf};
+ghost use Rattle.promises.specs.Reasons.Reason.{reasonOf};
 ghost use Rattle.reason.specs.Explained.{readsIn, explanationOf};
+use crate::given::no_reason;
 use file_reader::Contents;
 use file_records::sizes;
 use promises::reasons::Reason;
@@ -17,13 +18,6 @@ use protocol::step::Step;
 pub enum Explanation {
     Given(Reason),
     Refused(u8),
-}
-
-// Returns the reason of a step that is not a read answered "ask first".
-fn no_reason() -> Reason
-    ensures { λ r. ⌜ r ≡ noReason ⌝ }
-{
-    Reason { why: 0, step: 0 }
 }
 
 // Returns whether the step is a read of a client and an object that the setup has. Any other step is not answered "ask first".

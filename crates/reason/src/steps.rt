@@ -4,6 +4,8 @@ ghost use mathlib.Core.Path.{_≡_};
 ghost use Rattle.file_reader.specs.Steps.{stepsOf};
 ghost use Rattle.promises.specs.Reasons.Reason.{reasonOf};
 ghost use Rattle.reason.specs.Explained.{Chosen, ifAsked};
+use crate::given::no_reason;
+use crate::given::reason_by;
 use client_apply::copy_of;
 use client_apply::request_of;
 use file_reader::Contents;
@@ -18,14 +20,17 @@ use state_words::VALUES;
 use state_words::WORDS;
 use state_words::saved::NAMES;
 
+// what `listing_answers::number_of` returns for "ask first"
+const ASK_FIRST: u64 = 2;
+
 // Returns the reason if the read was answered "ask first".
 fn if_asked(answer: Answer, reason: Reason) -> Reason
     ensures { λ r. ⌜ r ≡ ifAsked answer reason ⌝ }
 {
-    if listing_answers::number_of(answer) == 2 {
+    if listing_answers::number_of(answer) == ASK_FIRST {
         return reason;
     }
-    Reason { why: 0, step: 0 }
+    no_reason()
 }
 
 // Runs the first `count` steps of an accepted file, then the read, which is the step after them. The place in the file runs along: "keep a running place
@@ -62,7 +67,7 @@ pub fn run_until(file: &[u8], c: Contents, count: u32, read: Step) -> Reason
         place += sizes::STEP;
         k += 1;
     }
-    let reason = crate::given::reason_by(s, &words, &values, read, lasts.now);
+    let reason = reason_by(s, &words, &values, read, lasts.now);
     let answer = run_saved::advance(
         s,
         &mut words,

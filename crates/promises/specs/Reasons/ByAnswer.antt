@@ -1,6 +1,6 @@
 -- The same event told by a step's answer, for whoever keeps the last event beside a run: an answer carries the message that was delivered, so that the copy
 -- before and after the step and the request before it are all that must be looked at.
--- Letters: s setup, w world, x a step, a an answer, r a request, d client, o object, c and g the copy before and after, k the last event, e its kind.
+-- Letters: s setup, w world, x a step, a an answer, r a request, d client, o object, c and g the copy before and after.
 use Prim.Native.Nat.{ℕ, _<_}
 use native.Mathlib.Omega.{arith}
 use mathlib.Core.Bool.{Bool, true, false, cond, _&&_}

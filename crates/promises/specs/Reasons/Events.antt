@@ -117,7 +117,7 @@ eventOf s w x d o = cond (grants s w x d o) Granted (cond (erases s w x d o) (Er
 abbrev pub noEvent : Last
 noEvent = record { event = Nothing; step = 0 }
 
--- k, or an event in step n
+-- after step n: its event, or k if it had none
 abbrev pub latest : Last → ℕ → Event → Last
 latest k n Nothing = k
 latest k n Granted = record { event = Granted; step = n }

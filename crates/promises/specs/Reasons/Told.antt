@@ -1,4 +1,4 @@
--- What the last event of a line tells: that it occurred, and that none came after it. And what a copy is as long as none comes.
+-- The last event of a line occurred, and none came after it. As long as none comes, a copy stays as it is.
 -- Letters: s setup, w and u worlds, x a step, d client, o object, c and g copies, e an entry of a line, l a line, k the last event.
 use Prim.Native.Nat.{ℕ, _<_, _≤_}
 use native.Mathlib.Omega.{arith}
