@@ -52,7 +52,8 @@ advance-requires c κs =
 
 copy-of-requires-2 : tie.Need-copy-of-requires-2 Inv-loop μ-loop
 copy-of-requires-2 c κs =
-    in-range (c .before .before .before .before .before .before .before .before .before .before .before .before .before .before .before .before .before .before .before .before .before .before .before .pre)
+    let l = c .before .before .before .before .before .before .before .before .before .before .before .before .before .before .before in
+    in-range (l .before .before .before .before .before .before .before .before .pre)
 
 event-requires : tie.Need-event-requires Inv-loop μ-loop
 event-requires c κs = search needs
