@@ -6,7 +6,7 @@ mod common;
 use std::collections::BTreeSet;
 
 use boxes::{attribute, number, parts, Part};
-use common::{run_program, with_returns};
+use common::{run_program, with_returns, SETUP};
 use model::gen::runs::{run, Run};
 use model::message::Kind;
 use tools::explain::{listing, told};
@@ -20,13 +20,6 @@ use tools::timeline::Timeline;
 use tools::trace::walk;
 
 const EXPLAIN: &str = env!("CARGO_BIN_EXE_explain");
-
-const SETUP: &str = "\
-clients 2 volumes 1 objects 2
-volume lease 10 object lease 100 timeout 3
-delay 1
-volume 0 objects 0 1
-";
 
 fn scenario(lines: &str) -> Scenario {
     script(format!("{SETUP}{lines}").as_bytes()).unwrap().into()

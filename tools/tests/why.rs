@@ -3,7 +3,7 @@
 
 mod common;
 
-use common::{example_path, run_program, with_returns};
+use common::{example_path, run_program, with_returns, SETUP};
 use gevtsomi::{why, Reason};
 use model::gen::runs::run;
 use tools::check;
@@ -16,13 +16,6 @@ use tools::trace::walk;
 
 const EXPLAIN: &str = env!("CARGO_BIN_EXE_explain");
 const RUNTEXT: &str = env!("CARGO_BIN_EXE_runtext");
-
-const SETUP: &str = "\
-clients 2 volumes 1 objects 2
-volume lease 10 object lease 100 timeout 3
-delay 1
-volume 0 objects 0 1
-";
 
 /// What happens after client 0 has joined object 0 in steps 1 to 7, up to a read
 /// of it, and why that is answered "ask first".

@@ -12,6 +12,14 @@ use model::limits::{FILE_BYTES, STEPS};
 use model::runfile::distance;
 use model::step_record::Step;
 
+/// The setup of a text: two clients and two objects of one volume.
+pub const SETUP: &str = "\
+clients 2 volumes 1 objects 2
+volume lease 10 object lease 100 timeout 3
+delay 1
+volume 0 objects 0 1
+";
+
 pub fn example_path(name: &str) -> PathBuf {
     Path::new(env!("CARGO_MANIFEST_DIR")).join("../examples").join(name)
 }
