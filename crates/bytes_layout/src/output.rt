@@ -3,7 +3,7 @@ ghost use Rattle.std.specs.Prelude.{◌+◌, ◌≤◌, length};
 ghost use Rattle.bytes_layout.specs.Written.{Written};
 
 // Tells what a call did with a lent output: the number of bytes written, or the refusal number of 01 or 02 (`report_length`, `report_number`).
-#[derive(Drop)]
+#[derive(Clone, Copy)]
 pub enum Report {
     Written(usize),
     Refused(u8),

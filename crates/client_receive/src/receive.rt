@@ -17,7 +17,7 @@ use protocol::step::{Change, CopyChange, Sweep, Turn};
 use state_words::{Values, Words};
 
 // Holds the fields of a GRANT other than client and object.
-#[derive(Drop)]
+#[derive(Clone, Copy)]
 pub struct Terms {
     pub number: u32,
     pub volume_expiry: u32,

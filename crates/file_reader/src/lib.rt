@@ -8,7 +8,7 @@ use protocol::step::Step;
 
 // The contents of a run file: its setup, the number of steps, and where their records begin. `refusal` is 0, or 9 for a file without the shape that 01
 // requires; the other fields of a refused file are 0.
-#[derive(Drop)]
+#[derive(Clone, Copy)]
 pub struct Contents {
     pub refusal: u8,
     pub setup: Setup,

@@ -6,7 +6,7 @@ use crate::sizes::STEPS;
 use protocol::step::Step;
 
 // The list is the first `len` items. No run file has more than `STEPS` steps: the writer refuses a larger `len` before it looks up an item.
-#[derive(Drop)]
+#[derive(Clone, Copy)]
 pub struct Steps {
     pub items: [Step; STEPS],
     pub len: u32,

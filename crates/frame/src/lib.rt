@@ -6,14 +6,14 @@ use message_fields::Fields;
 use protocol::message::Message;
 
 // The result of decoding: the message, or a refusal with number 8 (`decoded_number`) if the bytes are not a frame.
-#[derive(Drop)]
+#[derive(Clone, Copy)]
 pub enum Decoded {
     Accepted(Message),
     Refused,
 }
 
 // The result of encoding: written, or refused with number 8 (`encoded_number`) if the output is shorter than a frame.
-#[derive(Drop)]
+#[derive(Clone, Copy)]
 pub enum Encoded {
     Written,
     Refused,

@@ -7,7 +7,7 @@ ghost use Rattle.message_fields.specs.Questions.{payload_right, no_lease};
 use protocol::message::{Kind, Message, Payload};
 
 // Holds all ten fields in the frame's order. In a message, fields that its kind lacks are 0.
-#[derive(Drop)]
+#[derive(Clone, Copy)]
 pub struct Fields {
     pub kind: u8,
     pub client: u8,

@@ -1,12 +1,12 @@
 // A GRANT's value is there, or the client holds it already (01, "Messages received").
-#[derive(Drop)]
+#[derive(Clone, Copy)]
 pub enum Payload {
     Same,
     Value(u64),
 }
 
 // The eight kinds, in the order of their numbers in a frame, each with its own fields (01, "Frame, run file and listing").
-#[derive(Drop)]
+#[derive(Clone, Copy)]
 pub enum Kind {
     Renew {
         object: u8,
@@ -59,7 +59,7 @@ pub enum Kind {
 }
 
 // A message names its client, and carries one kind with that kind's fields.
-#[derive(Drop)]
+#[derive(Clone, Copy)]
 pub struct Message {
     pub client: u8,
     pub kind: Kind,
@@ -67,7 +67,7 @@ pub struct Message {
 
 // The message list: at most 64 in sending order, the first `len` of `items`. The places past `len` are free; in a run from fresh tables each holds
 // the blank message.
-#[derive(Drop)]
+#[derive(Clone, Copy)]
 pub struct Queue {
     pub items: [Message; 64],
     pub len: usize,

@@ -1,6 +1,6 @@
 // The setup of a run, which stays the same throughout (01, "Tables"). A region of 01 is a volume, a notice is an object, and a dash is a client.
 // All are counted from 0; durations are in ticks.
-#[derive(Drop)]
+#[derive(Clone, Copy)]
 pub struct Setup {
     // 1 to 16
     pub clients: u32,

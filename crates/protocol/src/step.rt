@@ -4,7 +4,7 @@ use crate::tables::Tables;
 
 // A step, by the number of its kind (01, "Steps"): 1 clock, 2 read, 3 ask, 4 write, 5 deliver, 6 lose, 7 double, 8 restart server, 9 restart client; by 02,
 // A7, 10 save and 11 return, with the name in `place`. A field that its kind does not use is not asked about.
-#[derive(Drop)]
+#[derive(Clone, Copy)]
 pub struct Step {
     pub kind: u8,
     pub client: u8,
@@ -15,7 +15,7 @@ pub struct Step {
 }
 
 // What a step answers. 01's number and value of each are `answerNumber` and `answerValue` of specs/Answers.antt.
-#[derive(Drop)]
+#[derive(Clone, Copy)]
 pub enum Answer {
     Done,
     Shown(u64),
@@ -29,7 +29,7 @@ pub enum Answer {
 }
 
 // What becomes of the client's request: nothing, it takes the next number for an object, or it ends.
-#[derive(Drop)]
+#[derive(Clone, Copy)]
 pub enum Turn {
     Keep,
     Take(u8),
@@ -37,7 +37,7 @@ pub enum Turn {
 }
 
 // What becomes of one copy: nothing, it is filled with the copy that a GRANT stores, or it is erased.
-#[derive(Drop)]
+#[derive(Clone, Copy)]
 pub enum CopyChange {
     Keep,
     Fill(Copy),
@@ -46,7 +46,7 @@ pub enum CopyChange {
 
 // What becomes of all copies of one client: nothing, the expiries of one volume's objects become 0 (an OFFER was taken), those of a set are erased, bit k
 // for object k (a BATCH was taken), or all are erased (a restart).
-#[derive(Drop)]
+#[derive(Clone, Copy)]
 pub enum Sweep {
     Keep,
     Expire(u8),
@@ -55,7 +55,7 @@ pub enum Sweep {
 }
 
 // Whose records a step can touch, and where they lie in the lent lists: the client's request, its copy of one object, and its copies from the first.
-#[derive(Drop)]
+#[derive(Clone, Copy)]
 pub struct Target {
     pub client: usize,
     pub copy: usize,
@@ -63,20 +63,20 @@ pub struct Target {
 }
 
 // What becomes of the client's records: of the one copy, of the request, and then of all the client's copies.
-#[derive(Drop)]
+#[derive(Clone, Copy)]
 pub struct Change {
     pub copy: CopyChange,
     pub request: Turn,
     pub sweep: Sweep,
 }
 
-#[derive(Drop)]
+#[derive(Clone, Copy)]
 pub struct Outcome {
     pub answer: Answer,
     pub tables: Tables,
 }
 
-#[derive(Drop)]
+#[derive(Clone, Copy)]
 pub struct Decision {
     pub change: Change,
     pub outcome: Outcome,

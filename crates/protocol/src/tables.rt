@@ -1,7 +1,7 @@
 use crate::message::Queue;
 
 // The server's tables, per volume.
-#[derive(Drop)]
+#[derive(Clone, Copy)]
 pub struct Volumes {
     pub epoch: [u32; 8],
     // VE: the largest expiry of a volume lease that was granted
@@ -11,7 +11,7 @@ pub struct Volumes {
 }
 
 // The server's tables, per client, and per client and volume at client * 8 + volume.
-#[derive(Drop)]
+#[derive(Clone, Copy)]
 pub struct Sessions {
     // the highest request number seen
     pub seen: [u32; 16],
@@ -26,7 +26,7 @@ pub struct Sessions {
 }
 
 // The server's tables, per object. Where no write stands, `pending` and `end` are free; in a run from fresh tables they are 0.
-#[derive(Drop)]
+#[derive(Clone, Copy)]
 pub struct Objects {
     pub value: [u64; 32],
     pub version: [u32; 32],
@@ -39,7 +39,7 @@ pub struct Objects {
 }
 
 // The server's tables of who holds what: leases per client and object at client * 32 + object.
-#[derive(Drop)]
+#[derive(Clone, Copy)]
 pub struct Holders {
     pub lease: [u32; 512],
     // per object, the clients that its standing write waits for, bit k for client k; where no write stands, free
@@ -47,14 +47,14 @@ pub struct Holders {
 }
 
 // The clients' own tables, per client and volume at client * 8 + volume.
-#[derive(Drop)]
+#[derive(Clone, Copy)]
 pub struct Views {
     pub epoch: [u32; 128],
     pub expiry: [u32; 128],
 }
 
 // All tables but the clients' records of copies and requests, which are lent.
-#[derive(Drop)]
+#[derive(Clone, Copy)]
 pub struct Tables {
     pub clock: u32,
     pub volumes: Volumes,

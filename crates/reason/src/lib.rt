@@ -16,7 +16,7 @@ use protocol::setup::Setup;
 use protocol::step::Step;
 
 // A reason, or the number of the question that was answered "no".
-#[derive(Drop)]
+#[derive(Clone, Copy)]
 pub enum Explanation {
     Given(Reason),
     Refused(u8),

@@ -5,7 +5,7 @@ ghost use Rattle.roadrun.specs.Input.{input_length};
 use libc::STDIN_FILENO;
 
 // The number of bytes up to the end of input, or a failed read. `io::read_full` does not tell the two apart.
-#[derive(Drop)]
+#[derive(Clone, Copy)]
 pub enum Input {
     Read(usize),
     Failed,

@@ -12,7 +12,7 @@ use server_waiting::clients;
 use state_words::{Words, network, server};
 
 // The event that makes the server look for writes to complete. A clock step completes all that are due; a DROPPED, those of its volume that are ready.
-#[derive(Drop)]
+#[derive(Clone, Copy)]
 pub enum Trigger {
     Clock,
     Volume(usize),

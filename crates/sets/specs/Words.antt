@@ -30,8 +30,8 @@ module _ (op : ℕ → ℕ → ℕ) (f : ℕ → ℕ → ℕ) (g : Bool → Bool
       ap (λ (x : ℕ). bit_at (x / 2) k) (joined a b) ∙ ap (λ (x : ℕ). bit_at x k) (join_rest (op (a / 2) (b / 2)) (g (bit_at a 0) (bit_at b 0)))
       ∙ bit_op (a / 2) (b / 2) k
 
-pub bit_and : (a b k : ℕ) → bit_at (bit_and a b) k ≡ bit_at a k && bit_at b k
-bit_and = bit_op bit_and min ◌&&◌ and_step table
+pub bit_and_law : (a b k : ℕ) → bit_at (bit_and a b) k ≡ bit_at a k && bit_at b k
+bit_and_law = bit_op bit_and min ◌&&◌ and_step table
   where
     table : (x y : Bool) → min (cond x 1 0) (cond y 1 0) ≡ cond (x && y) 1 0
     table true true = refl
@@ -39,8 +39,8 @@ bit_and = bit_op bit_and min ◌&&◌ and_step table
     table false true = refl
     table false false = refl
 
-pub bit_or : (a b k : ℕ) → bit_at (bit_or a b) k ≡ bit_at a k || bit_at b k
-bit_or = bit_op bit_or max ◌||◌ or_step table
+pub bit_or_law : (a b k : ℕ) → bit_at (bit_or a b) k ≡ bit_at a k || bit_at b k
+bit_or_law = bit_op bit_or max ◌||◌ or_step table
   where
     table : (x y : Bool) → max (cond x 1 0) (cond y 1 0) ≡ cond (x || y) 1 0
     table true true = refl
@@ -97,17 +97,17 @@ and_below a b h = lt_of_le_of_lt (and_le_l a b) h
 module _ (m k : ℕ) (h : m < 2 ^ 32) (i : k < 32) where
   pub adds : bit_or m ((1 * 2 ^ k) % 2 ^ 32) ≡ added m k
   unfolding added
-  adds = rw (one_shifted k i) (set_is _ 32 _ (or_lt 32 m (1 * 2 ^ k) h (one_below k i)) (λ j b. bit_or m (1 * 2 ^ k) j ∙ ap (λ (x : Bool). bit_at m j || x) (bit_one k j)))
+  adds = rw (one_shifted k i) (set_is _ 32 _ (or_lt 32 m (1 * 2 ^ k) h (one_below k i)) (λ j b. bit_or_law m (1 * 2 ^ k) j ∙ ap (λ (x : Bool). bit_at m j || x) (bit_one k j)))
 
   pub removes : bit_and m ((2 ^ 32 - 1) - (1 * 2 ^ k) % 2 ^ 32) ≡ removed m k
   unfolding removed
   removes =
       rw (one_shifted k i)
-      (set_is _ 32 _ (and_below m _ h) (λ j b. bit_and m ((2 ^ 32 - 1) - 1 * 2 ^ k) j ∙ ap (λ (x : Bool). bit_at m j && x) (bit_not 32 (1 * 2 ^ k) j (one_below k i) b ∙ ap not (bit_one k j))))
+      (set_is _ 32 _ (and_below m _ h) (λ j b. bit_and_law m ((2 ^ 32 - 1) - 1 * 2 ^ k) j ∙ ap (λ (x : Bool). bit_at m j && x) (bit_not 32 (1 * 2 ^ k) j (one_below k i) b ∙ ap not (bit_one k j))))
 
 pub lessens : (a b : ℕ) → a < 2 ^ 32 → b < 2 ^ 32 → bit_and a ((2 ^ 32 - 1) - b) ≡ less a b
 unfolding less
-lessens a b g h = set_is _ 32 _ (and_below a _ g) (λ j i. bit_and a ((2 ^ 32 - 1) - b) j ∙ ap (λ (x : Bool). bit_at a j && x) (bit_not 32 b j h i))
+lessens a b g h = set_is _ 32 _ (and_below a _ g) (λ j i. bit_and_law a ((2 ^ 32 - 1) - b) j ∙ ap (λ (x : Bool). bit_at a j && x) (bit_not 32 b j h i))
 
 -- a is within b where nothing is left of a without b
 module _ (a b : ℕ) where

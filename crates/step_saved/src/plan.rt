@@ -8,7 +8,7 @@ use saved_states::is_saved;
 use state_words::saved::{NAMES, SavedWords};
 
 // What is to be done to the states: nothing, to save the present one under a name, or to return to the one under a name.
-#[derive(Drop)]
+#[derive(Clone, Copy)]
 pub enum Act {
     Keep,
     Save(usize),
@@ -16,7 +16,7 @@ pub enum Act {
 }
 
 // What is left to do of a step: how many of the lent records go into the words before the act, how many come from there after it, and the answer.
-#[derive(Drop)]
+#[derive(Clone, Copy)]
 pub struct Plan {
     pub act: Act,
     pub copies_saved: usize,

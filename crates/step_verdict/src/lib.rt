@@ -5,7 +5,7 @@ ghost use Rattle.protocol.specs.Decide.{kept};
 
 use protocol::step::{Answer, Change};
 
-#[derive(Drop)]
+#[derive(Clone, Copy)]
 pub struct Verdict {
     pub change: Change,
     pub answer: Answer,

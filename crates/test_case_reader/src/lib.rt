@@ -11,7 +11,7 @@ use setup::limits::CLIENTS;
 use state_words::CLIENT_OBJECTS;
 
 // What a step gets besides the words and values. The words hold the client records too; the first `copies` and `requests` of them are lent.
-#[derive(Drop)]
+#[derive(Clone, Copy)]
 pub struct Case {
     pub setup: Setup,
     pub copies: usize,

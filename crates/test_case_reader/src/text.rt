@@ -2,7 +2,7 @@
 use protocol::step::Step;
 
 // A number in the text.
-#[derive(Drop)]
+#[derive(Clone, Copy)]
 pub struct Found {
     pub value: u64,
     // the offset after it

@@ -9,7 +9,7 @@ use setup::limits;
 use state_words::{CLIENT_OBJECTS, Values, Words, pass};
 
 // How the elements of a field are counted: by one number, by client and volume, or by client and object.
-#[derive(Drop)]
+#[derive(Clone, Copy)]
 pub enum Row {
     One,
     Volumes,

@@ -84,7 +84,7 @@ fn remainder(draw: u32, count: u32) -> u8
 }
 
 // A drawn step, the last of its draws, which seeds the next step, and the clock total after it.
-#[derive(Drop)]
+#[derive(Clone, Copy)]
 pub struct Drawn {
     pub step: Step,
     pub seed: u32,

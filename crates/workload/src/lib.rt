@@ -15,7 +15,7 @@ use file_records::sizes::STEPS;
 use protocol::setup::Setup;
 
 // The steps of a workload. `refusal` is 7 for a setup out of range, 10 for more than 4,000 steps, else 0; a refused workload has no steps.
-#[derive(Drop)]
+#[derive(Clone, Copy)]
 pub struct Workload {
     pub refusal: u8,
     pub steps: Steps,

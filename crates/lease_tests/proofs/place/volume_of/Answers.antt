@@ -1,0 +1,10 @@
+use native.Mathlib.Omega.{arith}
+use Rattle.protocol.specs.Ranges.{ranges}
+use Rattle.lease_tests.proofs.Laws.{placed}
+use Rattle.lease_tests.proofs.place.volume_of.Goals as goal
+
+pub bounds-setup-object : goal.bounds-setup-object
+bounds-setup-object c = omega (arith, ranges c.args.t1 c.requires.setup_value)
+
+pub returns : goal.returns
+returns c = search placed
