@@ -1,5 +1,5 @@
 -- Reading and storing a copy in the words, reading a request, and sweeping copies.
-use Prim.Native.Nat.{ℕ, ◌+◌, ◌-◌, ◌<◌, ◌≤◌}
+use Prim.Native.Nat.{ℕ, ◌+◌, ◌-◌, ◌%◌, ◌<◌, ◌≤◌}
 use native.Mathlib.Omega.{arith}
 use mathlib.Core.List.{List}
 use mathlib.Core.Path.{◌≡◌, sym, ap, ◌∙◌}
@@ -16,7 +16,7 @@ use Rattle.protocol.specs.declared.step.Sweep.{Sweep}
 use Rattle.protocol.specs.Tables.{no_copy, no_request}
 use Rattle.protocol.specs.Client.{swept, sweep_at}
 use Rattle.state_words.specs.Fields.{word_lengths, value_lengths, at, at_value, WORDS, VALUES, COPY-VERSION, COPY-EXPIRY, REQUEST-NEXT, REQUEST-STANDING, REQUEST-NUMBER, REQUEST-OBJECT, COPY-VALUE}
-use Rattle.state_words.specs.View.{tables_of, copy_at, byte_in, request_at, Records, records_of, requests_of}
+use Rattle.state_words.specs.View.{tables_of, copy_at, request_at, Records, records_of, requests_of}
 use Rattle.client_records.specs.Stores.{with_copy, swept_over}
 
 -- ---- a copy
@@ -64,17 +64,17 @@ module _ (w x : List ℕ) (i : ℕ) (y : Copy) (h : i < 512) (lw : length w ≡ 
 
 -- ---- a request
 
-pub request_read : (w : List ℕ) (d b : ℕ) → d < 16 → b ≡ byte_in (get_or w (at REQUEST-OBJECT + d) 0)
+pub request_read : (w : List ℕ) (d : ℕ) → d < 16
     → record {
       next = get_or w (at REQUEST-NEXT + d) 0;
       standing = flag (get_or w (at REQUEST-STANDING + d) 0);
       number = get_or w (at REQUEST-NUMBER + d) 0;
-      object = b;
+      object = get_or w (at REQUEST-OBJECT + d) 0 % 256;
     }
     ≡ get_or (requests_of w) d no_request
 unfolding records_of
-request_read w d b h e =
-    rw (e, part_at word_lengths w REQUEST-NEXT d h, part_at word_lengths w REQUEST-STANDING d h, part_at word_lengths w REQUEST-NUMBER d h, part_at word_lengths w REQUEST-OBJECT d h)
+request_read w d h =
+    rw (part_at word_lengths w REQUEST-NEXT d h, part_at word_lengths w REQUEST-STANDING d h, part_at word_lengths w REQUEST-NUMBER d h, part_at word_lengths w REQUEST-OBJECT d h)
     (sym (tabulate_at (request_at (parts word_lengths w REQUEST-NEXT) (parts word_lengths w REQUEST-STANDING) (parts word_lengths w REQUEST-NUMBER) (parts word_lengths w REQUEST-OBJECT)) 16 d no_request h))
 
 -- ---- a sweep: one iteration, and the end of the loop

@@ -1,12 +1,12 @@
 -- Storing a request in the words replaces that record and changes no table.
-use Rattle.std.specs.Prelude.{ℕ, ◌<◌, List, ◌≡◌, length, set}
-use Rattle.std.proofs.Common.{arith, ap, ◌∙◌, get_or-set_same, get_or-set_other, lt-ltb}
+use Rattle.std.specs.Prelude.{ℕ, ◌%◌, ◌<◌, List, ◌≡◌, length, set}
+use Rattle.std.proofs.Common.{arith, ap, ◌∙◌, get_or-set_same, get_or-set_other}
 use Rattle.laws.specs.Flags.{word_of, flag_word}
 use Rattle.laws.specs.Parts.{parts, part_length, stored}
 use Rattle.laws.specs.Tabulate.{tabulate, tabulate_set}
 use Rattle.protocol.specs.declared.records.Request.{Request}
 use Rattle.state_words.specs.Fields.{word_lengths, WORDS, REQUEST-NEXT, REQUEST-STANDING, REQUEST-NUMBER, REQUEST-OBJECT}
-use Rattle.state_words.specs.View.{tables_of, byte_in, request_at, records_of}
+use Rattle.state_words.specs.View.{tables_of, request_at, records_of}
 use Rattle.client_records.specs.Stores.{RequestPut, with_request, request_stored}
 
 requests_set : (a b c e : List ℕ) (d : ℕ) (r : Request) → d < 16 → r.object < 256 → length a ≡ 16 → length b ≡ 16 → length c ≡ 16 → length e ≡ 16
@@ -23,8 +23,8 @@ requests_set a b c e d r h n k l m p =
       byte,
     ))
   where
-    byte : byte_in r.object ≡ r.object
-    byte = rw (lt-ltb r.object 256 n)
+    byte : r.object % 256 ≡ r.object
+    byte = omega arith
 
 module _ (w x : List ℕ) (d : ℕ) (r : Request) (h : d < 16) (n : r.object < 256) (lw : length w ≡ WORDS) where
   tables_requested : tables_of (request_stored w d r) x ≡ tables_of w x

@@ -1,23 +1,13 @@
 ghost use Rattle.std.specs.Prelude.{◌≡◌, ◌<◌, get_or};
 ghost use Rattle.protocol.specs.Tables.{no_request};
-ghost use Rattle.state_words.specs.View.{byte_in, requests_of};
+ghost use Rattle.state_words.specs.View.{requests_of};
 ghost use Rattle.client_records.specs.Stores.{RequestPut};
 ghost use Rattle.setup.specs.Limits.{CLIENTS};
 
 use protocol::records::Request;
 use state_words::{Words, client as fields, pass};
 
-// Returns the byte that a word stands for. One above 255 reads as 255, which no setup has as an object.
-fn byte_in(word: u32) -> u8
-    ensures { result ≡ byte_in word }
-{
-    if word < 256 {
-        return word as u8;
-    }
-    255
-}
-
-// Returns a client's request. Any nonzero word is a set flag.
+// Returns a client's request. Any nonzero word is a set flag; only the lowest byte of the object counts.
 pub fn request_at(words: &Words, client: usize) -> Request
     requires { client < CLIENTS }
     ensures { result ≡ get_or (requests_of words.now) client no_request }
@@ -26,7 +16,7 @@ pub fn request_at(words: &Words, client: usize) -> Request
         next: words[fields::REQUEST_NEXT + client],
         standing: words[fields::REQUEST_STANDING + client] != 0,
         number: words[fields::REQUEST_NUMBER + client],
-        object: byte_in(words[fields::REQUEST_OBJECT + client]),
+        object: (words[fields::REQUEST_OBJECT + client] % 256) as u8,
     }
 }
 

@@ -1,11 +1,9 @@
 -- Lemmas cited by the function proofs: each derives a postcondition from the facts of one path.
-use Prim.Native.Nat.{ℕ, suc, ◌+◌, ◌<◌, ◌≤◌}
-use native.Mathlib.Numerals.{unary_clauses}
-use native.Mathlib.Omega.{arith}
+use Prim.Native.Nat.{ℕ, ◌<◌, ◌≤◌}
 use mathlib.Core.Bool.{Bool, true, false, cond}
 use mathlib.Core.List.{List}
-use mathlib.Core.Path.{◌≡◌, refl, sym, ap, ◌∙◌}
-use lib.ListN.{length, set}
+use mathlib.Core.Path.{◌≡◌, sym, ap, ◌∙◌}
+use lib.ListN.{length}
 use lib.Seq.{sets}
 use borrow.Author.Tests.{le-leb, lt-leb}
 use Rattle.protocol.specs.declared.message.Message.{Message}
@@ -53,10 +51,3 @@ module _ (frame before : List ℕ) where
       number = rw (le-leb _ _ h) (ap decoded_number (sym e) ∙ w.number);
       fields = rw (le-leb _ _ h, ← w.message, e);
     }
-
--- ---- ten stores, one after the other, are the run of stores of a list
-pub stored_from : (l : List ℕ) (at : ℕ) (f : Fields)
-    → set (set (set (set (set (set (set (set (set (set l at f.kind) (at + 1) f.client) (at + 2) f.object) (at + 3) f.present) (at + 4) f.number)
-    (at + 5) f.volume_expiry) (at + 6) f.epoch) (at + 7) f.version) (at + 8) f.object_expiry) (at + 9) f.value
-    ≡ sets l at (numbers_of f)
-stored_from l at f = let nine : at + 9 ≡ suc (at + 8) = omega arith in rw nine (simp unary_clauses refl)

@@ -32,7 +32,7 @@ pub fn decode(frame: &[u8], fields: &mut [u64]) -> u8
     }
     match frame::decode(frame) {
         Decoded::Accepted(m) => {
-            crate::numbers::store(fields, 0, message_fields::fields_of(m));
+            crate::numbers::store(fields, message_fields::fields_of(m));
             0
         }
         Decoded::Refused => 8,

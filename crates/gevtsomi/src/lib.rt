@@ -10,8 +10,6 @@ ghost use Rattle.export_frames.specs.Numbers.{fields_from};
 use bytes_layout::output::Report;
 use reason::Explanation;
 
-pub mod steps;
-
 // Returns 0 or the refusal's number; if bytes were written, stores how many.
 fn status_of(report: Report, written: &mut usize) -> u8
     ensures number { result ≡ report_number report }

@@ -47,9 +47,6 @@ sound_under s (state w) = world_sound s w
 unfoldable pub saved_sound : Setup → Machine → Bool
 saved_sound s q = all_from (λ (n : ℕ). sound_under s (saved_under q n)) 0 names
 
-abbrev pub machine_sound : Setup → Machine → Bool
-machine_sound s q = world_sound s q.now && saved_sound s q
-
 -- 2. the kinds of 01 and the two new ones
 unfoldable pub known_kind : Step → Bool
 known_kind x = known x || uses_name x
@@ -69,7 +66,7 @@ request_for s w x = get_or w.requests (target s w.tables x).client no_request
 -- asked in order; 3 to 6 ask nothing of a save or a return
 unfoldable pub refusal_in : Setup → Machine → Step → ℕ
 refusal_in s q x =
-    or_refuse (machine_sound s q) 1
+    or_refuse (world_sound s q.now && saved_sound s q) 1
     (or_refuse (known_kind x) 2
     (or_refuse (named q x) 11
     (or_refuse (exists s q.now.tables x) 3

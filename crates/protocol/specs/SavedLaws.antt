@@ -6,7 +6,7 @@ use Rattle.std.proofs.Math.Bool.{true, false, cond}
 use mathlib.Core.List.{List, [], ◌∷◌}
 use Rattle.std.proofs.Math.Logic.{⊎_elim}
 use Rattle.std.proofs.Math.Path.{refl, ap}
-use Rattle.laws.specs.Choice.{cond_keeps, true_or_false, or_true, or_false, both_true, not_both}
+use Rattle.laws.specs.Choice.{cond_keeps, true_or_false, or_true, or_false, not_both}
 use Rattle.laws.specs.Loop.{all_of}
 use Rattle.laws.specs.Lists.{All}
 use Rattle.laws.specs.Line.{Saved, never, state, Kept, saved_under, save, back, idle, follow, OfSaved, OfEach, each_start, each_under, Keeps, each_follow}
@@ -20,7 +20,7 @@ use Rattle.protocol.specs.Answers.{is_refused}
 use Rattle.protocol.specs.Gate.{known, exists, timely, vacant, growable, or_refuse, asked, refusal_of_step, refusal}
 use Rattle.protocol.specs.World.{World, fresh_world, stepped, answer_of, ran, answers}
 use Rattle.protocol.specs.Ledger.{accepts}
-use Rattle.protocol.specs.Saved.{Machine, names, is_save, is_return, uses_name, world_sound, sound_under, saved_sound, machine_sound, known_kind, named, request_for, refusal_in, answer_to, saving, returning, stepping, accepted_move, moved, moved_by, answers_to, fresh_machine}
+use Rattle.protocol.specs.Saved.{Machine, names, is_save, is_return, uses_name, world_sound, sound_under, saved_sound, known_kind, named, request_for, refusal_in, answer_to, saving, returning, stepping, accepted_move, moved, moved_by, answers_to, fresh_machine}
 use Rattle.protocol.specs.Line.{act_of}
 use Rattle.protocol.specs.Soundness.StepCases.{records_of, refused_answer, refused_keeps}
 use Rattle.protocol.specs.Soundness.Answered.{accepted_not_refused}
@@ -43,10 +43,6 @@ module _ (s : Setup) (q : Machine) (x : Step) (h : uses_name x ≡ false) where
   pub ordinary_refusal : refusal_in s q x ≡ or_refuse (saved_sound s q) 1 (refusal s q.now.tables (records_of s q.now) (request_for s q.now x) x)
   unfolding refusal_in refusal refusal_of_step known_kind named
   ordinary_refusal = rw h (apart (world_sound s q.now) (saved_sound s q) (known x) _)
-
-  -- accepted, it is accepted in the present state
-  pub now_accepts : eqb (refusal_in s q x) 0 ≡ true → accepts s q.now x ≡ true
-  now_accepts z = eq-eqb _ 0 (asked (saved_sound s q) 0 _ (sym ordinary_refusal ∙ eqb-true _ 0 z)).1
 
   module _ (k : saved_sound s q ≡ true) where
     as_before : refusal_in s q x ≡ refusal s q.now.tables (records_of s q.now) (request_for s q.now x) x
@@ -130,10 +126,13 @@ pub refused_moves_nothing : (s : Setup) (q : Machine) (x : Step) → is_refused 
 unfolding moved answer_to
 refused_moves_nothing s q x h = pick (true_or_false (eqb (refusal_in s q x) 0)) (true_or_false (uses_name x))
   where
+    accepting : eqb (refusal_in s q x) 0 ≡ true → uses_name x ≡ false → accepts s q.now x ≡ true
+    accepting z u = eq-eqb _ 0 (asked (saved_sound s q) 0 _ (sym (ordinary_refusal s q x u) ∙ eqb-true _ 0 z)).1
+
     pick : (eqb (refusal_in s q x) 0 ≡ true) ⊎ (eqb (refusal_in s q x) 0 ≡ false) → (uses_name x ≡ true) ⊎ (uses_name x ≡ false)
         → cond (eqb (refusal_in s q x) 0) (accepted_move s q x) q ≡ q
     pick (inl z) (inl u) = not_both (rw (z, u) at h) refl
-    pick (inl z) (inr u) = not_both (rw (z, u) at h) (accepted_not_refused s q.now x (now_accepts s q x u z))
+    pick (inl z) (inr u) = not_both (rw (z, u) at h) (accepted_not_refused s q.now x (accepting z u))
     pick (inr z) u = rw z
 
 -- only a step of 01's kinds has to keep what holds of every state
@@ -156,10 +155,6 @@ module _ (s : Setup) (i : in_range s ≡ true) where
       under : (u : Saved World) → OfSaved (SoundWorld s) u → sound_under s u ≡ true
       under never p = refl
       under (state w) p = sounds s w p i
-
-  -- question 1 is answered "yes"
-  pub machine_sounds : (q : Machine) → SoundMachine s q → machine_sound s q ≡ true
-  machine_sounds q h = both_true (sounds s q.now h.now i) (saved_sounds q h)
 
   pub moved_sound : (q : Machine) (x : Step) → SoundMachine s q → SoundMachine s (moved s q x)
   moved_sound q x h =

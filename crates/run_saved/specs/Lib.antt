@@ -1,2 +1,1 @@
-pub mod Unchanged
 pub mod ByName

@@ -1,11 +1,11 @@
-// Performs one step, a save or a return too (02, A7), on a machine whose states are all sound: the present state and the four saved ones. Question 1 is
-// not asked: a run starts from fresh words with nothing saved, so no state is ever unsound there, and `run_any` asks it before.
+// Performs one step of a run, a save or a return too (02, A7), on a machine: the present state and the four saved ones. A run starts from fresh words with
+// nothing saved, so no state is ever unsound, and question 1 is not asked.
 ghost use Rattle.std.specs.Prelude.{true, ◌≡◌};
 ghost use Rattle.protocol.specs.Setup.{in_range};
-ghost use Rattle.protocol.specs.Saved.{uses_name, machine_sound, Called};
+ghost use Rattle.protocol.specs.Saved.{uses_name, Called};
+ghost use Rattle.protocol.specs.SavedLaws.{SoundMachine};
 ghost use Rattle.state_words.specs.Saved.{machine_of};
 ghost use Rattle.run_saved.specs.ByName.{CalledByName};
-ghost use Rattle.run_saved.specs.Unchanged.{RefusedKeeps};
 
 use protocol::setup::Setup;
 use protocol::step::{Answer, Step};
@@ -37,7 +37,7 @@ fn by_name(
     Answer::Refused(11)
 }
 
-// Performs one step on a machine whose states are all sound. Returns the answer. A refused step changes nothing.
+// Performs one step on a machine whose states are all sound. Returns the answer.
 pub fn advance(
     setup: Setup,
     words: &mut Words,
@@ -47,9 +47,8 @@ pub fn advance(
     step: Step,
 ) -> Answer
     requires setup_value { in_range setup ≡ true }
-    requires saved_values_value { machine_sound setup (machine_of setup words.old values.old saved.old saved_values.old) ≡ true }
-    ensures calls { Called setup (machine_of setup words.old values.old saved.old saved_values.old) step result (machine_of setup words.new values.new saved.new saved_values.new) }
-    ensures refuses { RefusedKeeps words.old values.old saved.old saved_values.old result words.new values.new saved.new saved_values.new }
+    requires sound_machine { SoundMachine setup (machine_of setup words.old values.old saved.old saved_values.old) }
+    ensures { Called setup (machine_of setup words.old values.old saved.old saved_values.old) step result (machine_of setup words.new values.new saved.new saved_values.new) }
 {
     if known_kinds::uses_name(step) {
         return by_name(words, values, saved, saved_values, step);

@@ -5,8 +5,8 @@ use mathlib.Core.List.{List}
 use mathlib.Core.Path.{◌≡◌, refl, sym, ap, ◌∙◌}
 use lib.ListN.{get_or}
 use lib.Seq.{set-get_or}
-use borrow.Author.Tests.{eq-eqb, ne_eqb}
-use Rattle.laws.specs.Choice.{cond_keeps, and-true, not_both}
+use borrow.Author.Tests.{ne_eqb}
+use Rattle.laws.specs.Choice.{cond_keeps, and-true}
 use Rattle.laws.specs.Loop.{fold_from}
 use Rattle.protocol.specs.declared.records.Copy.{Copy}
 use Rattle.protocol.specs.declared.records.Request.{Request}
@@ -22,14 +22,11 @@ use Rattle.protocol.specs.Setup.{in_range}
 use Rattle.protocol.specs.Tables.{no_copy, no_request}
 use Rattle.protocol.specs.Sound.{tables_sound, sound}
 use Rattle.protocol.specs.Client.{CanTurn, swept_all}
-use Rattle.protocol.specs.Answers.{answerNumber, is_refused}
-use Rattle.protocol.specs.Saved.{world_sound}
-use Rattle.protocol.specs.Ledger.{accepts}
 use Rattle.protocol.specs.Gate.{is_deliver, refusal_of_step, refusal}
 use Rattle.protocol.specs.Decide.{answered, performed, refused_with, decided_by, decided}
 use Rattle.protocol.specs.World.{World, target, decision, stepped, answer_of}
 use Rattle.protocol.specs.Soundness.Numbering.{performed_turns}
-use Rattle.protocol.specs.Soundness.Answered.{accepted_not_refused}
+use Rattle.protocol.specs.Soundness.Question.{SoundWorld, sounds}
 use Rattle.protocol.specs.Soundness.StepCases as cases
 use Rattle.client_apply.specs.Changes.{changed_at}
 use Rattle.state_words.specs.View.{tables_of, records_of, world_of}
@@ -38,47 +35,36 @@ first_place_law : (s : Setup) (t : Tables) (x : Step) → (target s t x).first �
 unfolding target
 first_place_law s t x = cond_keeps (λ (a : Target). a.first ≡ a.client * s.objects) (is_deliver x) (λ _. refl) (λ _. refl)
 
-module _ (s : Setup) (w v : List ℕ) (i : in_range s ≡ true) (o : world_sound s (world_of s w v) ≡ true) where
+module _ (s : Setup) (w v : List ℕ) (i : in_range s ≡ true) (o : SoundWorld s (world_of s w v)) where
   abbrev before : World
   before = world_of s w v
 
-  -- an answer b, and what a step left: refused, it left words and values as they were
-  abbrev Answers : Step → Answer → List ℕ → List ℕ → World → Type 0
-  Answers x b u y z = (b ≡ answer_of s before x) × ((z ≡ stepped s before x) × (answerNumber b ≡ 4 → (u ≡ w) × (y ≡ v)))
-
   tables_sound_law : tables_sound s (tables_of w v) ≡ true
   unfolding sound
-  tables_sound_law = (and-true (in_range s && cases.records_of s before) (tables_sound s (tables_of w v)) o).1
+  tables_sound_law = (and-true (in_range s && cases.records_of s before) (tables_sound s (tables_of w v)) (sounds s before o i)).1
 
   -- a, c and r are the target, copy and request that the step can touch; `no` is the first question answered "no", or 0
   module _ (x : Step) (a : Target) (c : Copy) (r : Request) (no : ℕ) (ea : a ≡ target s (tables_of w v) x) (ec : c ≡ get_or before.copies a.copy no_copy)
       (er : r ≡ get_or before.requests a.client no_request) (en : no ≡ refusal_of_step s (tables_of w v) r x) where
     decides : decided_by no s (tables_of w v) c r x ≡ decision s before x
     unfolding decision decided refusal
-    decides = rw (en, ec, er, ea, o)
+    decides = rw (en, ec, er, ea, sounds s before o i)
 
-    pub refused : (no ≡ 0 → ⊥) → Answers x (Refused no) w v before
+    pub refused : (no ≡ 0 → ⊥) → (Refused no ≡ answer_of s before x) × (before ≡ stepped s before x)
     unfolding stepped swept_all fold_from
     refused h =
         let d : refused_with (tables_of w v) no ≡ decision s before x = rw (ne_eqb no 0 h) at decides in (
           ap (λ (d : Decision). d.outcome.answer) d,
-          (
-            rw (
-              ← d,
-              set-get_or before.copies (target s (tables_of w v) x).copy no_copy,
-              set-get_or before.requests (target s (tables_of w v) x).client no_request,
-            ),
-            λ _. (refl, refl),
+          rw (
+            ← d,
+            set-get_or before.copies (target s (tables_of w v) x).copy no_copy,
+            set-get_or before.requests (target s (tables_of w v) x).client no_request,
           ),
         )
 
     module _ (h : no ≡ 0) where
       accepted : refusal_of_step s (tables_of w v) r x ≡ 0
       accepted = sym en ∙ h
-
-      accepts_it : accepts s before x ≡ true
-      unfolding refusal
-      accepts_it = let a : refusal_of_step s (tables_of w v) (cases.request_of s before x) x ≡ 0 = rw (er, ea) at accepted in rw (o, a)
 
       pub can_perform : (in_range s ≡ true) × ((tables_sound s (tables_of w v) ≡ true) × (refusal_of_step s (tables_of w v) r x ≡ 0))
       can_perform = (i, (tables_sound_law, accepted))
@@ -91,9 +77,8 @@ module _ (s : Setup) (w v : List ℕ) (i : in_range s ≡ true) (o : world_sound
             turns : CanTurn r g.request
             turns = rw (ap (λ (d : Decision). d.change) p.0) (performed_turns r s (tables_of w v) c x (cases.passed s (tables_of w v) r x accepted))
 
-        pub performs : (u' y' : List ℕ) → world_of s u' y' ≡ changed_at s (world_of s u y) a g → Answers x b u' y' (world_of s u' y')
+        pub performs : (z : World) → z ≡ changed_at s (world_of s u y) a g → (b ≡ answer_of s before x) × (z ≡ stepped s before x)
         unfolding stepped
-        performs u' y' e =
+        performs z e =
             let d : answered g (tables_of u y) b ≡ decision s before x = p.0 ∙ (rw h at decides) in
-            let told : b ≡ answer_of s before x = ap (λ (d : Decision). d.outcome.answer) d in
-            (told, (e ∙ rw (p.1, ea, ← d), λ n. not_both (eq-eqb (answerNumber b) 4 n) (ap is_refused told ∙ accepted_not_refused s before x accepts_it)))
+            (ap (λ (d : Decision). d.outcome.answer) d, e ∙ rw (p.1, ea, ← d))

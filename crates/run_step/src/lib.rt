@@ -1,10 +1,9 @@
-// Performs one step in place, on sound words that also hold the clients' records; a save or a return is a step of `run_saved`. Question 1 is not asked: a
-// run starts from fresh words, so its answer is never "no" there, and `run_any` asks it before.
+// Performs one step of a run in place, on words that also hold the clients' records; a save or a return is a step of `run_saved`. A run starts from fresh
+// words, so the answer to question 1 is never "no", and it is not asked.
 ghost use Rattle.std.specs.Prelude.{true, ◌≡◌};
 ghost use Rattle.protocol.specs.Setup.{in_range};
-ghost use Rattle.protocol.specs.Answers.{answerNumber};
-ghost use Rattle.protocol.specs.Saved.{world_sound};
 ghost use Rattle.protocol.specs.World.{answer_of, stepped};
+ghost use Rattle.protocol.specs.Soundness.Question.{SoundWorld};
 ghost use Rattle.state_words.specs.View.{world_of};
 
 use protocol::setup::Setup;
@@ -13,13 +12,12 @@ use state_words::{Values, Words};
 use step_perform::perform;
 use step_target::target;
 
-// Performs one step on a sound world. Returns the answer. A refused step changes no word and no value.
+// Performs one step on a sound world. Returns the answer.
 pub fn advance(setup: Setup, words: &mut Words, values: &mut Values, step: Step) -> Answer
     requires setup_value { in_range setup ≡ true }
-    requires values_value { world_sound setup (world_of setup words.old values.old) ≡ true }
-    ensures answers { result ≡ answer_of setup (world_of setup words.old values.old) step }
-    ensures moves { world_of setup words.new values.new ≡ stepped setup (world_of setup words.old values.old) step }
-    ensures refuses { answerNumber result ≡ 4 → (words.new ≡ words.old) × (values.new ≡ values.old) }
+    requires sound_world { SoundWorld setup (world_of setup words.old values.old) }
+    ensures value { result ≡ answer_of setup (world_of setup words.old values.old) step }
+    ensures values_after { world_of setup words.new values.new ≡ stepped setup (world_of setup words.old values.old) step }
 {
     let at = target(setup, &*words, &*values, step);
     let c = client_apply::copy_of(setup, &*words, &*values, at);

@@ -5,4 +5,3 @@ pub mod Reads
 pub mod Worlds
 pub mod Saved
 pub mod LiveRows
-pub mod WideWords

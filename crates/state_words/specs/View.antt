@@ -1,5 +1,5 @@
 -- What the words and the values represent: the tables of 01, the clients' records, and the world that consists of both.
-use Rattle.std.specs.Prelude.{ℕ, ◌*◌, cond, List, [], ltb, get_or, take, replicate}
+use Rattle.std.specs.Prelude.{ℕ, ◌*◌, ◌%◌, List, [], get_or, take, replicate}
 use Rattle.laws.specs.Flags.{flag, flags}
 use Rattle.laws.specs.Parts.{parts}
 use Rattle.laws.specs.Tabulate.{tabulate}
@@ -53,16 +53,13 @@ numbers_of words = tables_of words []
 abbrev pub copy_at : List ℕ → List ℕ → List ℕ → ℕ → Copy
 copy_at version value expiry i = record { version = get_or version i 0; value = get_or value i 0; expiry = get_or expiry i 0 }
 
--- a word that stands for a byte; one above 255 reads as 255, which is no object of any setup, so question 1 refuses a request that stands for it
-abbrev pub byte_in : ℕ → ℕ
-byte_in x = cond (ltb x 256) x 255
-
+-- only the lowest byte of a request's object counts
 abbrev pub request_at : List ℕ → List ℕ → List ℕ → List ℕ → ℕ → Request
 request_at next standing number object d = record {
   next = get_or next d 0;
   standing = flag (get_or standing d 0);
   number = get_or number d 0;
-  object = byte_in (get_or object d 0);
+  object = get_or object d 0 % 256;
 }
 
 pub record Records : Type 0 where

@@ -2,6 +2,7 @@
 -- Letters: s setup, w world, q a machine, x a step, t tables, c a copy, r a request.
 use Rattle.std.specs.Prelude.{ℕ, zero, suc, Bool, cond, ◌≡◌, refl, eqb}
 use Rattle.std.proofs.Math.Bool.{true, false}
+use Rattle.std.proofs.Common.{sym, ◌∙◌, eqb-true, eq-eqb}
 use Rattle.std.proofs.Math.Dec.{eqb-suc-zero}
 use Rattle.protocol.specs.declared.records.Copy.{Copy}
 use Rattle.protocol.specs.declared.records.Request.{Request}
@@ -14,12 +15,12 @@ use Rattle.protocol.specs.Messages.{message_at}
 use Rattle.protocol.specs.Writes.{settled, write_staged, clock_staged}
 use Rattle.protocol.specs.Client.{showable}
 use Rattle.protocol.specs.Answers.{doneOrCompleted, answerNumber, answerValue, completedAnswer}
-use Rattle.protocol.specs.Gate.{is_clock, is_read, is_write, is_deliver, known}
+use Rattle.protocol.specs.Gate.{is_clock, is_read, is_write, is_deliver, known, asked}
 use Rattle.protocol.specs.Decide.{received, taken, read_decided, ask_decided, deliver_decided, restart_decided, performed}
 use Rattle.protocol.specs.World.{World, answer_of}
 use Rattle.protocol.specs.Ledger.{accepts}
-use Rattle.protocol.specs.Saved.{Machine, uses_name, refusal_in, answer_to}
-use Rattle.protocol.specs.SavedLaws.{now_accepts}
+use Rattle.protocol.specs.Saved.{Machine, uses_name, saved_sound, refusal_in, answer_to}
+use Rattle.protocol.specs.SavedLaws.{ordinary_refusal}
 use Rattle.protocol.specs.Soundness.StepCases.{copy_of, request_of, accepted, accepted_answer_law, by_kind}
 use Rattle.protocol.specs.Soundness.StepCases.{clock_performed, read_performed, ask_performed, write_performed, deliver_performed}
 use Rattle.protocol.specs.Soundness.StepCases.{lose_performed, double_performed, server_performed, client_performed}
@@ -87,9 +88,13 @@ chosen_says true false a k number value h = h refl refl
 chosen_says false n a k number value h = (refl, refl)
 
 module _ (s : Setup) (q : Machine) (x : Step) where
+  -- an accepted step of 01's kinds is accepted in the present state
+  now_accepts : eqb (refusal_in s q x) 0 ≡ true → uses_name x ≡ false → accepts s q.now x ≡ true
+  now_accepts e u = eq-eqb _ 0 (asked (saved_sound s q) 0 _ (sym (ordinary_refusal s q x u) ∙ eqb-true _ 0 e)).1
+
   says : Says (answer_to s q x) (number_of s q x) (value_of s q x)
   unfolding number_of value_of answer_to
-  says = chosen_says (eqb (refusal_in s q x) 0) (uses_name x) _ _ _ _ (λ e u. accepted_says s q.now x (now_accepts s q x u e))
+  says = chosen_says (eqb (refusal_in s q x) 0) (uses_name x) _ _ _ _ (λ e u. accepted_says s q.now x (now_accepts e u))
 
   pub number_is : answerNumber (answer_to s q x) ≡ number_of s q x
   number_is = says.0

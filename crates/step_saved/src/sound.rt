@@ -1,4 +1,4 @@
-// Question 1 for states whose words hold the client records too: one of them, and the four saved ones (02, A7).
+// Question 1 for the saved states (02, A7).
 ghost use Rattle.std.specs.Prelude.{ℕ, ◌≤◌, ◌≡◌, get_or};
 ghost use Rattle.laws.specs.Loop.{all_from};
 ghost use Rattle.protocol.specs.Saved.{world_sound, sound_under};
@@ -49,7 +49,7 @@ fn requests_fit(setup: Setup, words: &Words, n: usize) -> bool
 }
 
 // Returns whether the setup is in range and the tables, messages and records in the words and values are sound.
-pub fn state_sound<'a>(setup: Setup, words: &'a Words, values: &'a Values) -> bool
+fn state_sound<'a>(setup: Setup, words: &'a Words, values: &'a Values) -> bool
     ensures { result ≡ world_sound setup (world_of setup words.now values.now) }
 {
     if setup::in_range(setup) {

@@ -1,5 +1,5 @@
 use mathlib.Core.Path.{sym, ◌∙◌}
-use Rattle.run_saved.proofs.Laws.{now_sound, other}
+use Rattle.run_saved.proofs.Laws.{other}
 use borrow.Author.Rules.{rules}
 use Rattle.run_saved.proofs.advance.Statement.{statement}
 use Rattle.run_saved.proofs.advance.Tie as tie
@@ -15,18 +15,16 @@ by_name-requires c κs =
 returns : tie.Need-returns
 returns c =
     let a = c.before.before.before.before.before.before.before in
-    (c.by_name.ensures.0 _ a.requires.1, c.by_name.ensures.1)
+    c.by_name.ensures _ a.requires.0 a.requires.1
 
 advance-requires : tie.Need-advance-requires
-advance-requires c κs =
-    let a = c.before.before.before.before in
-    (a.requires.0, now_sound _ _ a.requires.1)
+advance-requires c κs = search rules
 
 returns-2 : tie.Need-returns-2
 returns-2 c =
     let at-if1 = c.before.before.before in
     let a = at-if1.before.before in
-    other _ _ _ _ _ _ a.requires.1 (sym at-if1.before.uses-name.ensures ∙ at-if1.if1.false) _ _ _ c.advance.ensures
+    other _ _ _ _ _ _ a.requires.0 a.requires.1 (sym at-if1.before.uses-name.ensures ∙ at-if1.if1.false) _ _ _ c.advance.ensures
 
 pub advance-spec : {M : Type 1} → statement M
 advance-spec =

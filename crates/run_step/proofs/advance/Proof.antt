@@ -49,7 +49,7 @@ returns c =
     let a = at_Target.before.before.before in
     performs _ _ _ a.requires.0 a.requires.1 _ _ _ _ _ at_Target.target.ensures
     at-copy-of.copy_of.ensures at-request-of.request-of.ensures at-refusal-of-step.refusal-of-step.ensures
-    at-if1.if1.true _ _ _ _ at-perform.perform.ensures _ _ c.change.ensures
+    at-if1.if1.true _ _ _ _ at-perform.perform.ensures _ c.change.ensures
 
 returns-2 : tie.Need-returns-2
 returns-2 c =

@@ -30,20 +30,20 @@ mul-t15 c = search rules
 element-copy-out-t18 : tie.Need-element-copy-out-t18
 element-copy-out-t18 c = search rules
 
-add-byte-in : tie.Need-overflow-add-byte-in
-add-byte-in c = search rules
+add-t19 : tie.Need-overflow-add-t19
+add-t19 c = search rules
 
-mul-byte-in : tie.Need-overflow-mul-byte-in
-mul-byte-in c = search rules
+mul-t20 : tie.Need-overflow-mul-t20
+mul-t20 c = search rules
 
-element-copy-out-byte-in : tie.Need-element-copy-out-byte-in
-element-copy-out-byte-in c = search rules
+element-copy-out-t23 : tie.Need-element-copy-out-t23
+element-copy-out-t23 c = search rules
 
-byte-in-requires : tie.Need-byte-in-requires
-byte-in-requires c κs = search rules
+cast-t25 : tie.Need-overflow-cast-t25
+cast-t25 c = search rules
 
 returns : tie.Need-returns
-returns c = request_read _ _ _ c.before.before.before.before.before.requires c.byte-in.ensures
+returns c = request_read _ _ c.before.before.before.before.requires
 
 pub request-at-spec : {M : Type 1} → statement M
 request-at-spec =
@@ -58,8 +58,8 @@ request-at-spec =
     add-t14
     mul-t15
     element-copy-out-t18
-    add-byte-in
-    mul-byte-in
-    element-copy-out-byte-in
-    byte-in-requires
+    add-t19
+    mul-t20
+    element-copy-out-t23
+    cast-t25
     returns)

@@ -2,7 +2,6 @@ use native.Mathlib.Nat.{le_of_lt}
 use native.Mathlib.Omega.{arith}
 use Prim.Native.Nat.{◌-◌, ◌≤◌}
 use mathlib.Core.Path.{◌≡◌}
-use Rattle.protocol.specs.SavedLaws.{machine_sounds}
 use Rattle.state_words.specs.Saved.{machine_of, fresh_machine_law}
 use Rattle.file_shape.specs.Places.{place_before, place_next}
 use Rattle.file_reader.specs.Steps.{steps_of}
@@ -49,7 +48,7 @@ advance-requires : tie.Need-advance-requires invariant-loop decreases-loop
 advance-requires c κs =
     let l = c.before.before.before.before.before.before.before.before.before.before.before.before in
     let p = l.before.before.before.before.before.before.before.before.requires in
-    (in_range_law p, machine_sounds _ (in_range_law p) _ (follow_sound _ _ _ (in_range_law p) _ _ _ l.loop.invariant.1.1))
+    (in_range_law p, follow_sound _ _ _ (in_range_law p) _ _ _ l.loop.invariant.1.1)
 
 copy-of-requires-2 : tie.Need-copy-of-requires-2 invariant-loop decreases-loop
 copy-of-requires-2 c κs =
@@ -76,7 +75,7 @@ follow-requires c κs =
     let taken = c.before.before.before.before.before.before.before.before.before.before.before.before.before.before.before.before.before.loop-test.true in
     let at-advance = c.before.before.before.before.before in
     let at-step-at = c.before.before.before.before.before.before.before.before.before.before.before.before.before.before.before.before in
-    named p _ _ _ l.loop.invariant.1.1 taken _ l.loop.invariant.1.0 _ at-step-at.step-at.ensures _ at-advance.advance.ensures.0.answers
+    named p _ _ _ l.loop.invariant.1.1 taken _ l.loop.invariant.1.0 _ at-step-at.step-at.ensures _ at-advance.advance.ensures.answers
 
 add-place : tie.Need-overflow-add-place invariant-loop decreases-loop
 add-place c =
@@ -112,7 +111,7 @@ loop-again c =
       omega (arith, taken),
       (
         place_next _ _ _ l.loop.invariant.1.0,
-        again p _ _ _ l.loop.invariant.1.1 taken _ l.loop.invariant.1.0 _ at-step-at.step-at.ensures _ l.before.before.target_at.ensures _ _ at-advance.advance.ensures.0
+        again p _ _ _ l.loop.invariant.1.1 taken _ l.loop.invariant.1.0 _ at-step-at.step-at.ensures _ l.before.before.target_at.ensures _ _ at-advance.advance.ensures
             _ at-request-of.request-of.ensures _ _ at-copy-of.copy_of.ensures at-copy-of2.copy-of2.ensures
             _ at-event.event.ensures _ at-latest.latest.ensures _ c.follow.ensures,
       ),
@@ -127,7 +126,7 @@ advance-requires-2 : tie.Need-advance-requires-2 invariant-loop decreases-loop
 advance-requires-2 c κs =
     let l = c.before.before.before.before.before.before.before.before in
     let p = l.before.before.before.before.before.before.before.before.requires in
-    (in_range_law p, machine_sounds _ (in_range_law p) _ (follow_sound _ _ _ (in_range_law p) _ _ _ l.loop.invariant.1.1))
+    (in_range_law p, follow_sound _ _ _ (in_range_law p) _ _ _ l.loop.invariant.1.1)
 
 if-asked-requires : tie.Need-if-asked-requires invariant-loop decreases-loop
 if-asked-requires c κs = search rules
@@ -138,7 +137,7 @@ returns c =
     let at-reason-by = at-advance2.before.before.before.before.before in
     let l = at-reason-by.before.before.before.before in
     let p = l.before.before.before.before.before.before.before.before.requires in
-    ends p _ _ _ l.loop.invariant.1.1 l.loop.invariant.0 at-reason-by.before.before.before.loop-test.false _ at-advance2.advance2.ensures.0.answers
+    ends p _ _ _ l.loop.invariant.1.1 l.loop.invariant.0 at-reason-by.before.before.before.loop-test.false _ at-advance2.advance2.ensures.answers
     _ at-reason-by.reason-by.ensures _ c.if-asked.ensures
 
 pub run-until-spec : {M : Type 1} → statement M

@@ -2,7 +2,6 @@ use native.Mathlib.Omega.{arith}
 use Prim.Native.Nat.{◌-◌, ◌≤◌}
 use mathlib.Core.Path.{◌≡◌, refl, ◌∙◌}
 use lib.ListN.{length}
-use Rattle.protocol.specs.SavedLaws.{machine_sounds}
 use Rattle.state_words.specs.Saved.{machine_of, fresh_machine_law}
 use Rattle.file_shape.specs.Places.{place_before, place_next, record_there}
 use Rattle.file_reader.specs.Reading.{accepted}
@@ -36,8 +35,7 @@ advance-requires : tie.Need-advance-requires invariant-loop decreases-loop
 advance-requires c κs =
     let l = c.before.before.before.before.before.before in
     let p = l.before.before.before.before.before.before.before.requires in
-    let r = accepted _ _ p.0 p.1.0 in
-    (r.in_range_law, machine_sounds _ r.in_range_law _ l.loop.invariant.1.1.1.sound)
+    ((accepted _ _ p.0 p.1.0).in_range_law, l.loop.invariant.1.1.1.sound)
 
 add-write-line : tie.Need-overflow-add-write-line invariant-loop decreases-loop
 add-write-line c =
@@ -96,7 +94,7 @@ loop-again c =
         (
           at-write-line.write-line.ensures.bytes.long ∙ l.loop.invariant.1.1.0,
           run_again _ _ _ _ r.parts _ r.counted _ _ _ _ l.loop.invariant.1.1.1 taken r.in_range_law _ l.loop.invariant.1.0
-              _ at-step-at.step-at.ensures _ _ at-advance.advance.ensures.0 _ _ at-write-line.write-line.ensures,
+              _ at-step-at.step-at.ensures _ _ at-advance.advance.ensures _ _ at-write-line.write-line.ensures,
         ),
       ),
     )
