@@ -153,12 +153,12 @@ def as_record(body, labels):
     if len(parts) == len(labels) - 1:
         parts.append(left.strip())
     elif not parts:
-        whole = "(" + rest.strip() + ")"
-        parts = [whole + ".1" * i + (".0" if i < len(labels) - 1 else "") for i in range(len(labels))]
+        lets += (" " if lets else "") + "let all = " + rest.strip() + " in"
+        parts = ["all" + ".1" * i + (".0" if i < len(labels) - 1 else "") for i in range(len(labels))]
     else:
-        whole = "(" + left.strip() + ")"
+        lets += (" " if lets else "") + "let rest = " + left.strip() + " in"
         k = len(labels) - len(parts)
-        parts += [whole + ".1" * i + (".0" if i < k - 1 else "") for i in range(k)]
+        parts += ["rest" + ".1" * i + (".0" if i < k - 1 else "") for i in range(k)]
     return lets + (" " if lets else "") + "record { " + "; ".join(f"{l} = {p}" for l, p in zip(labels, parts)) + " }"
 
 
@@ -193,6 +193,36 @@ def by_label(text, path, labels):
     return re.sub(rf"((?:[A-Za-z_][\w'-]*\.)*{path})(?![\w'.-])", whole, text)
 
 
+def renamed(text, to):
+    """The text with the free names of `to` replaced: not those that a `λ`, a `(x : T) →` or a `let` binds."""
+    out, i, bound = [], 0, [set()]
+    word = re.compile(IDENT)
+    while i < len(text):
+        ch = text[i]
+        if ch in "([{":
+            pi = re.match(rf"\(((?:{IDENT} )+): [^()]*(?:\([^()]*\)[^()]*)*\)\s*→", text[i:])
+            if pi:
+                bound[-1] = bound[-1] | set(pi.group(1).split())
+            bound.append(set(bound[-1]))
+        elif ch in ")]}" and len(bound) > 1:
+            bound.pop()
+        elif ch == "λ":
+            head = text[i : text.index(".", i)]
+            names = set(re.findall(IDENT, re.sub(r":[^()]*", "", head)))
+            bound[-1] = bound[-1] | names
+        m = word.match(text, i) if not (i and re.match(r"[\w'.-]", text[i - 1])) else None
+        if m:
+            name = m.group(0)
+            if re.search(r"\blet $", text[:i]):
+                bound[-1] = bound[-1] | {name}
+            out.append(name if any(name in b for b in bound[-1:]) else to.get(name, name))
+            i = m.end()
+            continue
+        out.append(ch)
+        i += 1
+    return "".join(out)
+
+
 class Turn:
     def __init__(self, crate, info, clauses, function, folder):
         self.crate, self.info, self.clauses, self.function, self.folder = crate, info, clauses, function, folder
@@ -209,9 +239,13 @@ class Turn:
 
     def paths(self, text):
         def step(m):
-            return "." + self.steps.get(norm(m.group(1)), m.group(1))
+            name = m.group(1)
+            if norm(name) not in self.steps and name.endswith("_law"):
+                name = name[: -len("_law")]  # respell.py took a call's step for the lemma of that name
+            return "." + self.steps.get(norm(name), m.group(1))
 
         text = re.sub(rf"\.({IDENT})", step, text)
+        text = re.sub(r"\.in_default\.keys", ".in_default.in_default-own.keys", text)
         pre = self.info.get("pre")
         if pre and len(pre["fields"]) > 1:
             text = by_label(text, r"requires", pre["fields"])
@@ -256,8 +290,7 @@ class Turn:
             else:
                 cur = [n for n, c in zip(names, changed) if c]
                 to[p] = f"l.{cur[k - len(names)]}" if k - len(names) < len(cur) else p
-        # a name that stands once only in the head may be anything
-        body = re.sub(rf"(?<![\w'.-])({IDENT})(?![\w'-])(?!\s*=[^=])", lambda m: to.get(m.group(1), m.group(1)) if m.group(1) != "_" else "_", body)
+        body = renamed(body, {a: b for a, b in to.items() if a != "_"})
         extra = head.group(1)
         return f"abbrev pub {kind}-{new} : goal.{kind}-{new}\n{extra}{kind}-{new} l ={body}"
 

@@ -2,7 +2,7 @@ use Rattle.message_fields.proofs.Laws.{by_renew, by_grant, by_invalidate, by_ack
 use Rattle.message_fields.proofs.kind_fields.Goals as goal
 
 pub volume_fields-requires : goal.volume_fields-requires
-volume_fields-requires c = about_volume _ _ c.in_default.keys5
+volume_fields-requires c = about_volume _ _ c.in_default.in_default-own.keys5
 
 pub returns-in-Renew : goal.returns-in-Renew
 returns-in-Renew c = search by_renew

@@ -4,7 +4,7 @@ use Rattle.lease_tests.proofs.Laws.{placed}
 use Rattle.lease_tests.proofs.place.volume_of.Goals as goal
 
 pub bounds-setup-object : goal.bounds-setup-object
-bounds-setup-object c = omega (arith, ranges c.args.t1 c.requires.setup_value)
+bounds-setup-object c = omega (arith, ranges c.args.setup c.requires.setup_value)
 
 pub returns : goal.returns
 returns c = search placed

@@ -1,0 +1,22 @@
+use borrow.Author.Rules.{rules}
+use mathlib.Core.Path.{refl}
+use Rattle.laws.specs.Sets.{set_of}
+use Rattle.protocol.specs.Ranges.{ranges}
+use Rattle.gate_message.proofs.Members.{object_again, objects_end}
+use Rattle.gate_message.proofs.object_sets.objects_in.Goals as goal
+
+pub loop-object-init : goal.loop-object-init
+unfolding set_of
+loop-object-init c = (search rules, refl)
+
+pub bounds-setup-object : goal.bounds-setup-object
+bounds-setup-object c = let k = ranges _ c.before.before.requires in search rules
+
+pub with_if-set-requires : goal.with_if-set-requires
+with_if-set-requires c = let k = ranges _ c.before.before.before.requires in search rules
+
+pub loop-object-preserved : goal.loop-object-preserved
+loop-object-preserved c = (search rules, search object_again)
+
+pub returns : goal.returns
+returns c = search objects_end
