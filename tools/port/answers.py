@@ -53,7 +53,7 @@ def blocks_of(text):
     """The declarations of a proof file: each is the list of its lines, with its comments before it."""
     blocks, now = [], []
     for line in text.split("\n"):
-        starts = bool(line) and not line[0].isspace()
+        starts = bool(line) and not line[0].isspace() and line[0] not in ")]}"
         if starts and not line.startswith("--"):
             head = re.match(rf"(?:abbrev |pub |unfoldable )*({IDENT})", line)
             same = now and any(l and not l[0].isspace() and not l.startswith("--") for l in now)
@@ -244,7 +244,8 @@ class Turn:
                 name = name[: -len("_law")]  # respell.py took a call's step for the lemma of that name
             return "." + self.steps.get(norm(name), m.group(1))
 
-        text = re.sub(rf"\.({IDENT})", step, text)
+        text = re.sub(rf"(?<!args)(?<!ranges)(?<!requires)(?<!ensures)(?<!new)\.({IDENT})", step, text)
+        text = re.sub(r"\.given\.0(?![\w'.-])", ".given", text)
         text = re.sub(r"\.in_default\.keys", ".in_default.in_default-own.keys", text)
         pre = self.info.get("pre")
         if pre and len(pre["fields"]) > 1:
@@ -379,7 +380,7 @@ def needed(uses, body):
             n = n.strip()
             w = n.split(" as ")[-1].strip()
             bits = [b for b in w.split("◌") if b]
-            if w in words or ("◌" in w and all(b in words for b in bits)):
+            if w in words or (w == "[]" and "[]" in body) or ("◌" in w and all(b in words for b in bits)):
                 keep.append(n)
         if keep:
             out.append(m.group(1) + ", ".join(keep) + m.group(3))

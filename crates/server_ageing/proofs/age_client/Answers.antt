@@ -1,0 +1,24 @@
+use native.Mathlib.Omega.{arith}
+use native.Mathlib.Nat.{sub-zero}
+use Rattle.laws.specs.Loop.{fold_again, fold_end}
+use Rattle.protocol.specs.Ranges.{ranges}
+use Rattle.protocol.specs.Writes.{age_at, aged_in}
+use Rattle.server_marks.specs.SessionWords.{only_start, only_again}
+use borrow.Author.Rules.{rules}
+use Rattle.server_ageing.proofs.age_client.Goals as goal
+
+pub loop-volume-init : goal.loop-volume-init
+loop-volume-init c = (search rules, (only_start _, rw sub-zero))
+
+pub age_at-requires : goal.age_at-requires
+age_at-requires c =
+    let a = c.before.before.before.before in record { client_bound = search rules; volume_bound = omega (arith, (ranges _ a.requires.setup_value).volumes.1) }
+
+pub loop-volume-preserved : goal.loop-volume-preserved
+loop-volume-preserved c =
+    let at-loop = c.before.before.before in
+    (search rules, (only_again _ _ _ at-loop.loop-volume.invariant.1.0 c.age_at.ensures.only_sessions, fold_again _ _ _ _ _ _ (search rules) c.age_at.ensures.words_after at-loop.loop-volume.invariant.1.1))
+
+pub returns : goal.returns
+unfolding aged_in
+returns c = record { words_after = fold_end _ _ _ _ _ (search rules) c.before.loop-volume.invariant.1.1; only_sessions = c.before.loop-volume.invariant.1.0 }

@@ -1,0 +1,25 @@
+use native.Mathlib.Nat.{sub-zero}
+use Rattle.laws.specs.Loop.{fold_again, fold_end}
+use Rattle.server_marks.specs.SessionWords.{only_start, only_again}
+use Rattle.server_waiting.proofs.Passes.{marks_none}
+use borrow.Author.Rules.{rules}
+use Rattle.server_waiting.proofs.clients.mark_waiting.Goals as goal
+
+pub returns-then-waiting-eq0 : goal.returns-then-waiting-eq0
+returns-then-waiting-eq0 c = record { words_after = search marks_none; only_sessions = only_start _ }
+
+pub loop-client-init : goal.loop-client-init
+loop-client-init c = (search rules, (only_start _, rw sub-zero))
+
+pub loop-client-preserved : goal.loop-client-preserved
+loop-client-preserved c =
+    let at-loop = c.before.before.before.before in (
+      search rules,
+      (
+        only_again _ _ _ at-loop.loop-client.invariant.1.0 c.mark_if.ensures.only_sessions,
+        fold_again _ _ _ _ _ _ (search rules) (rw (c.mark_if.ensures.words_after, c.before.before.has-yes.ensures)) at-loop.loop-client.invariant.1.1,
+      ),
+    )
+
+pub returns : goal.returns
+returns c = record { words_after = search fold_end; only_sessions = c.before.loop-client.invariant.1.0 }

@@ -1,0 +1,22 @@
+use native.Mathlib.Nat.{sub-zero}
+use Rattle.laws.specs.Greatest.{greatest}
+use Rattle.laws.specs.Loop.{fold_end}
+use Rattle.server_waiting.proofs.Passes.{end_again, end_none}
+use borrow.Author.Rules.{rules}
+use Rattle.server_waiting.proofs.end.latest_end.Goals as goal
+
+pub returns-then-waiting-eq0 : goal.returns-then-waiting-eq0
+returns-then-waiting-eq0 c = search end_none
+
+pub loop-client-init : goal.loop-client-init
+loop-client-init c = (search rules, rw sub-zero)
+
+pub loop-client-preserved : goal.loop-client-preserved
+loop-client-preserved c =
+    let at_has = c.before.before.before in
+    let at-loop = at_has.before.before in
+    (search rules, end_again _ _ _ _ (search rules) (search rules) (search rules) _ _ _ _ _ _ (search rules) at_has.has.ensures c.outlast-end.ensures at-loop.loop-client.invariant.1)
+
+pub returns : goal.returns
+unfolding greatest
+returns c = search fold_end
