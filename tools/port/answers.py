@@ -355,7 +355,7 @@ class Turn:
             with open(os.path.join(folder, "Invariants.antt"), "w", encoding="utf-8") as f:
                 f.write("\n".join(needed(uses, body) + [f"use {module}.Given as goal", ""]) + "\n" + body + "\n")
         if answers:
-            body = "\n\n".join(helpers + answers)
+            body = without_chains("\n\n".join(helpers + answers))
             with open(os.path.join(folder, "Answers.antt"), "w", encoding="utf-8") as f:
                 f.write("\n".join(top + needed(uses, body) + [f"use {module}.Goals as goal", ""]) + "\n" + body + "\n")
         elif helpers:
@@ -363,6 +363,21 @@ class Turn:
         if not os.listdir(folder):
             os.rmdir(folder)
         return self.notes
+
+
+def without_chains(text):
+    """What is known stands in `c` by its name now, so that no chain of `.before` leads there, and no name for a part of it is needed."""
+    text = re.sub(r"(?<=[\w'])(\.before)+(?![\w'-])", "", text)
+    out = []
+    for block in re.split(r"(?m)(?=^pub )", text):
+        while True:
+            m = re.search(r"\s*let ([A-Za-z_][\w'₀-₉-]*) = c in\b", block)
+            if not m:
+                break
+            block = block[: m.start()] + " " + block[m.end():].lstrip(" ")
+            block = re.sub(rf"(?<![\w'.-]){re.escape(m.group(1))}(?![\w'-])", "c", block)
+        out.append(block)
+    return "".join(out)
 
 
 def needed(uses, body):

@@ -14,4 +14,4 @@ pub returns-in-Cleared : goal.returns-in-Cleared
 returns-in-Cleared c = search by_cleared
 
 pub returns-in_default : goal.returns-in_default
-returns-in_default c = absurd (not_about_volume _ _ c.before.in_default.in_default-own.keys5 c.before.before.requires)
+returns-in_default c = absurd (not_about_volume _ _ c.in_default.in_default-own.keys5 c.requires)

@@ -11,14 +11,12 @@ pub loop-volume-init : goal.loop-volume-init
 loop-volume-init c = (search rules, (only_start _, rw sub-zero))
 
 pub age_at-requires : goal.age_at-requires
-age_at-requires c =
-    let a = c.before.before.before.before in record { client_bound = search rules; volume_bound = omega (arith, (ranges _ a.requires.setup_value).volumes.1) }
+age_at-requires c = record { client_bound = search rules; volume_bound = omega (arith, (ranges _ c.requires.setup_value).volumes.1) }
 
 pub loop-volume-preserved : goal.loop-volume-preserved
 loop-volume-preserved c =
-    let at-loop = c.before.before.before in
-    (search rules, (only_again _ _ _ at-loop.loop-volume.invariant.1.0 c.age_at.ensures.only_sessions, fold_again _ _ _ _ _ _ (search rules) c.age_at.ensures.words_after at-loop.loop-volume.invariant.1.1))
+    (search rules, (only_again _ _ _ c.loop-volume.invariant.1.0 c.age_at.ensures.only_sessions, fold_again _ _ _ _ _ _ (search rules) c.age_at.ensures.words_after c.loop-volume.invariant.1.1))
 
 pub returns : goal.returns
 unfolding aged_in
-returns c = record { words_after = fold_end _ _ _ _ _ (search rules) c.before.loop-volume.invariant.1.1; only_sessions = c.before.loop-volume.invariant.1.0 }
+returns c = record { words_after = fold_end _ _ _ _ _ (search rules) c.loop-volume.invariant.1.1; only_sessions = c.loop-volume.invariant.1.0 }

@@ -3,4 +3,4 @@ use Rattle.sets.specs.Words.{bit_past}
 use Rattle.sets.proofs.contains.Goals as goal
 
 pub returns-then-k-ge32 : goal.returns-then-k-ge32
-returns-then-k-ge32 c = sym (bit_past _ 32 _ c.before.ranges.m.fits c.if-k-ge32.true)
+returns-then-k-ge32 c = sym (bit_past _ 32 _ c.ranges.m.fits c.if-k-ge32.true)

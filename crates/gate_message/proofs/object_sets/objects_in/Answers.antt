@@ -10,10 +10,10 @@ unfolding set_of
 loop-object-init c = (search rules, refl)
 
 pub bounds-setup-object : goal.bounds-setup-object
-bounds-setup-object c = let k = ranges _ c.before.before.requires in search rules
+bounds-setup-object c = let k = ranges _ c.requires in search rules
 
 pub with_if-set-requires : goal.with_if-set-requires
-with_if-set-requires c = let k = ranges _ c.before.before.before.requires in search rules
+with_if-set-requires c = let k = ranges _ c.requires in search rules
 
 pub loop-object-preserved : goal.loop-object-preserved
 loop-object-preserved c = (search rules, search object_again)

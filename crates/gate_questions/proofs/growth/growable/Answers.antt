@@ -4,7 +4,7 @@ use borrow.Author.Rules.{rules}
 use Rattle.gate_questions.proofs.growth.growable.Goals as goal
 
 pub epochs_grow-epochs-requires : goal.epochs_grow-epochs-requires
-epochs_grow-epochs-requires c = let k = ranges _ c.before.before.requires in search rules
+epochs_grow-epochs-requires c = let k = ranges _ c.requires in search rules
 
 pub returns : goal.returns
 returns c = search growable_words

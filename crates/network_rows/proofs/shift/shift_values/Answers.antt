@@ -14,8 +14,8 @@ loop-j-preserved c = (
   search rules,
   (
     search shift_keeps,
-    shift_again _ _ _ _ c.before.before.before.args.n
-        _ _ (search rules) c.before.before.loop-j.invariant.1.0 _ c.before.before.loop-j.invariant.1.1,
+    shift_again _ _ _ _ c.args.n
+        _ _ (search rules) c.loop-j.invariant.1.0 _ c.loop-j.invariant.1.1,
   ),
 )
 

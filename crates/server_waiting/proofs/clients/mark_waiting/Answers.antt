@@ -12,14 +12,13 @@ pub loop-client-init : goal.loop-client-init
 loop-client-init c = (search rules, (only_start _, rw sub-zero))
 
 pub loop-client-preserved : goal.loop-client-preserved
-loop-client-preserved c =
-    let at-loop = c.before.before.before.before in (
+loop-client-preserved c = (
       search rules,
       (
-        only_again _ _ _ at-loop.loop-client.invariant.1.0 c.mark_if.ensures.only_sessions,
-        fold_again _ _ _ _ _ _ (search rules) (rw (c.mark_if.ensures.words_after, c.before.before.has-yes.ensures)) at-loop.loop-client.invariant.1.1,
+        only_again _ _ _ c.loop-client.invariant.1.0 c.mark_if.ensures.only_sessions,
+        fold_again _ _ _ _ _ _ (search rules) (rw (c.mark_if.ensures.words_after, c.has-yes.ensures)) c.loop-client.invariant.1.1,
       ),
     )
 
 pub returns : goal.returns
-returns c = record { words_after = search fold_end; only_sessions = c.before.loop-client.invariant.1.0 }
+returns c = record { words_after = search fold_end; only_sessions = c.loop-client.invariant.1.0 }

@@ -5,4 +5,4 @@ use Rattle.state_words.specs.Fields.{word_lengths, WAITING}
 use Rattle.server_waiting.proofs.clients.waited.Goals as goal
 
 pub returns : goal.returns
-returns c = rw (c.next.ensures.is, sub-zero, part_at word_lengths _ WAITING _ c.before.before.requires.object_bound) (first_any _ _)
+returns c = rw (c.next.ensures.is, sub-zero, part_at word_lengths _ WAITING _ c.requires.object_bound) (first_any _ _)

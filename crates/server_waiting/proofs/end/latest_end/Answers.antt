@@ -12,10 +12,8 @@ pub loop-client-init : goal.loop-client-init
 loop-client-init c = (search rules, rw sub-zero)
 
 pub loop-client-preserved : goal.loop-client-preserved
-loop-client-preserved c =
-    let at_has = c.before.before.before in
-    let at-loop = at_has.before.before in
-    (search rules, end_again _ _ _ _ (search rules) (search rules) (search rules) _ _ _ _ _ _ (search rules) at_has.has.ensures c.outlast-end.ensures at-loop.loop-client.invariant.1)
+loop-client-preserved c = 
+    (search rules, end_again _ _ _ _ (search rules) (search rules) (search rules) _ _ _ _ _ _ (search rules) c.has.ensures c.outlast-end.ensures c.loop-client.invariant.1)
 
 pub returns : goal.returns
 unfolding greatest
