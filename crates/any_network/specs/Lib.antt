@@ -8,17 +8,6 @@ pub mod Framing
 pub mod Framed
 pub mod Stepping
 pub mod Invariant
-pub mod Kept
-pub mod NetAgreed
-pub mod StorageAgreed
 pub mod Blind
 pub mod Represents
-pub mod ClientMoves
-pub mod ClientRules
-pub mod FleetArrivals
-pub mod FleetRuns
-pub mod FleetAnswers
-pub mod FleetEvents
-pub mod FleetAgreed
-pub mod Demand3
 pub mod WorkedRuns

@@ -22,12 +22,12 @@ use Rattle.protocol.specs.declared.step.Target.{Target}
 use Rattle.protocol.specs.declared.step.Turn.{Turn}
 use Rattle.protocol.specs.declared.step.Turn.TheVariants as request
 use Rattle.protocol.specs.Setup.{in_range}
-use Rattle.protocol.specs.Ranges.{ranges}
+use Rattle.protocol.proofs.Ranges.{ranges}
 use Rattle.protocol.specs.Tables.{no_copy, no_request}
 use Rattle.protocol.specs.Client.{CanTurn, turned, swept, sweeps, sweep_at, swept_all}
 use Rattle.protocol.specs.World.{World}
 use Rattle.state_words.specs.View.{tables_of, records_of, requests_of, world_of}
-use Rattle.state_words.specs.Worlds.{few_copies}
+use Rattle.state_words.proofs.Worlds.{few_copies}
 use Rattle.client_records.specs.Stores.{RequestPut, with_copy, swept_over}
 use Rattle.client_apply.specs.Changes.{copy_put, copy_changed, swept_of, request_turned, changed_at}
 use Rattle.client_records.specs.Requests.{request_stored_law}

@@ -14,7 +14,7 @@ use Rattle.protocol.specs.declared.records.Request.{Request}
 use Rattle.protocol.specs.declared.setup.Setup.{Setup}
 use Rattle.protocol.specs.declared.step.Answer.TheVariants.{Shown, AskFirst}
 use Rattle.protocol.specs.Messages.{message}
-use Rattle.protocol.specs.Ranges.{ranges}
+use Rattle.protocol.proofs.Ranges.{ranges}
 use Rattle.protocol.specs.Setup.{in_range}
 use Rattle.protocol.specs.Tables.{by_volume, view_epoch_at, with_views}
 use Rattle.protocol.specs.Leases.{client_clock}

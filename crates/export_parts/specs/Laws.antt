@@ -5,10 +5,11 @@ use Rattle.std.proofs.Math.Logic.{⊎_elim}
 use Rattle.laws.specs.Choice.{cond_keeps, and-true, not_both, true_or_false}
 use Rattle.laws.specs.Lists.{All}
 use Rattle.laws.specs.Tabulate.{all_tabulate}
-use Rattle.bytes_layout.specs.Number.{bytes_at, Bytes, number_below}
+use Rattle.bytes_layout.specs.Number.{bytes_at, Bytes}
+use Rattle.bytes_layout.proofs.Number.{number_below}
 use Rattle.protocol.specs.declared.setup.Setup.{Setup}
 use Rattle.protocol.specs.Setup.{in_range}
-use Rattle.protocol.specs.Gate.{asked}
+use Rattle.protocol.proofs.Gate.{asked}
 use Rattle.file_records.specs.Records.{setup_in, step_in}
 use Rattle.file_records.specs.Bytes.{file_bytes}
 use Rattle.file_records.specs.Round.{Widths}

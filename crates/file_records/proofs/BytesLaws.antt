@@ -4,7 +4,8 @@ use native.Mathlib.Omega.{arith}
 use mathlib.Core.List.{List}
 use mathlib.Core.Path.{◌≡◌, refl, sym}
 use lib.ListN.{length}
-use Rattle.bytes_layout.specs.Number.{bytes_of, four_bytes, Stored, stored_then, number_stored}
+use Rattle.bytes_layout.specs.Number.{bytes_of, four_bytes, Stored}
+use Rattle.bytes_layout.proofs.Number.{stored_then, number_stored}
 use Rattle.protocol.specs.declared.setup.Setup.{Setup}
 use Rattle.protocol.specs.declared.step.Step.{Step}
 use Rattle.bytes_layout.specs.Written.{Written}

@@ -1,7 +1,8 @@
 -- 01, "Frame, run file and listing": the bytes of a run file, from its note, setup and steps.
 use Rattle.std.specs.Prelude.{ℕ, ◌+◌, ◌*◌, List, [], ◌∷◌, ◌++◌, ◌≡◌, refl, length}
 use Rattle.std.proofs.Common.{arith, append_assoc, append-nil, sym, length-append}
-use Rattle.bytes_layout.specs.Number.{bytes_of, four_bytes, length_bytes}
+use Rattle.bytes_layout.specs.Number.{bytes_of, four_bytes}
+use Rattle.bytes_layout.proofs.Number.{length_bytes}
 use Rattle.protocol.specs.declared.setup.Setup.{Setup}
 use Rattle.protocol.specs.declared.step.Step.{Step}
 

@@ -7,11 +7,12 @@ use mathlib.Core.List.{List, [], ◌∷◌, ◌++◌, append_assoc}
 use Rattle.std.proofs.Math.Path.{refl}
 use Rattle.std.proofs.Math.ListN.{drop}
 use Rattle.std.proofs.Math.Seq.{get_or-drop}
-use Rattle.bytes_layout.specs.Number.{little_endian, bytes_of, bytes_at, limit, number_at, Bytes, four_bytes, length_bytes, read_back, bytes_then, four_then, number_then, number_last}
+use Rattle.bytes_layout.specs.Number.{little_endian, bytes_of, bytes_at, limit, number_at, Bytes, four_bytes}
+use Rattle.bytes_layout.proofs.Number.{length_bytes, read_back, bytes_then, four_then, number_then, number_last}
 use Rattle.protocol.specs.declared.setup.Setup.{Setup}
 use Rattle.protocol.specs.declared.step.Step.{Step}
 use Rattle.protocol.specs.Setup.{in_range}
-use Rattle.protocol.specs.Ranges.{ranges}
+use Rattle.protocol.proofs.Ranges.{ranges}
 use Rattle.file_records.specs.Records.{setup_in, step_in}
 use Rattle.file_records.specs.Bytes.{setup_front, setup_bytes, step_bytes, trailer_bytes}
 

@@ -14,8 +14,10 @@ use Rattle.protocol.specs.Setup.{in_range}
 use Rattle.file_shape.specs.Shape.{step_fits}
 use Rattle.bytes_layout.specs.declared.output.Report.{Report}
 use Rattle.bytes_layout.specs.declared.output.Report.TheVariants as report
-use Rattle.bytes_layout.specs.Report.{Reports, all_written, none_written}
-use Rattle.bytes_layout.specs.Written.{Written, written_then}
+use Rattle.bytes_layout.specs.Report.{Reports}
+use Rattle.bytes_layout.proofs.Report.{all_written, none_written}
+use Rattle.bytes_layout.specs.Written.{Written}
+use Rattle.bytes_layout.proofs.Written.{written_then}
 use Rattle.file_records.specs.Bytes.{setup_bytes, step_bytes, steps_bytes, trailer_bytes, file_bytes, file_length, steps_more, length_steps}
 use Rattle.file_records.specs.Round.{Widths}
 use Rattle.file_records.specs.declared.list.Steps.{Steps}

@@ -11,7 +11,7 @@ use Rattle.bytes_layout.specs.Number.{little_endian, number_at}
 use Rattle.protocol.specs.declared.setup.Setup.{Setup}
 use Rattle.protocol.specs.declared.step.Step.{Step}
 use Rattle.protocol.specs.Setup.{in_range}
-use Rattle.protocol.specs.Gate.{asked}
+use Rattle.protocol.proofs.Gate.{asked}
 use Rattle.file_records.specs.Records.{setup_in, step_in, no_step}
 use Rattle.file_shape.specs.Shape.{count_of, distance_of, setup_place, first_place, reserved, step_fits, step_fits_at, measured, contents_fit, well_formed}
 use Rattle.file_shape.specs.Places.{trailer_place}

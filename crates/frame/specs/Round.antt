@@ -4,13 +4,15 @@ use Rattle.std.proofs.Common.{arith, sym, ap, ◌∙◌}
 use Rattle.std.proofs.Math.Logic.{⊎_elim}
 use borrow.Author.Tests.{eq-eqb, eqb-true}
 use Rattle.laws.specs.Choice.{true_or_false}
-use Rattle.bytes_layout.specs.Number.{bytes_of, Bytes, number_below}
+use Rattle.bytes_layout.specs.Number.{bytes_of, Bytes}
+use Rattle.bytes_layout.proofs.Number.{number_below}
 use Rattle.protocol.specs.declared.message.Message.{Message}
 use Rattle.message_fields.specs.declared.Fields.{Fields}
 use Rattle.message_fields.specs.Fields.{fields_of, message_in, same}
-use Rattle.message_fields.specs.Round.{message_back, same_self, same_true}
+use Rattle.message_fields.proofs.Round.{message_back, same_self, same_true}
 use Rattle.frame_places.specs.Places.{numbers, laid, fields_in}
-use Rattle.frame_places.specs.Round.{FieldsFit, fields_back, laid_back}
+use Rattle.frame_places.specs.Round.{FieldsFit}
+use Rattle.frame_places.proofs.Round.{fields_back, laid_back}
 use Rattle.frame.specs.declared.Decoded.TheVariants.{Accepted, Refused}
 use Rattle.frame.specs.Frame.{frame_of, accepted, message_of}
 

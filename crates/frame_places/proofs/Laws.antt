@@ -3,7 +3,8 @@ use Prim.Native.Nat.{ℕ}
 use mathlib.Core.List.{List}
 use mathlib.Core.Path.{◌≡◌, refl}
 use lib.ListN.{get_or}
-use Rattle.bytes_layout.specs.Number.{bytes_of, number_at, Stored, stored_then, number_stored}
+use Rattle.bytes_layout.specs.Number.{bytes_of, number_at, Stored}
+use Rattle.bytes_layout.proofs.Number.{stored_then, number_stored}
 use Rattle.message_fields.specs.declared.Fields.{Fields}
 use Rattle.message_fields.specs.Fields.{row}
 use Rattle.frame_places.specs.Places.{head, numbers, laid, fields_in}

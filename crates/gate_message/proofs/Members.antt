@@ -9,7 +9,7 @@ use borrow.Author.Tests.{lt-ltb, le-ltb}
 use Rattle.laws.specs.Sets.{set_of, added, within, within_none, set_again}
 use Rattle.protocol.specs.declared.setup.Setup.{Setup}
 use Rattle.protocol.specs.Setup.{in_range, volume_of, in_volume, objects_in}
-use Rattle.protocol.specs.Ranges.{ranges}
+use Rattle.protocol.proofs.Ranges.{ranges}
 use Rattle.protocol.specs.Sound.{set_sound}
 
 -- a set does not grow by numbers that do not pass

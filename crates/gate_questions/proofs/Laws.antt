@@ -13,7 +13,7 @@ use Rattle.protocol.specs.Setup.{between}
 use Rattle.protocol.specs.Sound.{clock_limit}
 use Rattle.protocol.specs.Gate.{is_clock, is_write, uses_client, uses_object, uses_place, exists, timely, vacant}
 use Rattle.state_words.specs.Fields.{word_lengths, at, STANDING}
-use Rattle.state_words.specs.Reads.{clock_word, length_word}
+use Rattle.state_words.proofs.ReadsLaws.{clock_word, length_word}
 use Rattle.state_words.specs.View.{tables_of, numbers_of}
 
 module _ (w : List ℕ) (x : Step) where

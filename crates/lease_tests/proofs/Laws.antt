@@ -9,7 +9,7 @@ use borrow.Author.Tests.{le-leb, lt-leb, leb-true, leb-false}
 use Rattle.laws.specs.Choice.{and_no, true_or_false}
 use Rattle.protocol.specs.declared.setup.Setup.{Setup}
 use Rattle.protocol.specs.Setup.{in_range, volume_of}
-use Rattle.protocol.specs.Ranges.{ranges}
+use Rattle.protocol.proofs.Ranges.{ranges}
 use Rattle.lease_tests.specs.Parts.{Placed, ages_by}
 
 pub placed : (s : Setup) (o : ℕ) → in_range s ≡ true → o < s.objects → Placed s o (volume_of s o)

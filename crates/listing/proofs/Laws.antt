@@ -7,7 +7,8 @@ use lib.ListN.{length, length-append}
 use Rattle.protocol.specs.declared.step.Answer.{Answer}
 use Rattle.protocol.specs.Answers.{answerNumber, answerValue}
 use Rattle.listing_decimal.specs.Decimal.{decimal, field, decimal_short}
-use Rattle.bytes_layout.specs.Written.{Written, written_then}
+use Rattle.bytes_layout.specs.Written.{Written}
+use Rattle.bytes_layout.proofs.Written.{written_then}
 use Rattle.listing.specs.Listing.{line, line_of, header, refused_listing, length_header}
 
 -- ---- a line

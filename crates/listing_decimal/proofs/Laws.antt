@@ -7,9 +7,10 @@ use lib.ListN.{length, set, length-set}
 use lib.Seq.{sets}
 use borrow.Author.Tests.{lt-ltb, le-ltb}
 use Rattle.laws.specs.Loop.{left_more, left_none}
-use Rattle.bytes_layout.specs.Number.{sets_then}
+use Rattle.bytes_layout.proofs.Number.{sets_then}
 use Rattle.listing_decimal.specs.Decimal.{digit, digits, further, width, decimal, field, length_digits, length_decimal, decimal_short}
-use Rattle.bytes_layout.specs.Written.{Written, written_then, sets_past}
+use Rattle.bytes_layout.specs.Written.{Written}
+use Rattle.bytes_layout.proofs.Written.{written_then, sets_past}
 
 -- ---- the loop that counts digits
 module _ (y w A : ℕ) where

@@ -14,7 +14,8 @@ use Rattle.protocol.specs.declared.message.Payload.{Payload}
 use Rattle.protocol.specs.declared.message.Payload.TheVariants.{Same, Value}
 use Rattle.message_fields.specs.declared.Fields.{Fields}
 use Rattle.message_fields.specs.Fields.{row, kind_fields, payload_in, set_kind_in, kind_in, sound}
-use Rattle.message_fields.specs.Questions.{none, payload_right, no_lease, right, asked}
+use Rattle.message_fields.specs.Questions.{none, payload_right, no_lease, right}
+use Rattle.message_fields.proofs.Questions.{asked}
 
 module _ (d : ℕ) (k : Kind) (r : Fields) where
   pub by_renew : (o n e w : ℕ) → k ≡ Renew o n e w → r ≡ row 1 d o 0 n 0 e w 0 0 → r ≡ kind_fields d k

@@ -15,7 +15,7 @@ use Rattle.state_words.specs.Fields.{word_lengths, value_lengths, LENGTH, MESSAG
 use Rattle.state_words.specs.Rows.{fields_at, narrow_at, stray, message_of, message_from}
 use Rattle.state_words.specs.View.{tables_of}
 use Rattle.state_words.specs.LiveRows.{Live}
-use Rattle.state_words.specs.Reads.{length_word}
+use Rattle.state_words.proofs.ReadsLaws.{length_word}
 use Rattle.network_rows.proofs.Places.{at_in, at_past}
 
 module _ (rows values : List ℕ) (i : ℕ) (f : Fields) (n y : Bool) (m : Message) (e : f ≡ fields_at rows values i) (g : n ≡ narrow_at rows i) (k : y ≡ sound f) where

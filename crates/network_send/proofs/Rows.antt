@@ -15,7 +15,7 @@ use Rattle.laws.specs.Tabulate.{tabulate, tabulate_set}
 use Rattle.protocol.specs.declared.message.Message.{Message}
 use Rattle.message_fields.specs.declared.Fields.{Fields}
 use Rattle.message_fields.specs.Fields.{fields_of}
-use Rattle.message_fields.specs.Round.{message_back, message_sound_law}
+use Rattle.message_fields.proofs.Round.{message_back, message_sound_law}
 use Rattle.state_words.specs.Rows.{words_of, Narrow, fields_at, narrow_at, message_of, message_from}
 use Rattle.network_rows.proofs.Places.{message_same, at_in, at_past}
 

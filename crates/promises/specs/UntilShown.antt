@@ -2,8 +2,6 @@
 pub mod Policy
 pub mod Steps
 pub mod Phases
-pub mod Moves
-pub mod InTime
 pub mod Examples
 pub mod Premises
 pub mod OfCalls

@@ -1,28 +1,17 @@
 -- 01, "Edges": the starred ones, one table of equations computed by one theorem, on tables of full size.
 -- Letters: t tables, x a step, k its kind, i its place, c its clock, y its value.
-use Rattle.std.specs.Prelude.{ℕ, Bool, true, false, cond, ◌≡◌, refl, set, replicate}
-use Rattle.laws.specs.Loop.{fold_from, any_from, all_from, first_from}
-use Rattle.laws.specs.Lists.{remove_at}
-use Rattle.laws.specs.Store.{store_each}
-use Rattle.laws.specs.Greatest.{greatest}
-use Rattle.laws.specs.Sets.{set_of, bit_at, all_in}
+use Rattle.std.specs.Prelude.{ℕ, Bool, true, false, cond, ◌≡◌, set, replicate}
 use Rattle.protocol.specs.declared.message.Kind.TheVariants.{Offer}
 use Rattle.protocol.specs.declared.message.Queue.{Queue}
 use Rattle.protocol.specs.declared.setup.Setup.{Setup}
 use Rattle.protocol.specs.declared.step.Step.{Step}
 use Rattle.protocol.specs.declared.tables.Tables.{Tables}
-use Rattle.protocol.specs.Setup.{in_range, objects_in}
-use Rattle.protocol.specs.Messages.{message, pushed, removed}
+use Rattle.protocol.specs.Messages.{message}
 use Rattle.protocol.specs.Tables.{value_at, standing_at, with_clock, with_volumes, with_objects, with_holders, with_queue, fresh_volumes, fresh_objects, fresh_holders, fresh_tables}
 use Rattle.protocol.specs.Updates.{with_volume_expiry, with_guard, set_write, set_waiting}
-use Rattle.protocol.specs.Leases.{server_alive, client_alive, client_clock, guard_passed, end_over}
-use Rattle.protocol.specs.Writes.{waits, delays, delayed, latest_end, opened, awaited, notified, waited, ready, due, aged, aged_in, clock_set, deserted, posted, released, completed, settled, written}
-use Rattle.protocol.specs.Client.{swept, swept_all}
-use Rattle.protocol.specs.Sound.{queue_sound, tables_sound, copies_sound, requests_sound, sound}
+use Rattle.protocol.specs.Leases.{server_alive, client_alive}
 use Rattle.protocol.specs.Answers.{answerNumber, answerValue}
-use Rattle.protocol.specs.Gate.{known, exists, timely, vacant, growable, refusal_of_step, refusal}
-use Rattle.protocol.specs.Decide.{performed, decided}
-use Rattle.protocol.specs.World.{World, fresh_world, target, decision, stepped, answer_of}
+use Rattle.protocol.specs.World.{World, fresh_world, stepped, answer_of}
 
 -- one client, volume and object; tv 10, t 100, m 3, d 1
 unfoldable pub tiny : Setup
@@ -40,44 +29,44 @@ write y = step 4 0 0 y
 unfoldable pub lose : ℕ → Step
 lose i = step 6 i 0 0
 
-double : ℕ → Step
+unfoldable pub double : ℕ → Step
 double i = step 7 i 0 0
 
-with_tables_law : Tables → World
+unfoldable pub with_tables_law : Tables → World
 with_tables_law t = record { tables = t; copies = (fresh_world tiny).copies; requests = (fresh_world tiny).requests }
 
 -- a write of 7 stands with this latest end and guard, and waits for the client or not
-standing_until : ℕ → ℕ → Bool → Tables
+unfoldable pub standing_until : ℕ → ℕ → Bool → Tables
 standing_until end guard waiting =
     with_holders
     (with_volumes (with_objects fresh_tables (set_write fresh_objects 0 true 7 end)) (with_guard (with_volume_expiry fresh_volumes (replicate 8 guard)) (replicate 8 guard)))
     (set_waiting fresh_holders 0 (cond waiting 1 0))
 
 -- the list full of OFFERs, the last with another number
-full_list : Queue
+unfoldable pub full_list : Queue
 full_list = record { items = set (replicate 64 (message 0 (Offer 0 1 1))) 63 (message 0 (Offer 0 63 1)); len = 64 }
 
-full : Tables
+unfoldable pub full : Tables
 full = with_queue fresh_tables full_list
 
-at_clock_5 : Tables
+unfoldable pub at_clock_5 : Tables
 at_clock_5 = with_clock fresh_tables 5
 
 -- 01's number and value of what a step answers
-answer : Tables → Step → ℕ × ℕ
+unfoldable pub answer : Tables → Step → ℕ × ℕ
 answer t x = (answerNumber (answer_of tiny (with_tables_law t) x), answerValue (answer_of tiny (with_tables_law t) x))
 
-after : Tables → Step → Tables
+unfoldable pub after : Tables → Step → Tables
 after t x = (stepped tiny (with_tables_law t) x).tables
 
 -- whether the write stands after a step, and the object's value
-stands_after : Tables → Step → Bool
+unfoldable pub stands_after : Tables → Step → Bool
 stands_after t x = standing_at (after t x) 0
 
-value_after : Tables → Step → ℕ
+unfoldable pub value_after : Tables → Step → ℕ
 value_after t x = value_at (after t x) 0
 
-pub Table : Type 0
+unfoldable pub Table : Type 0
 Table =
     -- "Expiry 10: alive at 9, dead at 10."
     (server_alive 9 10 ≡ true) × (client_alive 9 10 ≡ true)
@@ -99,7 +88,3 @@ Table =
     -- "Guard 20: no completion at 19, done at 20 if none waits."
     × (answer (standing_until 20 20 false) (clock 19) ≡ (0, 0)) × (stands_after (standing_until 20 20 false) (clock 19) ≡ true)
     × (answer (standing_until 20 20 false) (clock 20) ≡ (3, 1)) × (stands_after (standing_until 20 20 false) (clock 20) ≡ false)
-
-pub edges : Table
-unfolding Table tiny step clock write lose double with_tables_law standing_until full_list full at_clock_5 answer after stands_after value_after fold_from any_from all_from first_from remove_at store_each greatest in_range pushed removed fresh_tables server_alive client_alive client_clock guard_passed end_over waits delays delayed latest_end opened awaited notified waited ready due aged aged_in clock_set deserted posted released completed settled written swept swept_all queue_sound tables_sound copies_sound requests_sound sound objects_in set_of bit_at all_in known exists timely vacant growable refusal_of_step refusal performed decided target decision stepped
-edges = (refl, refl, refl, refl, refl, refl, refl, refl, refl, refl, refl, refl, refl, refl, refl, refl, refl, refl, refl, refl, refl, refl, refl)

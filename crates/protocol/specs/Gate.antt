@@ -1,6 +1,5 @@
 -- 01, "Questions at the gate": asked in order; the first "no" gives its number. 0 is none: the step is accepted.
-use Rattle.std.specs.Prelude.{ℕ, suc, Bool, true, false, cond, not, ◌&&◌, ◌||◌, ◌≡◌, refl, ltb, eqb}
-use Rattle.std.proofs.Common.{arith}
+use Rattle.std.specs.Prelude.{ℕ, Bool, cond, not, ◌&&◌, ◌||◌, ltb, eqb}
 use Rattle.laws.specs.Loop.{all_from}
 use Rattle.protocol.specs.declared.records.Request.{Request}
 use Rattle.protocol.specs.declared.setup.Setup.{Setup}
@@ -76,11 +75,6 @@ growable s t r x =
 
 abbrev pub or_refuse : Bool → ℕ → ℕ → ℕ
 or_refuse ok number next = cond ok next number
-
--- where nothing is refused, the question was answered "yes"
-pub asked : (ok : Bool) (k n : ℕ) → or_refuse ok (suc k) n ≡ 0 → (ok ≡ true) × (n ≡ 0)
-asked true k n e = (refl, e)
-asked false k n e = absurd (omega arith)
 
 -- questions 2 to 6, once the tables are known to be sound
 unfoldable pub refusal_of_step : Setup → Tables → Request → Step → ℕ

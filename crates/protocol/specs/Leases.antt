@@ -1,6 +1,5 @@
 -- The tests of time. Whoever proves something about leases uses these names and their laws alone.
-use Rattle.std.specs.Prelude.{ℕ, ◌<◌, ◌≤◌, Bool, true, false, not, ◌≡◌, ltb}
-use Rattle.std.proofs.Common.{arith, ltb-true, ltb-false}
+use Rattle.std.specs.Prelude.{ℕ, Bool, not, ltb}
 use Rattle.protocol.specs.declared.tables.Tables.{Tables}
 use Rattle.protocol.specs.Tables.{guard_at}
 
@@ -23,12 +22,3 @@ guard_passed t v = not (server_alive t.clock (guard_at t v))
 -- "whose latest end is below the clock"
 unfoldable pub end_over : ℕ → ℕ → Bool
 end_over clock end = ltb end clock
-
--- its two laws: over is what is past its latest end, and nothing that is past it is not over
-pub over_past : (clock end : ℕ) → end_over clock end ≡ true → end < clock
-unfolding end_over
-over_past clock end e = omega (arith, ltb-true)
-
-pub not_over : (clock end : ℕ) → end_over clock end ≡ false → clock ≤ end
-unfolding end_over
-not_over clock end e = omega (arith, ltb-false)

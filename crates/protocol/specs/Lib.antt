@@ -5,7 +5,6 @@ pub mod Tables
 pub mod Updates
 pub mod Leases
 pub mod Writes
-pub mod LatestEnd
 pub mod Server
 pub mod Client
 pub mod Sound
@@ -21,7 +20,6 @@ pub mod Soundness
 pub mod Bookkeeping
 pub mod History
 pub mod Safety
-pub mod Demand3
 pub mod Reached
 pub mod Saved
 pub mod Line

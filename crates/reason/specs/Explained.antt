@@ -11,7 +11,7 @@ use Rattle.file_reader.specs.File.{setup_of, contents_of}
 use Rattle.file_reader.specs.Steps.{steps_of}
 use Rattle.promises.specs.declared.reasons.Reason.{Reason}
 use Rattle.promises.specs.Reasons.Reason.{no_step, is_ask_first, no_reason, reason_of, Explained}
-use Rattle.promises.specs.Reasons.Explains.{explains}
+use Rattle.promises.proofs.ReasonsLaws.Explains.{explains}
 use Rattle.reason.specs.declared.Explanation.{Explanation}
 use Rattle.reason.specs.declared.Explanation.TheVariants.{Given, Refused}
 

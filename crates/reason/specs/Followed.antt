@@ -15,7 +15,8 @@ use Rattle.protocol.specs.Setup.{in_range}
 use Rattle.protocol.specs.Gate.{is_read}
 use Rattle.protocol.specs.Safety.View.{copy_at, request_at}
 use Rattle.protocol.specs.Saved.{Machine, fresh_machine, answer_to, moved_by, Called}
-use Rattle.protocol.specs.SavedLaws.{SoundMachine, fresh_machine_sound, machine_sound_law}
+use Rattle.protocol.specs.SavedLaws.{SoundMachine}
+use Rattle.protocol.proofs.SavedLaws.{fresh_machine_sound, machine_sound_law}
 use Rattle.protocol.specs.Line.{act_of, entries, step_lines}
 use Rattle.promises.specs.declared.reasons.Event.{Event}
 use Rattle.promises.specs.declared.reasons.Last.{Last}
@@ -23,9 +24,10 @@ use Rattle.promises.specs.declared.reasons.Lasts.{Lasts}
 use Rattle.promises.specs.declared.reasons.Reason.{Reason}
 use Rattle.promises.specs.Reasons.Events.{latest, last_of}
 use Rattle.promises.specs.Reasons.ByAnswer.{event_by}
-use Rattle.promises.specs.Reasons.Lasts.{no_events, NameKnown, followed, moved_snoc, Follows, name_known, follows_on, follows_start}
+use Rattle.promises.specs.Reasons.Lasts.{no_events, NameKnown, followed, Follows}
+use Rattle.promises.proofs.ReasonsLaws.Lasts.{moved_snoc, name_known, follows_on, follows_start}
 use Rattle.promises.specs.Reasons.Reason.{no_step, chosen, met_by, line_before, asks_first, is_ask_first, no_reason, reason_by, reason_of}
-use Rattle.promises.specs.Reasons.Explains.{reading}
+use Rattle.promises.proofs.ReasonsLaws.Explains.{reading}
 use Rattle.reason.specs.Explained.{reads_in, if_asked}
 
 -- ---- steps that are no read answered "ask first"

@@ -14,7 +14,8 @@ use Rattle.listing.specs.Listing.{refused_listing}
 use Rattle.bytes_layout.specs.Written.{Written}
 use Rattle.bytes_layout.specs.declared.output.Report.{Report}
 use Rattle.bytes_layout.specs.declared.output.Report.TheVariants as report
-use Rattle.bytes_layout.specs.Report.{Reports, written_all, refused_none}
+use Rattle.bytes_layout.specs.Report.{Reports}
+use Rattle.bytes_layout.proofs.Report.{written_all, refused_none}
 use Rattle.run.specs.Listed.{file_listing, list_refusal, listing_fits, listed_all, listed_formed}
 use Rattle.roadrun.specs.Printed.{printed, printed_short}
 

@@ -10,11 +10,13 @@ use Rattle.file_reader.specs.declared.Contents.{Contents}
 use Rattle.file_reader.specs.File.{setup_of, contents, contents_of}
 use Rattle.file_reader.specs.Reading.{unformed, formed, contents_read, accepted}
 use Rattle.listing.specs.Listing.{header, length_header}
-use Rattle.bytes_layout.specs.Written.{Written, written_then}
+use Rattle.bytes_layout.specs.Written.{Written}
+use Rattle.bytes_layout.proofs.Written.{written_then}
 use Rattle.run.specs.Ran.{lines_of}
 use Rattle.bytes_layout.specs.declared.output.Report.{Report}
 use Rattle.bytes_layout.specs.declared.output.Report.TheVariants as report
-use Rattle.bytes_layout.specs.Report.{Reports, all_written, none_written}
+use Rattle.bytes_layout.specs.Report.{Reports}
+use Rattle.bytes_layout.proofs.Report.{all_written, none_written}
 use Rattle.run.specs.Listed.{answers_of, file_listing, list_refusal, listing_fits, listed_all, listed_short, listed_none}
 
 -- ---- reading the file

@@ -8,7 +8,8 @@ use Rattle.file_shape.specs.Parts.{formed_in_range}
 use Rattle.file_reader.specs.File.{setup_of}
 use Rattle.file_reader.specs.Steps.{steps_of}
 use Rattle.listing.specs.Listing.{listing_of}
-use Rattle.promises.specs.Calls.{Calls, KeptByCalls, calls_answer, calls_there, calls_keep, calls_in_words}
+use Rattle.promises.specs.Calls.{Calls, KeptByCalls}
+use Rattle.promises.proofs.Calls.{calls_answer, calls_there, calls_keep, calls_in_words}
 use Rattle.run.specs.Listed.{answers_of, left_by, file_listing, list_refusal, listed_formed}
 
 -- The bytes are the listing of the answers rs. The answers and the machine r left after them are those of the file's steps, and each of its states agrees

@@ -5,7 +5,8 @@ use borrow.Author.Tests.{le-leb, lt-leb}
 use Rattle.protocol.specs.declared.setup.Setup.{Setup}
 use Rattle.protocol.specs.declared.step.Answer.{Answer}
 use Rattle.protocol.specs.declared.step.Step.{Step}
-use Rattle.protocol.specs.Gate.{or_refuse, asked}
+use Rattle.protocol.specs.Gate.{or_refuse}
+use Rattle.protocol.proofs.Gate.{asked}
 use Rattle.protocol.specs.Saved.{Machine, fresh_machine, moved, moved_by, answers_to}
 use Rattle.file_shape.specs.Shape.{well_formed}
 use Rattle.file_shape.specs.Parts.{Parts, formed_parts}

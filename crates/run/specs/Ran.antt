@@ -11,14 +11,15 @@ use Rattle.protocol.specs.declared.step.Step.{Step}
 use Rattle.protocol.specs.Setup.{in_range}
 use Rattle.protocol.specs.Answers.{answerValue}
 use Rattle.protocol.specs.Saved.{Machine, fresh_machine, answers_to, Called}
-use Rattle.protocol.specs.SavedLaws.{SoundMachine, fresh_machine_sound, moved_sound}
+use Rattle.protocol.specs.SavedLaws.{SoundMachine}
+use Rattle.protocol.proofs.SavedLaws.{fresh_machine_sound, moved_sound}
 use Rattle.file_shape.specs.Shape.{count_of}
 use Rattle.file_shape.specs.Parts.{Parts}
 use Rattle.file_shape.specs.Places.{place_before}
 use Rattle.file_reader.specs.File.{step_at}
 use Rattle.file_reader.specs.Steps.{steps_of, steps_left, left_first, left_next, left_last}
 use Rattle.listing.specs.Listing.{line_of, lines_from, line_short, answer_small}
-use Rattle.bytes_layout.specs.Number.{sets_then}
+use Rattle.bytes_layout.proofs.Number.{sets_then}
 use Rattle.bytes_layout.specs.Written.{Written}
 
 -- the state of a run of file l that has reached machine q after k steps: the lines of the remaining steps turn `out` into `whole`

@@ -13,11 +13,13 @@ use Rattle.protocol.specs.declared.step.Answer.TheVariants.{Done, Refused}
 use Rattle.protocol.specs.declared.step.Step.{Step}
 use Rattle.protocol.specs.Setup.{in_range}
 use Rattle.protocol.specs.World.{answer_of, stepped}
-use Rattle.protocol.specs.Soundness.Question.{sounds}
+use Rattle.protocol.proofs.Soundness.Question.{sounds}
 use Rattle.protocol.specs.Saved.{Machine, names, is_save, is_return, uses_name, named, saving, returning, Called}
-use Rattle.protocol.specs.SavedLaws.{SoundMachine, saved_sounds, ordinary_answer, ordinary_move, name_answer, name_move}
+use Rattle.protocol.specs.SavedLaws.{SoundMachine}
+use Rattle.protocol.proofs.SavedLaws.{saved_sounds, ordinary_answer, ordinary_move, name_answer, name_move}
 use Rattle.state_words.specs.View.{world_of}
-use Rattle.state_words.specs.Saved.{is_saved, machine_of, saved_at}
+use Rattle.state_words.specs.Saved.{is_saved, machine_of}
+use Rattle.state_words.proofs.SavedLaws.{saved_at}
 use Rattle.saved_states.specs.Stored.{Saves, Restores, saves_world, restores_world}
 use Rattle.run_saved.specs.ByName.{CalledByName}
 

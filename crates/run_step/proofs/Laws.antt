@@ -25,9 +25,11 @@ use Rattle.protocol.specs.Client.{CanTurn, swept_all}
 use Rattle.protocol.specs.Gate.{is_deliver, refusal_of_step, refusal}
 use Rattle.protocol.specs.Decide.{answered, performed, refused_with, decided_by, decided}
 use Rattle.protocol.specs.World.{World, target, decision, stepped, answer_of}
-use Rattle.protocol.specs.Soundness.Numbering.{performed_turns}
-use Rattle.protocol.specs.Soundness.Question.{SoundWorld, sounds}
+use Rattle.protocol.proofs.Soundness.Numbering.{performed_turns}
+use Rattle.protocol.specs.Soundness.Question.{SoundWorld}
+use Rattle.protocol.proofs.Soundness.Question.{sounds}
 use Rattle.protocol.specs.Soundness.StepCases as cases
+use Rattle.protocol.proofs.Soundness.StepCases as cases_laws
 use Rattle.client_apply.specs.Changes.{changed_at}
 use Rattle.state_words.specs.View.{tables_of, records_of, world_of}
 
@@ -75,7 +77,7 @@ module _ (s : Setup) (w v : List ℕ) (i : in_range s ≡ true) (o : SoundWorld 
         can_change = (i, (rw ea (first_place_law s (tables_of w v) x), rw (p.1, ← er) turns))
           where
             turns : CanTurn r g.request
-            turns = rw (ap (λ (d : Decision). d.change) p.0) (performed_turns r s (tables_of w v) c x (cases.passed s (tables_of w v) r x accepted))
+            turns = rw (ap (λ (d : Decision). d.change) p.0) (performed_turns r s (tables_of w v) c x (cases_laws.passed s (tables_of w v) r x accepted))
 
         pub performs : (z : World) → z ≡ changed_at s (world_of s u y) a g → (b ≡ answer_of s before x) × (z ≡ stepped s before x)
         unfolding stepped

@@ -7,7 +7,8 @@ use Rattle.protocol.specs.declared.setup.Setup.{Setup}
 use Rattle.protocol.specs.Saved.{names}
 use Rattle.state_words.specs.Fields.{WORDS}
 use Rattle.state_words.specs.View.{world_of}
-use Rattle.state_words.specs.Saved.{marked, unmarked, saved_of, same_world, marked_saved, saved_set}
+use Rattle.state_words.specs.Saved.{marked, unmarked, saved_of}
+use Rattle.state_words.proofs.SavedLaws.{same_world, marked_saved, saved_set}
 
 -- the words are stored with the mark of a saved state; the lengths are those of the types
 pub record Saves (w x : List ℕ) (ws xs : List (List ℕ)) (n : ℕ) (vs ys : List (List ℕ)) : Type 0 where

@@ -16,7 +16,8 @@ use Rattle.protocol.specs.Tables.{standing_at, version_at, with_clock, with_sess
 use Rattle.protocol.specs.Leases.{guard_passed}
 use Rattle.protocol.specs.Writes.{Counted, waited, ready, due, completed, complete_if, settled, aged, clock_set, clock_staged}
 use Rattle.protocol.specs.Server.{of_volume}
-use Rattle.protocol.specs.SoundLaws.{Growing, completed_keeps}
+use Rattle.protocol.specs.SoundLaws.{Growing}
+use Rattle.protocol.proofs.SoundLaws.{completed_keeps}
 use Rattle.state_words.specs.Fields.{word_lengths, WORDS, CLOCK}
 use Rattle.state_words.specs.View.{tables_of, numbers_of, records_of}
 use Rattle.server_marks.specs.SessionWords.{sessions_of, OnlySessions, sessions_become}

@@ -22,7 +22,7 @@ use Rattle.protocol.specs.declared.step.Answer.{Answer}
 use Rattle.protocol.specs.declared.step.Answer.TheVariants.{Done, Refused}
 use Rattle.protocol.specs.declared.step.Step.{Step}
 use Rattle.protocol.specs.Setup.{in_range}
-use Rattle.protocol.specs.Ranges.{ranges}
+use Rattle.protocol.proofs.Ranges.{ranges}
 use Rattle.protocol.specs.Sound.{copies_sound, requests_sound, records_sound, tables_sound, sound}
 use Rattle.protocol.specs.Tables.{no_copy, no_request}
 use Rattle.protocol.specs.Answers.{answerNumber, is_refused}
@@ -31,11 +31,12 @@ use Rattle.protocol.specs.Ledger.{accepts}
 use Rattle.protocol.specs.World.{World, stepped, answer_of}
 use Rattle.protocol.specs.Saved.{Machine, names, is_save, is_return, uses_name, world_sound, saved_sound, named, refusal_in, answer_to, moved, Called}
 use Rattle.protocol.specs.Saved.{saving as savingMove, returning as returningMove}
-use Rattle.protocol.specs.SavedLaws.{ordinary_answer, ordinary_move, name_unknown, name_answer, name_move, refused_moves_nothing}
-use Rattle.protocol.specs.Soundness.StepCases.{refused_answer}
+use Rattle.protocol.proofs.SavedLaws.{ordinary_answer, ordinary_move, name_unknown, name_answer, name_move, refused_moves_nothing}
+use Rattle.protocol.proofs.Soundness.StepCases.{refused_answer}
 use Rattle.state_words.specs.View.{tables_of, records_of, requests_of, world_of}
-use Rattle.state_words.specs.Saved.{is_saved, saved_of, saved_at}
-use Rattle.state_words.specs.Worlds.{few_copies}
+use Rattle.state_words.specs.Saved.{is_saved, saved_of}
+use Rattle.state_words.proofs.SavedLaws.{saved_at}
+use Rattle.state_words.proofs.Worlds.{few_copies}
 use Rattle.saved_states.specs.Stored.{Saves, Restores, saves_world, restores_world}
 use Rattle.client_records.specs.Stores.{with_copies, with_requests}
 use Rattle.step_saved.specs.declared.plan.Plan.{Plan}

@@ -18,8 +18,8 @@ use Rattle.protocol.specs.Sound.{tables_sound}
 use Rattle.protocol.specs.Answers.{answerNumber, is_refused}
 use Rattle.protocol.specs.Gate.{refusal_of_step, refusal}
 use Rattle.protocol.specs.Decide.{kept, answered, performed, decided}
-use Rattle.protocol.specs.Soundness.StepCases.{step_passes, accepted_all, setup_in_range, tables_sound_law}
-use Rattle.protocol.specs.Soundness.Answered.{performed_not_refused}
+use Rattle.protocol.proofs.Soundness.StepCases.{step_passes, accepted_all, setup_in_range, tables_sound_law}
+use Rattle.protocol.proofs.Soundness.Answered.{performed_not_refused}
 use Rattle.step_verdict.specs.declared.Verdict.{Verdict}
 
 module _ (s : Setup) (t : Tables) (records : Bool) (r : Request) (x : Step) (k : ℕ) (p : k ≡ refusal s t records r x) where

@@ -11,10 +11,12 @@ use Rattle.protocol.specs.Answers.{answerNumber}
 use Rattle.protocol.specs.World.{World, stepped, answer_of}
 use Rattle.protocol.specs.Ledger.{accepts}
 use Rattle.protocol.specs.Sound.{records_sound}
-use Rattle.protocol.specs.Soundness.StepCases.{request_of, refused_answer, refused_keeps}
-use Rattle.protocol.specs.Soundness.Answered.{accepted_not_refused}
+use Rattle.protocol.specs.Soundness.StepCases.{request_of}
+use Rattle.protocol.proofs.Soundness.StepCases.{refused_answer, refused_keeps}
+use Rattle.protocol.proofs.Soundness.Answered.{accepted_not_refused}
 use Rattle.state_words.specs.View.{tables_of}
-use Rattle.state_words.specs.LiveRows.{message_there, no_message_refused}
+use Rattle.state_words.specs.LiveRows.{message_there}
+use Rattle.state_words.proofs.LiveRows.{no_message_refused}
 use Rattle.step_lent.specs.Lent.{world}
 
 -- a step whose answer has the number 4 changes neither the tables nor the lent records

@@ -14,7 +14,7 @@ use Rattle.protocol.specs.declared.step.Turn.TheVariants as request
 use Rattle.protocol.specs.declared.tables.Tables.{Tables}
 use Rattle.protocol.specs.Gate.{uses_client}
 use Rattle.protocol.specs.Decide.{answered, ask_decided, restart_decided, performed}
-use Rattle.protocol.specs.Soundness.StepCases.{ask_performed, client_performed}
+use Rattle.protocol.proofs.Soundness.StepCases.{ask_performed, client_performed}
 
 module _ (s : Setup) (c : Copy) (r : Request) (x : Step) (t u : Tables) where
   pub by_ask : (g : Change) → x.kind ≡ 3 → u ≡ (ask_decided s t c r x.client x.object).outcome.tables

@@ -14,7 +14,7 @@ use Rattle.protocol.specs.Writes.{settled, write_staged, clock_staged}
 use Rattle.protocol.specs.Server.{server_restarted}
 use Rattle.protocol.specs.Gate.{uses_client, known}
 use Rattle.protocol.specs.Decide.{uncounted, counting, taken, performed}
-use Rattle.protocol.specs.Soundness.StepCases.{by_kind, clock_performed, write_performed, lose_performed, double_performed, server_performed}
+use Rattle.protocol.proofs.Soundness.StepCases.{by_kind, clock_performed, write_performed, lose_performed, double_performed, server_performed}
 
 module _ (s : Setup) (c : Copy) (r : Request) (x : Step) (t u : Tables) where
   pub by_clock : (n : ℕ) → x.kind ≡ 1 → record { count = n; tables = u } ≡ settled s (clock_staged s t x.clock)

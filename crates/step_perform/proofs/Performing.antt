@@ -17,7 +17,7 @@ use Rattle.protocol.specs.Client.{showable}
 use Rattle.protocol.specs.Answers.{completedAnswer}
 use Rattle.protocol.specs.Gate.{is_ask, uses_client, growable, refusal_of_step}
 use Rattle.protocol.specs.Decide.{kept, answered, counting, read_decided, deliver_decided, performed}
-use Rattle.protocol.specs.Soundness.StepCases.{read_performed, deliver_performed}
+use Rattle.protocol.proofs.Soundness.StepCases.{read_performed, deliver_performed}
 use Rattle.step_verdict.specs.declared.Verdict.{Verdict}
 use Rattle.state_words.specs.View.{tables_of, numbers_of}
 

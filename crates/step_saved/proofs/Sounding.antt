@@ -14,15 +14,16 @@ use Rattle.laws.specs.Tabulate.{length_tabulate}
 use Rattle.protocol.specs.declared.records.Copy.{Copy}
 use Rattle.protocol.specs.declared.records.Request.{Request}
 use Rattle.protocol.specs.declared.setup.Setup.{Setup}
-use Rattle.protocol.specs.Ranges.{ranges}
+use Rattle.protocol.proofs.Ranges.{ranges}
 use Rattle.protocol.specs.Setup.{in_range}
 use Rattle.protocol.specs.Sound.{time_fits, request_sound, copies_sound, requests_sound, tables_sound, sound}
 use Rattle.protocol.specs.Saved.{world_sound, sound_under}
 use Rattle.protocol.specs.Tables.{no_copy, no_request}
 use Rattle.state_words.specs.Fields.{at, SAVED}
 use Rattle.state_words.specs.View.{tables_of, records_of, requests_of, world_of}
-use Rattle.state_words.specs.Saved.{saved_in, mark_read}
-use Rattle.state_words.specs.Worlds.{few_copies}
+use Rattle.state_words.specs.Saved.{saved_in}
+use Rattle.state_words.proofs.SavedLaws.{mark_read}
+use Rattle.state_words.proofs.Worlds.{few_copies}
 
 and_assoc : (a b c : Bool) → (a && b && c) ≡ ((a && b) && c)
 and_assoc true b c = refl

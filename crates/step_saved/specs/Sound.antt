@@ -6,7 +6,8 @@ use Rattle.laws.specs.Loop.{all_from, all_same}
 use Rattle.protocol.specs.declared.setup.Setup.{Setup}
 use Rattle.protocol.specs.World.{World}
 use Rattle.protocol.specs.Saved.{names, sound_under, saved_sound}
-use Rattle.state_words.specs.Saved.{saved_in, saved_of, saved_at}
+use Rattle.state_words.specs.Saved.{saved_in, saved_of}
+use Rattle.state_words.proofs.SavedLaws.{saved_at}
 
 unfoldable pub all_sound : Setup → List (List ℕ) → List (List ℕ) → Bool
 all_sound s ws xs = all_from (λ (n : ℕ). sound_under s (saved_in s (get_or ws n []) (get_or xs n []))) 0 names

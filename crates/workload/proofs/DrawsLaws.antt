@@ -3,7 +3,7 @@ use Rattle.std.proofs.Common.{◌≡◌, ℕ, ◌+◌, ◌*◌, ◌%◌, ◌^◌
 use Rattle.protocol.specs.declared.setup.Setup.{Setup}
 use Rattle.protocol.specs.declared.step.Step.{Step}
 use Rattle.protocol.specs.Setup.{in_range}
-use Rattle.protocol.specs.Ranges.{ranges}
+use Rattle.protocol.proofs.Ranges.{ranges}
 use Rattle.protocol.specs.Gate.{is_clock, is_write, uses_client, uses_object, uses_place}
 use Rattle.workload.specs.declared.draws.Drawn.{Drawn}
 use Rattle.workload.specs.Draws.{next, draw, fields_drawn, only_used, total_after, drawn_after}

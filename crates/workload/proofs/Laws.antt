@@ -5,7 +5,8 @@ use Rattle.protocol.specs.declared.setup.Setup.{Setup}
 use Rattle.protocol.specs.Setup.{in_range}
 use Rattle.bytes_layout.specs.declared.output.Report.{Report}
 use Rattle.bytes_layout.specs.declared.output.Report.TheVariants as report
-use Rattle.bytes_layout.specs.Report.{Reports, none_written}
+use Rattle.bytes_layout.specs.Report.{Reports}
+use Rattle.bytes_layout.proofs.Report.{none_written}
 use Rattle.file_records.specs.Bytes.{file_bytes}
 use Rattle.file_records.specs.declared.list.Steps.{Steps}
 use Rattle.file_records.specs.Held.{held, blank, steps_by, Filling, filling_none, filling_again, filling_end, held_by}

@@ -12,7 +12,8 @@ use Rattle.laws.specs.Tabulate.{tabulate_at, length_tabulate, all_tabulate}
 use Rattle.protocol.specs.declared.setup.Setup.{Setup}
 use Rattle.protocol.specs.declared.step.Step.{Step}
 use Rattle.protocol.specs.Setup.{in_range}
-use Rattle.protocol.specs.Gate.{asked, is_clock, is_write, uses_client, uses_object, uses_place}
+use Rattle.protocol.specs.Gate.{is_clock, is_write, uses_client, uses_object, uses_place}
+use Rattle.protocol.proofs.Gate.{asked}
 use Rattle.protocol.specs.Saved.{uses_name, known_kind}
 use Rattle.file_records.specs.Records.{no_step}
 use Rattle.file_shape.specs.Shape.{step_fits}

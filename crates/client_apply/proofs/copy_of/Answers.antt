@@ -1,5 +1,5 @@
 use native.Mathlib.Omega.{arith}
-use Rattle.state_words.specs.Worlds.{few_copies}
+use Rattle.state_words.proofs.Worlds.{few_copies}
 use Rattle.client_apply.proofs.Changing.{copy_there, copy_inside, copy_past}
 use Rattle.client_apply.proofs.copy_of.Goals as goal
 

@@ -1,5 +1,5 @@
 use native.Mathlib.Omega.{arith}
-use Rattle.protocol.specs.Ranges.{ranges}
+use Rattle.protocol.proofs.Ranges.{ranges}
 use Rattle.client_steps.proofs.Stepping.{restarts}
 use Rattle.client_steps.proofs.restart.Goals as goal
 

@@ -1,28 +1,13 @@
 -- 02, A1, computed: a run for each case of the theorem, so that it is not empty, and states in which all premises hold but one and the conclusion fails.
 -- Letters: w world, ys the steps to it, xs those that the policy takes, n the client's next number, r its request, y the value shown.
-use Rattle.std.specs.Prelude.{ℕ, ◌+◌, Bool, true, false, List, [], ◌∷◌, ◌++◌, ◌≡◌, refl, replicate}
-use Rattle.laws.specs.Loop.{fold_from, any_from, all_from, first_from}
-use Rattle.laws.specs.Lists.{remove_at}
-use Rattle.laws.specs.Store.{store_each}
-use Rattle.laws.specs.Greatest.{greatest}
-use Rattle.laws.specs.Sets.{bit_at, set_of, added, less, all_in}
-use Rattle.laws.specs.Sets as sets
+use Rattle.std.specs.Prelude.{ℕ, Bool, true, false, List, [], ◌∷◌, ◌++◌, ◌≡◌, replicate}
 use Rattle.protocol.specs.declared.records.Request.{Request}
 use Rattle.protocol.specs.declared.setup.Setup.{Setup}
 use Rattle.protocol.specs.declared.step.Answer.{Answer}
 use Rattle.protocol.specs.declared.step.Answer.TheVariants.{Shown, AskFirst}
 use Rattle.protocol.specs.declared.step.Step.{Step}
-use Rattle.protocol.specs.Setup.{in_range, objects_in}
-use Rattle.protocol.specs.Messages.{pushed, removed}
 use Rattle.protocol.specs.Tables.{notes_at, standing_at, fresh_tables}
-use Rattle.protocol.specs.Leases.{server_alive, client_alive, client_clock, guard_passed, end_over}
-use Rattle.protocol.specs.Writes.{waits, delays, delayed, latest_end, opened, awaited, notified, waited, ready, due, aged_in, aged, clock_set, deserted, posted, released, completed, settled, written}
-use Rattle.protocol.specs.Server.{noted, offered, batched, lowest_waited, volume_renewed, object_renewed, granted, must_drop, renewed_by, renewed, ack_taken, acked, ack_staged, drop_taken, disowned, dropped, drop_staged, clear_taken, notes_dropped, notes_cleared, server_restarted}
-use Rattle.protocol.specs.Client.{showable, stands, forgotten, swept, swept_all}
-use Rattle.protocol.specs.Sound.{queue_sound, tables_sound, copies_sound, requests_sound, sound}
-use Rattle.protocol.specs.Gate.{known, exists, timely, vacant, growable, refusal_of_step, refusal}
-use Rattle.protocol.specs.Decide.{grant_received, invalidate_received, offer_received, batch_received, received, read_decided, ask_decided, deliver_decided, performed, decided}
-use Rattle.protocol.specs.World.{World, fresh_world, target, decision, stepped, answer_of, ran}
+use Rattle.protocol.specs.World.{World, fresh_world, answer_of, ran}
 use Rattle.protocol.specs.Edges.{step, clock}
 use Rattle.protocol.specs.Safety.View.{request_at}
 use Rattle.promises.specs.UntilShown.Policy.{read, ask, deliver, policy}
@@ -133,7 +118,3 @@ Table =
     × Fails (resting (standing 4294967293 0)) 0 false 0 4294967294 (ask 0 0 ∷ deliver ∷ deliver ∷ deliver ∷ ask 0 0 ∷ [])
     -- the RENEW is answered by the BATCH, and no DROPPED comes
     × Fails (after parked) 0 false 1 3 (ask 0 0 ∷ deliver ∷ deliver ∷ deliver ∷ [])
-
-pub table : Table
-unfolding Table two observed ran policy step clock fold_from any_from all_from first_from remove_at store_each greatest in_range objects_in bit_at set_of sets.removed added less all_in pushed removed fresh_tables server_alive client_alive client_clock guard_passed end_over waits delays delayed latest_end opened awaited notified waited ready due aged_in aged clock_set deserted posted released completed settled written noted offered batched lowest_waited volume_renewed object_renewed granted must_drop renewed_by renewed ack_taken acked ack_staged drop_taken disowned dropped drop_staged clear_taken notes_dropped notes_cleared server_restarted showable stands forgotten swept swept_all queue_sound tables_sound copies_sound requests_sound sound known exists timely vacant growable refusal_of_step refusal grant_received invalidate_received offer_received batch_received received read_decided ask_decided deliver_decided performed decided target decision stepped
-table = (refl, refl, refl, refl, refl, refl, refl, refl)

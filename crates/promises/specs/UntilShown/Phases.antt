@@ -1,9 +1,7 @@
 -- How far a client is that waits for its read, phase by phase: what is under way, and what it needs to go on. Each phase leads to the next by one step of
 -- the policy (Moves).
 -- Letters: s setup, w world, d client, o object, n the number of its request; `known` says that it is connected.
-use Rattle.std.specs.Prelude.{ℕ, ◌+◌, ◌<◌, ◌≤◌, Bool, true, ◌≡◌, length}
-use Rattle.std.proofs.Common.{arith, ◌∙◌, get_or-set_same}
-use Rattle.laws.specs.Lists.{length_remove}
+use Rattle.std.specs.Prelude.{ℕ, ◌+◌, ◌<◌, ◌≤◌, Bool, true, ◌≡◌}
 use Rattle.protocol.specs.declared.message.Message.{Message}
 use Rattle.protocol.specs.declared.message.Payload.{Payload}
 use Rattle.protocol.specs.declared.message.Queue.{Queue}
@@ -11,7 +9,7 @@ use Rattle.protocol.specs.declared.message.Kind.TheVariants.{Renew, Grant, Offer
 use Rattle.protocol.specs.declared.records.Request.{Request}
 use Rattle.protocol.specs.declared.setup.Setup.{Setup}
 use Rattle.protocol.specs.Setup.{volume_of}
-use Rattle.protocol.specs.Messages.{blank, message_at, pushed, removed}
+use Rattle.protocol.specs.Messages.{message_at}
 use Rattle.protocol.specs.Tables.{epoch_at, seen_at, offer_at, notes_at, view_epoch_at}
 use Rattle.protocol.specs.Client.{showable}
 use Rattle.protocol.specs.World.{World}
@@ -23,19 +21,6 @@ use Rattle.promises.specs.UntilShown.Policy.{NoneStands, connected}
 pub record Only (q : Queue) (m : Message) : Type 0 where
   pub one : q.len ≡ 1
   pub first : message_at q 0 ≡ m
-
-pub only_sent : (q : Queue) (m : Message) → q.len ≡ 0 → length q.items ≡ 64 → Only (pushed q m) m
-unfolding pushed
-only_sent q m e l = rw e (record { one = omega arith; first = get_or-set_same q.items 0 m blank (omega arith) })
-
--- it is delivered, and answered by another
-pub none_left : (q : Queue) → q.len ≡ 1 → (removed q 0).len ≡ 0
-unfolding removed
-none_left q e = omega arith
-
-pub only_answer : (q : Queue) (m : Message) → q.len ≡ 1 → length q.items ≡ 64 → Only (pushed (removed q 0) m) m
-unfolding removed
-only_answer q m e l = only_sent (removed q 0) m (none_left q e) (length_remove blank q.items 0 (omega arith) ∙ l)
 
 -- request n of the client for object o stands
 abbrev pub standing : ℕ → ℕ → Request

@@ -1,4 +1,4 @@
-use Rattle.state_words.specs.Saved.{mark_read}
+use Rattle.state_words.proofs.SavedLaws.{mark_read}
 use Rattle.saved_states.proofs.is_saved.Goals as goal
 
 pub returns : goal.returns

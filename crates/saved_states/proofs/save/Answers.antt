@@ -4,7 +4,7 @@ use Rattle.saved_states.proofs.Laws.{set_row}
 use Rattle.saved_states.proofs.save.Goals as goal
 
 pub returns : goal.returns
-returns c = 
+returns c =
     record {
       words = set_row marked [] c.args.saved.now c.args.name c.args.words.now;
       values = c.save_values.ensures;

@@ -1,6 +1,6 @@
 use native.Mathlib.Omega.{arith}
 use mathlib.Core.List.{[]}
-use Rattle.state_words.specs.Reads.{version_word}
+use Rattle.state_words.proofs.ReadsLaws.{version_word}
 use Rattle.server_ack.proofs.Acking.{ack_stands, ack_rests, standing_version}
 use borrow.Author.Rules.{rules}
 use Rattle.server_ack.proofs.ack_taken.Statement.{statement}

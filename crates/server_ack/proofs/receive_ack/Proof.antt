@@ -1,5 +1,5 @@
 use native.Mathlib.Omega.{arith}
-use Rattle.protocol.specs.Ranges.{ranges}
+use Rattle.protocol.proofs.Ranges.{ranges}
 use Rattle.server_ack.proofs.Acking.{grows_numbers, ack_version, ack_keeps, ack_yes, ack_no}
 use borrow.Author.Rules.{rules}
 use Rattle.server_ack.proofs.receive_ack.Statement.{statement}

@@ -1,7 +1,7 @@
 use native.Mathlib.Omega.{arith}
 use native.Mathlib.Nat.{sub-zero}
 use Rattle.laws.specs.Loop.{fold_again, fold_end}
-use Rattle.protocol.specs.Ranges.{ranges}
+use Rattle.protocol.proofs.Ranges.{ranges}
 use Rattle.protocol.specs.Writes.{age_at, aged_in}
 use Rattle.server_marks.specs.SessionWords.{only_start, only_again}
 use borrow.Author.Rules.{rules}

@@ -1,6 +1,6 @@
 use native.Mathlib.Omega.{arith}
 use mathlib.Core.Path.{refl}
-use Rattle.protocol.specs.Ranges.{ranges}
+use Rattle.protocol.proofs.Ranges.{ranges}
 use Rattle.server_cleared.proofs.Clearing.{records_cleared, clear_yes, clear_no}
 use borrow.Author.Rules.{rules}
 use Rattle.server_cleared.proofs.receive_cleared.Statement.{statement}

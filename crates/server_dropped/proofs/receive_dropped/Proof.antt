@@ -1,5 +1,5 @@
 use native.Mathlib.Omega.{arith}
-use Rattle.protocol.specs.Ranges.{ranges}
+use Rattle.protocol.proofs.Ranges.{ranges}
 use Rattle.server_dropped.proofs.Dropping.{drop_grows, drop_yes, drop_no}
 use borrow.Author.Rules.{rules}
 use Rattle.server_dropped.proofs.receive_dropped.Statement.{statement}

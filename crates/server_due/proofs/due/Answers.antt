@@ -1,5 +1,5 @@
 use native.Mathlib.Omega.{arith}
-use Rattle.protocol.specs.Ranges.{ranges}
+use Rattle.protocol.proofs.Ranges.{ranges}
 use Rattle.server_due.proofs.Tests.{due_ready, due_over}
 use Rattle.server_due.proofs.due.Goals as goal
 
@@ -13,5 +13,5 @@ pub bounds-words-object-2 : goal.bounds-words-object-2
 bounds-words-object-2 c = omega (arith, (ranges _ c.requires.setup_value).objects.1)
 
 pub returns : goal.returns
-returns c = 
+returns c =
     due_over _ _ _ _ c.ready.ensures _ (omega (arith, (ranges _ c.requires.setup_value).objects.1)) c.if-ready.false c.end_over-over.ensures

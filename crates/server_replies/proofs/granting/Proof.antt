@@ -1,6 +1,6 @@
 use native.Mathlib.Omega.{arith}
-use Rattle.protocol.specs.Ranges.{ranges}
-use Rattle.state_words.specs.Reads.{clock_word}
+use Rattle.protocol.proofs.Ranges.{ranges}
+use Rattle.state_words.proofs.ReadsLaws.{clock_word}
 use Rattle.server_replies.proofs.Replies.{sends_grant}
 use borrow.Author.Rules.{rules}
 use Rattle.server_replies.proofs.granting.Statement.{statement}

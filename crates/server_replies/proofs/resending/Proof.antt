@@ -1,6 +1,6 @@
 use native.Mathlib.Omega.{arith}
 use mathlib.Core.List.{[]}
-use Rattle.state_words.specs.Reads.{version_word}
+use Rattle.state_words.proofs.ReadsLaws.{version_word}
 use Rattle.server_replies.proofs.Replies.{resends}
 use borrow.Author.Rules.{rules}
 use Rattle.server_replies.proofs.resending.Statement.{statement}

@@ -1,5 +1,5 @@
 use mathlib.Core.Path.{refl}
-use Rattle.protocol.specs.Ranges.{ranges}
+use Rattle.protocol.proofs.Ranges.{ranges}
 use Rattle.server_restart.proofs.Restarting.{epochs_numbers, restarts}
 use borrow.Author.Rules.{rules}
 use Rattle.server_restart.proofs.restart.Statement.{statement}

@@ -3,7 +3,7 @@ use Rattle.setup.proofs.in_range.Goals as goal
 
 pub returns : goal.returns
 unfolding in_range
-returns c = 
+returns c =
     rw (
       c.between.ensures,
       c.between-2.ensures,

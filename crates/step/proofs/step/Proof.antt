@@ -59,7 +59,8 @@ use Rattle.state_words.specs.View.{tables_of as view_of, records_of, requests_of
 use Rattle.client_lent.specs.Rows.{lend_mut, back_mut, lend_shr_at, back_shr, Part}
 use Rattle.client_records.specs.Stores.{with_copies, with_requests}
 use Rattle.step_lent.specs.Lent.{world}
-use Rattle.step_numbers.specs.Numbers.{number_of, value_of, number_is, value_is}
+use Rattle.step_numbers.specs.Numbers.{number_of, value_of}
+use Rattle.step_numbers.proofs.Numbers.{number_is, value_is}
 use Rattle.step_saved.specs.Sound.{all_sound}
 use Rattle.step_saved.specs.Applied.{Applied}
 use Rattle.step.specs.Lent.{machine}

@@ -1,6 +1,6 @@
 use native.Mathlib.Omega.{arith}
 use mathlib.Core.Path.{refl}
-use Rattle.protocol.specs.Ranges.{ranges}
+use Rattle.protocol.proofs.Ranges.{ranges}
 use Rattle.step_deliver.proofs.Delivering.{grant_in, offer_in, hears_grant, hears_invalidate, hears_offer, hears_batch, hears_none}
 use borrow.Author.Rules.{rules}
 use Rattle.step_deliver.proofs.by_client.Statement.{statement}

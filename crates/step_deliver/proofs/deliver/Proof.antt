@@ -1,6 +1,6 @@
 use mathlib.Core.Path.{◌∙◌}
-use Rattle.protocol.specs.SoundLaws.{sound_clock, growing, sound_length, sound_message}
-use Rattle.state_words.specs.LiveRows.{live}
+use Rattle.protocol.proofs.SoundLaws.{sound_clock, growing, sound_length, sound_message}
+use Rattle.state_words.proofs.LiveRows.{live}
 use Rattle.step_deliver.proofs.Delivering.{delivers}
 use borrow.Author.Rules.{rules}
 use Rattle.step_deliver.proofs.deliver.Statement.{statement}

@@ -58,7 +58,7 @@ use Rattle.protocol.specs.Sound.{copies_sound, requests_sound}
 use Rattle.protocol.specs.Answers.{answerNumber}
 use Rattle.protocol.specs.Decide.{answered, decided}
 use Rattle.protocol.specs.World.{World, target, world_after, decision, stepped, answer_of}
-use Rattle.protocol.specs.Soundness.Numbering.{decision_turns}
+use Rattle.protocol.proofs.Soundness.Numbering.{decision_turns}
 use Rattle.protocol.specs.declared.tables.Tables.{Tables as TablesD}
 use Rattle.protocol.specs.declared.step.Decision.{Decision}
 use denote.Enum.Laws as EL

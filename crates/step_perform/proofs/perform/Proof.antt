@@ -1,5 +1,5 @@
 use mathlib.Core.Path.{refl, sym, ◌∙◌}
-use Rattle.protocol.specs.Soundness.StepCases.{passed, client_exists, object_exists, place_exists}
+use Rattle.protocol.proofs.Soundness.StepCases.{passed, client_exists, object_exists, place_exists}
 use Rattle.step_perform.proofs.Performing.{by_read, by_client_law, by_deliver, by_count, whoever_asks}
 use borrow.Author.Rules.{rules}
 use Rattle.step_perform.proofs.perform.Statement.{statement}

@@ -9,7 +9,7 @@ pub loop-place-init : goal.loop-place-init
 loop-place-init c = (search rules, (search rules, (refl, (refl, ap (fold_from _ _ _) (omega arith)))))
 
 pub loop-place-preserved : goal.loop-place-preserved
-loop-place-preserved c = 
+loop-place-preserved c =
     let l = c.loop-place.invariant in (
       search rules,
       (

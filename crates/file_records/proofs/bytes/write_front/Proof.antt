@@ -1,6 +1,6 @@
 use borrow.Author.Rules.{rules}
 use native.Mathlib.Omega.{arith}
-use Rattle.protocol.specs.Ranges.{ranges}
+use Rattle.protocol.proofs.Ranges.{ranges}
 use Rattle.file_records.proofs.BytesLaws.{front_stored}
 use Rattle.file_records.proofs.bytes.write_front.Statement.{statement}
 use Rattle.file_records.proofs.bytes.write_front.Tie as tie

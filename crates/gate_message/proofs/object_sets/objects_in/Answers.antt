@@ -1,7 +1,7 @@
 use borrow.Author.Rules.{rules}
 use mathlib.Core.Path.{refl}
 use Rattle.laws.specs.Sets.{set_of}
-use Rattle.protocol.specs.Ranges.{ranges}
+use Rattle.protocol.proofs.Ranges.{ranges}
 use Rattle.gate_message.proofs.Members.{object_again, objects_end}
 use Rattle.gate_message.proofs.object_sets.objects_in.Goals as goal
 

@@ -1,4 +1,4 @@
-use Rattle.protocol.specs.Ranges.{ranges}
+use Rattle.protocol.proofs.Ranges.{ranges}
 use Rattle.gate_questions.proofs.GrowthLaws.{growable_words}
 use borrow.Author.Rules.{rules}
 use Rattle.gate_questions.proofs.growth.growable.Goals as goal

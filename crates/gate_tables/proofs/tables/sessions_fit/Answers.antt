@@ -1,7 +1,7 @@
 use borrow.Author.Rules.{rules}
 use native.Mathlib.Nat.{sub-zero}
 use Rattle.laws.specs.Loop.{all_by, all_end}
-use Rattle.protocol.specs.Ranges.{ranges}
+use Rattle.protocol.proofs.Ranges.{ranges}
 use Rattle.gate_tables.proofs.Scans.{session_fits}
 use Rattle.gate_tables.proofs.tables.sessions_fit.Goals as goal
 

@@ -1,4 +1,4 @@
-use Rattle.protocol.specs.Ranges.{ranges}
+use Rattle.protocol.proofs.Ranges.{ranges}
 use Rattle.gate_tables.proofs.Scans.{scanned}
 use borrow.Author.Rules.{rules}
 use Rattle.gate_tables.proofs.tables.tables_sound.Goals as goal

@@ -1,5 +1,5 @@
 use native.Mathlib.Omega.{arith}
-use Rattle.protocol.specs.Ranges.{ranges}
+use Rattle.protocol.proofs.Ranges.{ranges}
 use Rattle.lease_tests.proofs.Laws.{placed}
 use Rattle.lease_tests.proofs.place.volume_of.Goals as goal
 

@@ -1,5 +1,5 @@
 use native.Mathlib.Omega.{arith}
-use Rattle.state_words.specs.Reads.{length_word}
+use Rattle.state_words.proofs.ReadsLaws.{length_word}
 use Rattle.network_queue.proofs.RemovalLaws.{removes}
 use Rattle.network_queue.proofs.removal.remove.Goals as goal
 
@@ -16,15 +16,15 @@ pub shift-requires : goal.shift-requires
 shift-requires c = omega (arith, length_word c.args.words.now c.args.values.now, c.requires.place_bound, c.requires.values_bound)
 
 pub shift_values-requires : goal.shift_values-requires
-shift_values-requires c = 
+shift_values-requires c =
     omega (arith, length_word c.args.words.now c.args.values.now, c.requires.place_bound, c.requires.values_bound)
 
 pub overflow_sub-words : goal.overflow_sub-words
-overflow_sub-words c = 
+overflow_sub-words c =
     omega (arith, length_word c.args.words.now c.args.values.now, c.requires.place_bound, c.requires.values_bound)
 
 pub returns : goal.returns
-returns c = 
+returns c =
     let n = length_word c.args.words.now c.args.values.now in let all = removes _ _ _ c.length_known-arg-2-1.given
     c.values_length_known-arg-2-1.given _ _ (omega (arith, n, c.requires.place_bound))
     (omega (arith, n, c.requires.values_bound)) c.shift.ensures c.shift_values.ensures in record { values_after = all.0; values_unchanged = all.1 }

@@ -2,7 +2,8 @@ use native.Mathlib.Nat.{le_of_lt}
 use native.Mathlib.Omega.{arith}
 use Prim.Native.Nat.{◌-◌, ◌≤◌}
 use mathlib.Core.Path.{◌≡◌}
-use Rattle.state_words.specs.Saved.{machine_of, fresh_machine_law}
+use Rattle.state_words.specs.Saved.{machine_of}
+use Rattle.state_words.proofs.SavedLaws.{fresh_machine_law}
 use Rattle.file_shape.specs.Places.{place_before, place_next}
 use Rattle.file_reader.specs.Steps.{steps_of}
 use Rattle.reason.specs.Followed.{Following, follow_starts, follow_sound}

@@ -2,7 +2,8 @@ use native.Mathlib.Omega.{arith}
 use Prim.Native.Nat.{◌-◌, ◌≤◌}
 use mathlib.Core.Path.{◌≡◌, refl, ◌∙◌}
 use lib.ListN.{length}
-use Rattle.state_words.specs.Saved.{machine_of, fresh_machine_law}
+use Rattle.state_words.specs.Saved.{machine_of}
+use Rattle.state_words.proofs.SavedLaws.{fresh_machine_law}
 use Rattle.file_shape.specs.Places.{place_before, place_next, record_there}
 use Rattle.file_reader.specs.Reading.{accepted}
 use Rattle.run.specs.Ran.{Running, run_starts, run_ends, line_fits, run_again}

@@ -1,5 +1,5 @@
 use native.Mathlib.Omega.{arith}
-use Rattle.state_words.specs.Reads.{version_word}
+use Rattle.state_words.proofs.ReadsLaws.{version_word}
 use Rattle.server_complete.proofs.Completing.{posts}
 use borrow.Author.Rules.{rules}
 use Rattle.server_complete.proofs.completion.post.Statement.{statement}

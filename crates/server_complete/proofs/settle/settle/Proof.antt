@@ -4,7 +4,7 @@ use mathlib.Core.Path.{◌≡◌, refl, ◌∙◌}
 use Prim.Native.Nat.{◌≤◌, ◌-◌}
 use Rattle.laws.specs.Loop.{fold_from}
 use Rattle.protocol.specs.Writes.{complete_if, settled}
-use Rattle.protocol.specs.Ranges.{ranges}
+use Rattle.protocol.proofs.Ranges.{ranges}
 use Rattle.protocol.specs.SoundLaws.{Growing}
 use Rattle.state_words.specs.View.{tables_of, records_of}
 use Rattle.server_due.specs.Triggers.{triggered}

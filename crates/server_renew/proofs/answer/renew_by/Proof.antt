@@ -1,5 +1,5 @@
 use native.Mathlib.Omega.{arith}
-use Rattle.protocol.specs.Ranges.{ranges}
+use Rattle.protocol.proofs.Ranges.{ranges}
 use Rattle.server_renew.proofs.Reading.{noted_there, not_noted, low_version, stands, rests}
 use Rattle.server_renew.proofs.Rules.{by_offer, by_batch, by_resend, by_hold, by_grant}
 use borrow.Author.Rules.{rules}

@@ -1,5 +1,5 @@
 use native.Mathlib.Omega.{arith}
-use Rattle.protocol.specs.Ranges.{ranges}
+use Rattle.protocol.proofs.Ranges.{ranges}
 use Rattle.server_renew.proofs.Noting.{renew_old, renew_new, noted_clock, noted_grows}
 use borrow.Author.Rules.{rules}
 use Rattle.server_renew.proofs.receive.receive_renew.Statement.{statement}

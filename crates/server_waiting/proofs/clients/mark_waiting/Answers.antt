@@ -13,12 +13,12 @@ loop-client-init c = (search rules, (only_start _, rw sub-zero))
 
 pub loop-client-preserved : goal.loop-client-preserved
 loop-client-preserved c = (
-      search rules,
-      (
-        only_again _ _ _ c.loop-client.invariant.1.0 c.mark_if.ensures.only_sessions,
-        fold_again _ _ _ _ _ _ (search rules) (rw (c.mark_if.ensures.words_after, c.has-yes.ensures)) c.loop-client.invariant.1.1,
-      ),
-    )
+  search rules,
+  (
+    only_again _ _ _ c.loop-client.invariant.1.0 c.mark_if.ensures.only_sessions,
+    fold_again _ _ _ _ _ _ (search rules) (rw (c.mark_if.ensures.words_after, c.has-yes.ensures)) c.loop-client.invariant.1.1,
+  ),
+)
 
 pub returns : goal.returns
 returns c = record { words_after = search fold_end; only_sessions = c.loop-client.invariant.1.0 }

@@ -12,7 +12,7 @@ pub loop-client-init : goal.loop-client-init
 loop-client-init c = (search rules, rw sub-zero)
 
 pub loop-client-preserved : goal.loop-client-preserved
-loop-client-preserved c = 
+loop-client-preserved c =
     (search rules, end_again _ _ _ _ (search rules) (search rules) (search rules) _ _ _ _ _ _ (search rules) c.has.ensures c.outlast-end.ensures c.loop-client.invariant.1)
 
 pub returns : goal.returns

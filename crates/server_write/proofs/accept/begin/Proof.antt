@@ -1,7 +1,7 @@
 use native.Mathlib.Omega.{arith}
 use mathlib.Core.Path.{refl}
-use Rattle.protocol.specs.Ranges.{ranges}
-use Rattle.state_words.specs.Reads.{clock_word}
+use Rattle.protocol.proofs.Ranges.{ranges}
+use Rattle.state_words.proofs.ReadsLaws.{clock_word}
 use Rattle.server_write.proofs.Accepting.{begins}
 use borrow.Author.Rules.{rules}
 use Rattle.server_write.proofs.accept.begin.Statement.{statement}

@@ -1,4 +1,4 @@
-use Rattle.protocol.specs.Soundness.StepCases.{passed, client_exists, object_exists}
+use Rattle.protocol.proofs.Soundness.StepCases.{passed, client_exists, object_exists}
 use Rattle.step_perform.proofs.ClientStepPerforming.{by_ask, by_restart_client, last_of_client}
 use borrow.Author.Rules.{rules}
 use Rattle.step_perform.proofs.client_step.of_client.Statement.{statement}

@@ -1,7 +1,7 @@
-use Rattle.protocol.specs.SoundLaws.{sound_clock, growing, sound_length}
-use Rattle.protocol.specs.Soundness.StepCases.{passed, object_exists, place_exists, version_grows, epochs_grow}
+use Rattle.protocol.proofs.SoundLaws.{sound_clock, growing, sound_length}
+use Rattle.protocol.proofs.Soundness.StepCases.{passed, object_exists, place_exists, version_grows, epochs_grow}
 use Rattle.protocol.specs.Tables.{no_request}
-use Rattle.state_words.specs.LiveRows.{live}
+use Rattle.state_words.proofs.LiveRows.{live}
 use Rattle.step_perform.proofs.OtherStepPerforming.{by_clock, by_write, by_lose, by_double, by_restart_server, last_of_no_client}
 use borrow.Author.Rules.{rules}
 use Rattle.step_perform.proofs.other_step.of_no_client.Statement.{statement}

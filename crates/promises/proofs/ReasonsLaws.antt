@@ -1,0 +1,8 @@
+-- 02, A8: why a read is answered "ask first".
+pub mod Worth
+pub mod Fates
+pub mod Told
+pub mod Explains
+pub mod ByAnswer
+pub mod Lasts
+pub mod Examples

@@ -1,0 +1,17 @@
+pub mod Ranges
+pub mod Leases
+pub mod LatestEnd
+pub mod SoundLaws
+pub mod Gate
+pub mod Edges
+pub mod Soundness
+pub mod Bookkeeping
+pub mod History
+pub mod Safety
+pub mod Demand3
+pub mod Reached
+pub mod SavedEdges
+pub mod SavedLaws
+pub mod Along
+pub mod Returned
+pub mod NeverLater
