@@ -1,8 +1,7 @@
 /*
- * The lease system of documents 01 and 02 for C and C++. It takes one step at a
- * time on a state, lists whole runs, tells why a read was answered "ask first",
- * writes run files from their parts or from a seed, and converts messages to and
- * from frames.
+ * The lease system of documents 01 and 02 for C and C++. It lists whole runs,
+ * tells why a read was answered "ask first", writes run files from their parts
+ * or from a seed, and converts messages to and from frames.
  *
  * The work is done by the proved code in libgevtsomi.a. It allocates nothing,
  * does no input or output and keeps nothing from call to call, so threads may
@@ -21,11 +20,9 @@
  * - lends no output that overlaps another output or an input of the call;
  * - lets nobody else write what is lent, or read an output, until the call
  *   returns;
- * - has enough stack left: GEVTSOMI_STEP_STACK_BYTES for gevtsomi_fresh,
- *   gevtsomi_step and gevtsomi_sound, GEVTSOMI_LIST_STACK_BYTES for
- *   gevtsomi_list, GEVTSOMI_WHY_STACK_BYTES for gevtsomi_why,
- *   GEVTSOMI_WRITE_STACK_BYTES for gevtsomi_write and gevtsomi_workload, 4,096
- *   bytes for the others.
+ * - has enough stack left: GEVTSOMI_LIST_STACK_BYTES for gevtsomi_list,
+ *   GEVTSOMI_WHY_STACK_BYTES for gevtsomi_why, GEVTSOMI_WRITE_STACK_BYTES for
+ *   gevtsomi_write and gevtsomi_workload, 4,096 bytes for the others.
  */
 #ifndef GEVTSOMI_H
 #define GEVTSOMI_H
@@ -39,21 +36,13 @@ extern "C" {
 
 /* The version of this library. The second number grows when callers or files
    have to change, and CHANGES.md in the repository says how; else the third. */
-#define GEVTSOMI_VERSION "0.9.0"
+#define GEVTSOMI_VERSION "0.8.0"
 #define GEVTSOMI_VERSION_MAJOR 0
-#define GEVTSOMI_VERSION_MINOR 9
+#define GEVTSOMI_VERSION_MINOR 8
 #define GEVTSOMI_VERSION_PATCH 0
 
 /* What a call returns when it is not refused. */
 #define GEVTSOMI_DONE 0
-/* Why a step is refused, by gevtsomi_step or, but for 1, in a listing. The
-   questions are asked in the order 1, 2, 11, 3, 4, 5, 6. */
-#define GEVTSOMI_UNSOUND 1        /* setup, state or a saved state; the list is below */
-#define GEVTSOMI_UNKNOWN_KIND 2   /* a kind that is not 1 to 11 */
-#define GEVTSOMI_NO_SUCH_ITEM 3   /* a client, object or place that does not exist */
-#define GEVTSOMI_BAD_TIME 4       /* a time before the clock, or above 2,147,483,647 */
-#define GEVTSOMI_WRITE_STANDS 5   /* a write to an object that has a standing write */
-#define GEVTSOMI_NO_NUMBER_LEFT 6 /* a version, epoch or request number that cannot grow */
 /* Not a setup, or one out of range; also one from before version 0.6.0, whose
    delay is 0. */
 #define GEVTSOMI_BAD_SETUP 7
@@ -64,8 +53,8 @@ extern "C" {
 #define GEVTSOMI_NO_RUN_FILE 9
 /* No run file has these parts, or the output is too short for the file. */
 #define GEVTSOMI_NOT_WRITTEN 10
-/* A save or a return with a name above 3, or a return to a name that was never
-   saved. */
+/* In a listing: a step with a name above 3, or a return to a name that was never
+   saved. No call returns it. */
 #define GEVTSOMI_NO_SAVED_STATE 11
 
 /* The most bytes that a run file can have, bytes enough for the listing of any
@@ -75,7 +64,6 @@ extern "C" {
 #define GEVTSOMI_LIST_STACK_BYTES 221184
 #define GEVTSOMI_WHY_STACK_BYTES 106496
 #define GEVTSOMI_WRITE_STACK_BYTES 278528
-#define GEVTSOMI_STEP_STACK_BYTES 16384
 
 /* The lengths of a setup and a step in a run file, the most objects of a setup,
    and the most steps in a file. Numbers of more than a byte are little endian.
@@ -92,158 +80,22 @@ extern "C" {
    44  delay: how many ticks after the end of a client's volume lease the server
        keeps notes for it before it marks it unreachable, 1 to 65,535, in 4
 
-   and a step
+   and a step, with 0 in the fields that its kind does not use,
 
     0  kind: 1 clock, 2 read, 3 ask, 4 write, 5 deliver, 6 lose, 7 double,
        8 restart of the server, 9 restart of a client, 10 save, 11 return to
-       what was saved
+       what was saved; a step of any other kind may have anything in the other
+       fields
     1  client, for kinds 2, 3 and 9
     2  object, for kinds 2, 3 and 4
     3  place in the message list, for kinds 5, 6 and 7; name of the saved
        state, 0 to 3, for kinds 10 and 11
     4  clock, for kind 1, in 4 bytes
-    8  value, for kind 4, in 8
-
-   In a run file, the fields that a kind of 1 to 11 does not use are 0.
-   gevtsomi_step does not ask about them. */
+    8  value, for kind 4, in 8 */
 #define GEVTSOMI_SETUP_BYTES 48
 #define GEVTSOMI_STEP_BYTES 16
 #define GEVTSOMI_OBJECTS 28
 #define GEVTSOMI_STEPS 4000
-
-enum gevtsomi_step_kind {
-    GEVTSOMI_STEP_CLOCK = 1,
-    GEVTSOMI_STEP_READ,
-    GEVTSOMI_STEP_ASK,
-    GEVTSOMI_STEP_WRITE,
-    GEVTSOMI_STEP_DELIVER,
-    GEVTSOMI_STEP_LOSE,
-    GEVTSOMI_STEP_DOUBLE,
-    GEVTSOMI_STEP_RESTART_SERVER,
-    GEVTSOMI_STEP_RESTART_CLIENT,
-    GEVTSOMI_STEP_SAVE,
-    GEVTSOMI_STEP_RETURN
-};
-
-/* A state is two arrays: words for the numbers of 32 bits, flags and sets, and
-   values for those of 64 bits. Beside them are the four saved states, which
-   steps 10 and 11 save to and return to; the one of name n begins at
-   saved[n * GEVTSOMI_WORDS] and saved_values[n * GEVTSOMI_VALUES]. */
-#define GEVTSOMI_WORDS 3275
-#define GEVTSOMI_VALUES 640
-#define GEVTSOMI_NAMES 4
-#define GEVTSOMI_SAVED_WORDS 13100
-#define GEVTSOMI_SAVED_VALUES 2560
-
-/* All four together. To keep a state, assign the struct to another; to go back,
-   assign it back: then everything is as it was, saved states too. Or take a step
-   10 and later a step 11 with the same name: then all is as it was but the saved
-   states, which stay.
-
-   To store a state, store the four arrays, the setup and GEVTSOMI_LAYOUT. Compare
-   states array by array: the struct has padding. It takes 91 KB, so do not put it
-   on a small stack. */
-struct gevtsomi_state {
-    uint32_t words[GEVTSOMI_WORDS];
-    uint64_t values[GEVTSOMI_VALUES];
-    uint32_t saved[GEVTSOMI_SAVED_WORDS];
-    uint64_t saved_values[GEVTSOMI_SAVED_VALUES];
-};
-
-/* Where each field begins, by the way it is indexed. The number of the layout
-   grows when a field moves or a new one comes.
-
-   A flag that is not 0 reads as yes. A set has bit k for client k or object k.
-   Items past the setup's counts and messages past the length are free: nothing
-   depends on what they hold.
-
-   A state is unsound, so that every step on it is refused with 1, if
-   - the setup is out of range;
-   - the clock is above 2,147,483,647;
-   - an expiry, also in a GRANT, VE, OE, a guard or the latest end of a standing
-     write is above 2,148,483,647;
-   - an epoch of the server, a version of an object or a next request number is 0;
-   - the version of an object with a standing write is 4,294,967,295;
-   - there are more than 64 messages, or the row of one has a number above 255 in
-     its first four words or fields that gevtsomi_encode refuses;
-   - the client, object or volume of a message, or the object of a standing
-     request, does not exist;
-   - a set of notes, or that of a BATCH or CLEARED, has a bit that is no object of
-     its volume;
-   - a saved state is unsound in one of these ways. */
-#define GEVTSOMI_LAYOUT 1
-
-/* Room for clients, volumes, objects and messages, and the words of a message. */
-#define GEVTSOMI_CLIENTS 16
-#define GEVTSOMI_VOLUMES 8
-#define GEVTSOMI_SLOTS 32
-#define GEVTSOMI_PLACES 64
-#define GEVTSOMI_ROW 9
-
-/* words[AT] */
-#define GEVTSOMI_AT_CLOCK 0    /* the time */
-#define GEVTSOMI_AT_LENGTH 1   /* the number of messages under way */
-#define GEVTSOMI_AT_SAVED 3274 /* flag, in the words of a saved state: there is one */
-
-/* words[AT + place * GEVTSOMI_ROW + field], with a field of enum gevtsomi_field
-   from kind to object expiry; values[AT + place] */
-#define GEVTSOMI_AT_MESSAGES 2      /* the messages under way, in sending order */
-#define GEVTSOMI_AT_MESSAGE_VALUE 0 /* in the values: the value of each */
-
-/* words[AT + volume]: server */
-#define GEVTSOMI_AT_VOLUME_EPOCH 578  /* epoch */
-#define GEVTSOMI_AT_VOLUME_EXPIRY 586 /* VE, the largest expiry of a volume lease granted */
-#define GEVTSOMI_AT_GUARD 594         /* until then, leases from before a restart may be alive */
-
-/* words[AT + client]: server, then client */
-#define GEVTSOMI_AT_SEEN 602              /* highest request number seen */
-#define GEVTSOMI_AT_REQUEST_NEXT 3210     /* next request number */
-#define GEVTSOMI_AT_REQUEST_STANDING 3226 /* flag: a request stands */
-#define GEVTSOMI_AT_REQUEST_NUMBER 3242   /* its number */
-#define GEVTSOMI_AT_REQUEST_OBJECT 3258   /* its object */
-
-/* words[AT + client * GEVTSOMI_VOLUMES + volume]: server, then client */
-#define GEVTSOMI_AT_SESSION_EXPIRY 618 /* expiry of the volume lease */
-#define GEVTSOMI_AT_UNREACHABLE 746    /* flag: marked unreachable */
-#define GEVTSOMI_AT_OFFER 874          /* number of the OFFER last sent, or 0 */
-#define GEVTSOMI_AT_NOTES 1674         /* set of objects noted for the client */
-#define GEVTSOMI_AT_BATCH 1802         /* number of the BATCH last sent, or 0 */
-#define GEVTSOMI_AT_VIEW_EPOCH 1930    /* epoch that the client knows */
-#define GEVTSOMI_AT_VIEW_EXPIRY 2058   /* expiry of the volume lease that it knows */
-
-/* words[AT + object], values[AT + object]: server */
-#define GEVTSOMI_AT_VERSION 1002       /* version */
-#define GEVTSOMI_AT_VALUE 64           /* in the values: value */
-#define GEVTSOMI_AT_OBJECT_EXPIRY 1034 /* OE, the largest expiry of an object lease granted */
-#define GEVTSOMI_AT_STANDING 1066      /* flag: a write stands */
-#define GEVTSOMI_AT_END 1098           /* its latest end */
-#define GEVTSOMI_AT_WAITING 1642       /* set of clients that it waits for */
-#define GEVTSOMI_AT_PENDING 96         /* in the values: its value */
-
-/* words[AT + client * GEVTSOMI_SLOTS + object]: server */
-#define GEVTSOMI_AT_LEASE 1130 /* expiry of the object lease */
-
-/* words[AT + client * objects + object], values[AT + client * objects + object],
-   with the setup's number of objects: client */
-#define GEVTSOMI_AT_COPY_VERSION 2186 /* version of the copy; 0 is no copy */
-#define GEVTSOMI_AT_COPY_VALUE 128    /* in the values: its value */
-#define GEVTSOMI_AT_COPY_EXPIRY 2698  /* expiry of the object lease that the client knows */
-
-/* The answer of a step. */
-#define GEVTSOMI_ANSWER 45
-#define GEVTSOMI_ANSWER_OUTCOME 0   /* one of enum gevtsomi_outcome */
-#define GEVTSOMI_ANSWER_VALUE 1     /* value shown, or writes completed; otherwise 0 */
-#define GEVTSOMI_ANSWER_DELIVERED 2 /* from here on the fields of the message delivered, in the
-                                       order of enum gevtsomi_field; 0 if it is no delivery */
-#define GEVTSOMI_ANSWER_VISITED 12  /* 0; for the rows visited, in a later version */
-#define GEVTSOMI_ANSWER_VERSIONS 13 /* 32 zeros; for the versions of a message, later */
-
-enum gevtsomi_outcome {
-    GEVTSOMI_OUTCOME_DONE,
-    GEVTSOMI_OUTCOME_SHOWN,
-    GEVTSOMI_OUTCOME_ASK_FIRST,
-    GEVTSOMI_OUTCOME_COMPLETED
-};
 
 /* Why a read was answered "ask first": what happened last to the client's copy
    of the object (its leases are dropped on an OFFER or a BATCH) or, after a
@@ -296,28 +148,6 @@ enum gevtsomi_field {
     GEVTSOMI_VALUE,
     GEVTSOMI_FIELDS
 };
-
-/* Writes the fresh state of a setup, with nothing saved. Returns 7 if the
-   setup's fourth byte is not 0 or a field is out of range. */
-uint8_t gevtsomi_fresh(const uint8_t setup[GEVTSOMI_SETUP_BYTES], uint32_t words[GEVTSOMI_WORDS],
-                       uint64_t values[GEVTSOMI_VALUES], uint32_t saved[GEVTSOMI_SAVED_WORDS],
-                       uint64_t saved_values[GEVTSOMI_SAVED_VALUES]);
-
-/* Takes one step on any state and writes its answer. Returns 1, 2, 11, 3, 4, 5 or
-   6 for a step that is refused: the number of the first question that is answered
-   "no", in this order. A bad setup is 1. */
-uint8_t gevtsomi_step(const uint8_t setup[GEVTSOMI_SETUP_BYTES], uint32_t words[GEVTSOMI_WORDS],
-                      uint64_t values[GEVTSOMI_VALUES], uint32_t saved[GEVTSOMI_SAVED_WORDS],
-                      uint64_t saved_values[GEVTSOMI_SAVED_VALUES],
-                      const uint8_t record[GEVTSOMI_STEP_BYTES], uint64_t answer[GEVTSOMI_ANSWER]);
-
-/* Returns 1 if setup, state or a saved state is unsound. Every state that steps
-   lead to from a fresh one is sound. */
-uint8_t gevtsomi_sound(const uint8_t setup[GEVTSOMI_SETUP_BYTES],
-                       const uint32_t words[GEVTSOMI_WORDS],
-                       const uint64_t values[GEVTSOMI_VALUES],
-                       const uint32_t saved[GEVTSOMI_SAVED_WORDS],
-                       const uint64_t saved_values[GEVTSOMI_SAVED_VALUES]);
 
 /* Writes the listing of a run file to the start of output, and its length to
    written. Returns 9 if the bytes are not a run file, whatever the length of

@@ -1,7 +1,7 @@
 //! Compares run files with the model's in one process: the same bytes and
 //! refusals, from parts that callers lend and from workloads.
 
-use gevtsomi::{list, workload, write, Refusal, LISTING_BYTES};
+use gevtsomi::{list, workload, write, Refused, LISTING_BYTES};
 use model::checked_writer::workload_file;
 use model::gen::{workload_calls, writer_calls};
 use model::limits::{BAD_SETUP, NOT_WRITTEN};
@@ -40,7 +40,7 @@ impl Answered {
 fn leaves(
     room: usize,
     file: &Result<Vec<u8>, u8>,
-    call: impl FnOnce(&mut [u8]) -> Result<usize, Refusal>,
+    call: impl FnOnce(&mut [u8]) -> Result<usize, Refused>,
 ) -> bool {
     let before: Vec<u8> = (0..room).map(|place| (place % 251) as u8).collect();
     let (mut output, mut expected) = (before.clone(), before);
@@ -48,7 +48,7 @@ fn leaves(
         expected[..file.len()].copy_from_slice(file);
     }
     let len = file.as_ref().map(Vec::len);
-    call(&mut output) == len.map_err(|&number| Refusal { number }) && output == expected
+    call(&mut output) == len.map_err(|&number| Refused { number }) && output == expected
 }
 
 #[test]

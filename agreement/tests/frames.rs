@@ -1,7 +1,7 @@
 //! Compares frames with the model's in one process: the same bytes and
 //! messages.
 
-use gevtsomi::{decode, encode, Kind, Message, Refusal, FRAME_BYTES};
+use gevtsomi::{decode, encode, Kind, Message, Refused, FRAME_BYTES};
 use model::frame as model_frame;
 use model::gen::rng::Rng;
 use model::message as model_message;
@@ -93,6 +93,6 @@ fn any_bytes_are_read_as_the_model_reads_them() {
         }
         let read = decode(&frame);
         let expected = model_frame::decode(&frame);
-        assert_eq!(read.map(|message| of_model(&message)), expected.map_err(|number| Refusal { number }));
+        assert_eq!(read.map(|message| of_model(&message)), expected.map_err(|number| Refused { number }));
     }
 }

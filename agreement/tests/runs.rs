@@ -1,6 +1,6 @@
 //! Compares whole runs with the model's in one process: the same listings.
 
-use gevtsomi::{list, Refusal, LISTING_BYTES};
+use gevtsomi::{list, Refused, LISTING_BYTES};
 use model::examples;
 use model::gen::{damage, runs};
 use model::listing::{listing, listing_with};
@@ -73,7 +73,7 @@ fn damaged_files_are_refused_where_the_model_refuses_them() {
             refused += 1;
             for room in [0, 18, LISTING_BYTES] {
                 let mut output = vec![0xaa; room];
-                assert_eq!(list(file, &mut output), Err(Refusal { number: refusal }));
+                assert_eq!(list(file, &mut output), Err(Refused { number: refusal }));
                 assert!(output.iter().all(|&byte| byte == 0xaa), "seed {seed}, file {number}");
             }
         }

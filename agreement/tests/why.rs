@@ -1,7 +1,7 @@
 //! Compares why reads were answered "ask first" with the model's in one process:
 //! the same reason and event for every step.
 
-use gevtsomi::Refusal;
+use gevtsomi::Refused;
 use model::examples;
 use model::gen::{damage, runs};
 use model::mistakes::reasons;
@@ -83,7 +83,7 @@ fn damaged_files_are_refused_where_the_model_refuses_them() {
                 Ok(_) => answered += 1,
                 Err(number) => {
                     refused += 1;
-                    assert_eq!(gevtsomi::why(file, 1), Err(Refusal { number }));
+                    assert_eq!(gevtsomi::why(file, 1), Err(Refused { number }));
                 }
             }
         }

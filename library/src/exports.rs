@@ -1,21 +1,77 @@
-//! Calls the proved functions in the archive. Each returns 0 or the refusal's
-//! number, and reads and writes only what it is lent, and only during the call.
+//! Calls the proved functions in the archive. A slice is two arguments, its
+//! address and its length. Each function returns 0 or the refusal's number, and
+//! reads and writes only what it is lent, and only during the call.
 
-use crate::ffi;
-use crate::layout::{SavedValues, SavedWords, Values, Words, ANSWER};
-use crate::message::{Fields, FIELDS};
-use crate::parts::{SETUP_BYTES, STEP_BYTES};
-use crate::Refusal;
+use crate::message::Fields;
+use crate::Refused;
 
-/// Returns a refusal unless the number is 0.
-fn accepted(number: u8) -> Result<(), Refusal> {
-    match number {
-        0 => Ok(()),
-        number => Err(Refusal { number }),
+/// The number of fields in a frame.
+const FIELDS: usize = 10;
+
+mod ffi {
+    extern "C" {
+        pub fn gevtsomi_list(
+            file: *const u8,
+            file_len: usize,
+            output: *mut u8,
+            output_len: usize,
+            written: *mut usize,
+        ) -> u8;
+
+        pub fn gevtsomi_why(
+            file: *const u8,
+            file_len: usize,
+            step: u32,
+            reason: *mut u8,
+            event: *mut u32,
+        ) -> u8;
+
+        pub fn gevtsomi_encode(
+            head: *const [u8; 4],
+            numbers: *const [u32; 5],
+            value: u64,
+            output: *mut u8,
+            output_len: usize,
+        ) -> u8;
+
+        pub fn gevtsomi_decode(frame: *const u8, frame_len: usize, fields: *mut u64, fields_len: usize)
+            -> u8;
+
+        pub fn gevtsomi_write(
+            note: *const u8,
+            note_len: usize,
+            setup: *const u8,
+            setup_len: usize,
+            records: *const u8,
+            records_len: usize,
+            output: *mut u8,
+            output_len: usize,
+            written: *mut usize,
+        ) -> u8;
+
+        pub fn gevtsomi_workload(
+            seed: u32,
+            note: *const u8,
+            note_len: usize,
+            setup: *const u8,
+            setup_len: usize,
+            count: u32,
+            output: *mut u8,
+            output_len: usize,
+            written: *mut usize,
+        ) -> u8;
     }
 }
 
-pub fn list(file: &[u8], output: &mut [u8]) -> Result<usize, Refusal> {
+/// Returns a refusal unless the number is 0.
+fn accepted(number: u8) -> Result<(), Refused> {
+    match number {
+        0 => Ok(()),
+        number => Err(Refused { number }),
+    }
+}
+
+pub fn list(file: &[u8], output: &mut [u8]) -> Result<usize, Refused> {
     let mut written = 0;
     // SAFETY: both slices are valid for the lengths given with them, and for
     // as long as the call lasts; `written` is a local.
@@ -26,7 +82,7 @@ pub fn list(file: &[u8], output: &mut [u8]) -> Result<usize, Refusal> {
 }
 
 /// Returns the numbers of the reason and of the event's step.
-pub fn why(file: &[u8], step: u32) -> Result<(u8, u32), Refusal> {
+pub fn why(file: &[u8], step: u32) -> Result<(u8, u32), Refused> {
     let (mut reason, mut event) = (0, 0);
     // SAFETY: the slice is valid for its length while the call lasts; `reason`
     // and `event` are locals.
@@ -34,7 +90,7 @@ pub fn why(file: &[u8], step: u32) -> Result<(u8, u32), Refusal> {
     accepted(number).map(|()| (reason, event))
 }
 
-pub fn encode(fields: &Fields, output: &mut [u8]) -> Result<(), Refusal> {
+pub fn encode(fields: &Fields, output: &mut [u8]) -> Result<(), Refused> {
     let head = [fields.kind, fields.client, fields.item, fields.present];
     let numbers = [fields.number, fields.volume_expiry, fields.epoch, fields.version, fields.object_expiry];
     // SAFETY: the slice is valid for its length while the call lasts; the
@@ -44,17 +100,30 @@ pub fn encode(fields: &Fields, output: &mut [u8]) -> Result<(), Refusal> {
     })
 }
 
-pub fn decode(frame: &[u8]) -> Result<Fields, Refusal> {
+pub fn decode(frame: &[u8]) -> Result<Fields, Refused> {
     let mut fields = [0; FIELDS];
     // SAFETY: both slices are valid for the lengths given with them, and for
     // as long as the call lasts.
     accepted(unsafe {
         ffi::gevtsomi_decode(frame.as_ptr(), frame.len(), fields.as_mut_ptr(), fields.len())
     })?;
-    Ok(Fields::of_numbers(fields))
+    let [kind, client, item, present, number, volume_expiry, epoch, version, object_expiry, value] = fields;
+    // Each number comes from a field of this width, so nothing is cut off.
+    Ok(Fields {
+        kind: kind as u8,
+        client: client as u8,
+        item: item as u8,
+        present: present as u8,
+        number: number as u32,
+        volume_expiry: volume_expiry as u32,
+        epoch: epoch as u32,
+        version: version as u32,
+        object_expiry: object_expiry as u32,
+        value,
+    })
 }
 
-pub fn write(note: &[u8], setup: &[u8], records: &[u8], output: &mut [u8]) -> Result<usize, Refusal> {
+pub fn write(note: &[u8], setup: &[u8], records: &[u8], output: &mut [u8]) -> Result<usize, Refused> {
     let mut written = 0;
     // SAFETY: the slices are valid for the lengths given with them, and for
     // as long as the call lasts; `written` is a local.
@@ -80,7 +149,7 @@ pub fn workload(
     setup: &[u8],
     count: u32,
     output: &mut [u8],
-) -> Result<usize, Refusal> {
+) -> Result<usize, Refused> {
     let mut written = 0;
     // SAFETY: as in `write`.
     let number = unsafe {
@@ -97,66 +166,4 @@ pub fn workload(
         )
     };
     accepted(number).map(|()| written)
-}
-
-pub fn fresh(
-    setup: &[u8; SETUP_BYTES],
-    words: &mut Words,
-    values: &mut Values,
-    saved: &mut SavedWords,
-    saved_values: &mut SavedValues,
-) -> Result<(), Refusal> {
-    // SAFETY: the arrays have the lengths that the function's types name, and
-    // are valid while the call lasts.
-    accepted(unsafe {
-        ffi::gevtsomi_fresh(
-            setup.as_ptr(),
-            words.as_mut_ptr(),
-            values.as_mut_ptr(),
-            saved.as_flattened_mut().as_mut_ptr(),
-            saved_values.as_flattened_mut().as_mut_ptr(),
-        )
-    })
-}
-
-pub fn step(
-    setup: &[u8; SETUP_BYTES],
-    words: &mut Words,
-    values: &mut Values,
-    saved: &mut SavedWords,
-    saved_values: &mut SavedValues,
-    record: &[u8; STEP_BYTES],
-    answer: &mut [u64; ANSWER],
-) -> Result<(), Refusal> {
-    // SAFETY: as in `fresh`.
-    accepted(unsafe {
-        ffi::gevtsomi_step(
-            setup.as_ptr(),
-            words.as_mut_ptr(),
-            values.as_mut_ptr(),
-            saved.as_flattened_mut().as_mut_ptr(),
-            saved_values.as_flattened_mut().as_mut_ptr(),
-            record.as_ptr(),
-            answer.as_mut_ptr(),
-        )
-    })
-}
-
-pub fn sound(
-    setup: &[u8; SETUP_BYTES],
-    words: &Words,
-    values: &Values,
-    saved: &SavedWords,
-    saved_values: &SavedValues,
-) -> Result<(), Refusal> {
-    // SAFETY: as in `fresh`.
-    accepted(unsafe {
-        ffi::gevtsomi_sound(
-            setup.as_ptr(),
-            words.as_ptr(),
-            values.as_ptr(),
-            saved.as_flattened().as_ptr(),
-            saved_values.as_flattened().as_ptr(),
-        )
-    })
 }

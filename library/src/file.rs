@@ -1,6 +1,6 @@
 //! Writes run files, from their parts or from a seed.
 
-use crate::{exports, Refusal};
+use crate::{exports, Refused};
 
 /// The most steps that a run file can have.
 pub const STEPS: usize = 4_000;
@@ -23,7 +23,7 @@ pub const WRITE_STACK_BYTES: usize = 278_528;
 /// than [`STEPS`] steps, a step of a known kind has an unused field that is not
 /// 0, the file would be longer than [`FILE_BYTES`](crate::FILE_BYTES), or
 /// `output` is shorter than the file. A refused call writes nothing.
-pub fn write(note: &[u8], setup: &[u8], records: &[u8], output: &mut [u8]) -> Result<usize, Refusal> {
+pub fn write(note: &[u8], setup: &[u8], records: &[u8], output: &mut [u8]) -> Result<usize, Refused> {
     exports::write(note, setup, records, output)
 }
 
@@ -54,6 +54,6 @@ pub fn workload(
     setup: &[u8],
     count: u32,
     output: &mut [u8],
-) -> Result<usize, Refusal> {
+) -> Result<usize, Refused> {
     exports::workload(seed, note, setup, count, output)
 }

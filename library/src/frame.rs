@@ -1,7 +1,7 @@
 //! Converts messages to and from frames.
 
 use crate::message::{Fields, Message};
-use crate::{exports, Refusal};
+use crate::{exports, Refused};
 
 /// The length of a frame.
 pub const FRAME_BYTES: usize = 32;
@@ -12,7 +12,7 @@ pub const FRAME_BYTES: usize = 32;
 /// # Errors
 ///
 /// 8 if `output` is shorter than a frame. A refused call writes nothing.
-pub fn encode(message: &Message, output: &mut [u8]) -> Result<(), Refusal> {
+pub fn encode(message: &Message, output: &mut [u8]) -> Result<(), Refused> {
     exports::encode(&Fields::of(message), output)
 }
 
@@ -22,6 +22,6 @@ pub fn encode(message: &Message, output: &mut [u8]) -> Result<(), Refusal> {
 ///
 /// 8 if the bytes are not a frame: the length is wrong, the kind is unknown,
 /// value present is neither 0 nor 1, or a field that the message lacks is not 0.
-pub fn decode(frame: &[u8]) -> Result<Message, Refusal> {
+pub fn decode(frame: &[u8]) -> Result<Message, Refused> {
     exports::decode(frame).map(|fields| fields.message())
 }

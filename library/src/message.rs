@@ -42,9 +42,6 @@ pub enum Kind {
     Cleared { volume: u8, number: u32, epoch: u32, objects: u32 },
 }
 
-/// The number of fields in a frame.
-pub(crate) const FIELDS: usize = 10;
-
 /// A frame's fields, in its order; those that the kind lacks are 0.
 #[derive(Clone, Copy, Debug, Default)]
 pub(crate) struct Fields {
@@ -93,25 +90,6 @@ impl Fields {
             Kind::Cleared { volume, number, epoch, objects } => {
                 Fields { kind: 8, item: volume, number, epoch, version: objects, ..none }
             }
-        }
-    }
-
-    /// Returns the fields that a call has given. Each number comes from a field
-    /// of this width, so nothing is cut off.
-    pub fn of_numbers(numbers: [u64; FIELDS]) -> Fields {
-        let [kind, client, item, present, number, volume_expiry, epoch, version, object_expiry, value] =
-            numbers;
-        Fields {
-            kind: kind as u8,
-            client: client as u8,
-            item: item as u8,
-            present: present as u8,
-            number: number as u32,
-            volume_expiry: volume_expiry as u32,
-            epoch: epoch as u32,
-            version: version as u32,
-            object_expiry: object_expiry as u32,
-            value,
         }
     }
 

@@ -32,9 +32,9 @@ pub struct Setup {
 }
 
 impl Setup {
-    /// Returns the bytes that [`write`](crate::write),
-    /// [`workload`](crate::workload) and the calls of [`lent`](crate::lent)
-    /// take, whether the setup is in range or not.
+    /// Returns the bytes that [`write`](crate::write) and
+    /// [`workload`](crate::workload) take, whether the setup is in range or
+    /// not.
     pub fn bytes(&self) -> [u8; SETUP_BYTES] {
         let mut bytes = [0; SETUP_BYTES];
         bytes[..3].copy_from_slice(&[self.clients, self.volumes, self.objects]);
@@ -47,8 +47,8 @@ impl Setup {
     }
 }
 
-/// A step of a run. In a run file, fields that its kind does not use are 0; a
-/// step of an unknown kind may have anything in its fields.
+/// A step of a run. Fields that its kind does not use are 0; a step of an
+/// unknown kind may have anything in its fields.
 #[derive(Clone, Copy, Debug, Default, PartialEq, Eq)]
 pub struct Step {
     /// 1 clock, 2 read, 3 ask, 4 write, 5 deliver, 6 lose, 7 double, 8 restart
@@ -69,63 +69,7 @@ pub struct Step {
 }
 
 impl Step {
-    /// Sets the clock.
-    pub fn clock(clock: u32) -> Step {
-        Step { kind: 1, clock, ..Step::default() }
-    }
-
-    /// Reads the client's copy of the object.
-    pub fn read(client: u8, object: u8) -> Step {
-        Step { kind: 2, client, object, ..Step::default() }
-    }
-
-    /// Has the client ask for the object.
-    pub fn ask(client: u8, object: u8) -> Step {
-        Step { kind: 3, client, object, ..Step::default() }
-    }
-
-    /// Writes a value to the object.
-    pub fn write(object: u8, value: u64) -> Step {
-        Step { kind: 4, object, value, ..Step::default() }
-    }
-
-    /// Delivers the message at this place.
-    pub fn deliver(place: u8) -> Step {
-        Step { kind: 5, place, ..Step::default() }
-    }
-
-    /// Loses the message at this place.
-    pub fn lose(place: u8) -> Step {
-        Step { kind: 6, place, ..Step::default() }
-    }
-
-    /// Sends a copy of the message at this place.
-    pub fn double(place: u8) -> Step {
-        Step { kind: 7, place, ..Step::default() }
-    }
-
-    /// Restarts the server.
-    pub fn restart_server() -> Step {
-        Step { kind: 8, ..Step::default() }
-    }
-
-    /// Restarts the client.
-    pub fn restart_client(client: u8) -> Step {
-        Step { kind: 9, client, ..Step::default() }
-    }
-
-    /// Saves the state under a name, 0 to 3.
-    pub fn save(name: u8) -> Step {
-        Step { kind: 10, place: name, ..Step::default() }
-    }
-
-    /// Returns to the state that was saved under a name.
-    pub fn return_to(name: u8) -> Step {
-        Step { kind: 11, place: name, ..Step::default() }
-    }
-
-    /// Returns the record that [`write`](crate::write) and
-    /// [`lent::step`](crate::lent::step) take.
+    /// Returns the record that [`write`](crate::write) takes.
     pub fn record(&self) -> [u8; STEP_BYTES] {
         let mut record = [0; STEP_BYTES];
         record[..4].copy_from_slice(&[self.kind, self.client, self.object, self.place]);

@@ -1,6 +1,6 @@
 //! Tells why a read was answered "ask first".
 
-use crate::{exports, Refusal};
+use crate::{exports, Refused};
 
 /// The most stack that [`why`] needs.
 pub const WHY_STACK_BYTES: usize = 106_496;
@@ -46,7 +46,7 @@ pub struct Why {
 ///
 /// 9 if `file` is not a run file; also if it is one from before version 0.6.0,
 /// whose delay is 0.
-pub fn why(file: &[u8], step: u32) -> Result<Option<Why>, Refusal> {
+pub fn why(file: &[u8], step: u32) -> Result<Option<Why>, Refused> {
     let (number, event) = exports::why(file, step)?;
     Ok(reason(number).map(|reason| Why { reason, event }))
 }

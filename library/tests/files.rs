@@ -4,7 +4,7 @@
 use std::thread;
 
 use gevtsomi::{
-    workload, write, Refusal, Setup, Step, FILE_BYTES, OBJECTS, STEPS, STEP_BYTES, WRITE_STACK_BYTES,
+    workload, write, Refused, Setup, Step, FILE_BYTES, OBJECTS, STEPS, STEP_BYTES, WRITE_STACK_BYTES,
 };
 
 const DOCUMENT: &[u8] = include_bytes!("data/document.run");
@@ -59,7 +59,7 @@ fn ten_steps_of_seed_0() -> Vec<u8> {
 
 /// Returns what a call writes to an output of `room` bytes. Checks that it
 /// writes nothing past the file.
-fn written(room: usize, call: impl FnOnce(&mut [u8]) -> Result<usize, Refusal>) -> Vec<u8> {
+fn written(room: usize, call: impl FnOnce(&mut [u8]) -> Result<usize, Refused>) -> Vec<u8> {
     let mut output = vec![0xaa; room];
     let len = call(&mut output).expect("a file");
     assert!(output[len..].iter().all(|&byte| byte == 0xaa), "bytes past the file stay");
@@ -69,9 +69,9 @@ fn written(room: usize, call: impl FnOnce(&mut [u8]) -> Result<usize, Refusal>) 
 
 /// Checks that a call is refused with this number and leaves the output as it
 /// was.
-fn refused(number: u8, room: usize, call: impl FnOnce(&mut [u8]) -> Result<usize, Refusal>) {
+fn refused(number: u8, room: usize, call: impl FnOnce(&mut [u8]) -> Result<usize, Refused>) {
     let mut output = vec![0xaa; room];
-    assert_eq!(call(&mut output), Err(Refusal { number }), "{room} bytes of output");
+    assert_eq!(call(&mut output), Err(Refused { number }), "{room} bytes of output");
     assert!(output.iter().all(|&byte| byte == 0xaa), "{room} bytes of output");
 }
 
@@ -210,8 +210,8 @@ fn the_stack_that_is_named_is_enough() {
 
 fn on_a_thread(
     stack: usize,
-    call: impl FnOnce(&mut [u8]) -> Result<usize, Refusal> + Send,
-) -> Result<usize, Refusal> {
+    call: impl FnOnce(&mut [u8]) -> Result<usize, Refused> + Send,
+) -> Result<usize, Refused> {
     let mut output = vec![0; FILE_BYTES];
     thread::scope(|scope| {
         let thread = thread::Builder::new().stack_size(stack);

@@ -1,8 +1,8 @@
 //! Frames: the bytes of each kind, and refusals.
 
-use gevtsomi::{decode, encode, Kind, Message, Refusal, FRAME_BYTES};
+use gevtsomi::{decode, encode, Kind, Message, Refused, FRAME_BYTES};
 
-const REFUSED: Refusal = Refusal { number: 8 };
+const REFUSED: Refused = Refused { number: 8 };
 
 const GRANT: Kind = Kind::Grant {
     object: 5,

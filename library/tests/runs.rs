@@ -2,7 +2,7 @@
 
 use std::thread;
 
-use gevtsomi::{list, Refusal, FILE_BYTES, LISTING_BYTES, LIST_STACK_BYTES};
+use gevtsomi::{list, Refused, FILE_BYTES, LISTING_BYTES, LIST_STACK_BYTES};
 
 const FILE: &[u8] = include_bytes!("data/document.run");
 const LISTING: &[u8] = include_bytes!("data/document.listing");
@@ -24,7 +24,7 @@ fn an_output_of_the_listings_length_is_enough() {
 
 fn refused(file: &[u8], room: usize, number: u8) {
     let mut output = vec![0xaa; room];
-    assert_eq!(list(file, &mut output), Err(Refusal { number }));
+    assert_eq!(list(file, &mut output), Err(Refused { number }));
     assert!(output.iter().all(|&byte| byte == 0xaa), "{room} bytes of output");
 }
 

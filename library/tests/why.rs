@@ -3,7 +3,7 @@
 
 use std::thread;
 
-use gevtsomi::{why, write, Reason, Refusal, Setup, Step, Why, FILE_BYTES, OBJECTS, STEPS, WHY_STACK_BYTES};
+use gevtsomi::{why, write, Reason, Refused, Setup, Step, Why, FILE_BYTES, OBJECTS, STEPS, WHY_STACK_BYTES};
 
 const DOCUMENT: &[u8] = include_bytes!("data/document.run");
 
@@ -100,7 +100,7 @@ fn what_is_no_run_file_is_refused() {
     no_delay[44] = 0;
     for file in [&[], &DOCUMENT[1..], &DOCUMENT[..DOCUMENT.len() - 1], &too_long, &no_delay] {
         for step in [0, 1, 13, u32::MAX] {
-            assert_eq!(why(file, step), Err(Refusal { number: 9 }));
+            assert_eq!(why(file, step), Err(Refused { number: 9 }));
             let (mut reason, mut event) = (77, 88);
             // SAFETY: the slice is valid for its length, and the outputs are
             // locals.

@@ -38,17 +38,8 @@ impl State {
 
     /// Returns the parts as a step call takes them, for a setup in range.
     pub fn parts(&mut self, setup: &Setup) -> (&mut Tables, &mut [ObjectCopy], &mut [Request]) {
-        self.lend(setup.copy_count(), setup.clients.into())
-    }
-
-    /// Returns the parts with this many records, which may be others than the
-    /// setup has.
-    pub fn lend(
-        &mut self,
-        copies: usize,
-        requests: usize,
-    ) -> (&mut Tables, &mut [ObjectCopy], &mut [Request]) {
-        (&mut self.tables, &mut self.copies[..copies], &mut self.requests[..requests])
+        let copies = &mut self.copies[..setup.copy_count()];
+        (&mut self.tables, copies, &mut self.requests[..setup.clients.into()])
     }
 }
 

@@ -19,8 +19,8 @@ pub enum Cause {
 /// object lease does while their volume lease ends later.
 #[derive(Clone, Copy, Debug, Default, PartialEq, Eq)]
 pub struct Leases {
-    pub volume: u32,
-    pub object: u32,
+    pub volume: u16,
+    pub object: u16,
 }
 
 /// Returns what fixes the latest end of the write that the step opened, if it
@@ -29,28 +29,29 @@ pub struct Leases {
 /// timeout.
 pub fn cause(moment: &Moment) -> Option<Cause> {
     let object = usize::from(moment.step.object);
-    let opened = moment.step.kind == WRITE && !moment.refused();
-    let write = moment.after.write(object).filter(|_| opened)?;
-    let guard = moment.model.server_before().guard[moment.setup.volume(object)];
-    let timeout = moment.before.clock() + moment.setup.timeout;
-    let (lease, leases) = last_leases(moment, object, write.waiting);
-    Some(if lease >= guard.max(timeout) {
-        Cause::Leases(leases)
-    } else if guard >= timeout {
-        Cause::Guard
-    } else {
-        Cause::Timeout
+    let opened = moment.step.kind == WRITE && !moment.refused() && moment.server().stands(object);
+    opened.then(|| {
+        let guard = moment.server_before().guard[moment.setup.volume(object)];
+        let timeout = moment.before.tables.clock + moment.setup.timeout;
+        let (lease, leases) = last_leases(moment, object);
+        if lease >= guard.max(timeout) {
+            Cause::Leases(leases)
+        } else if guard >= timeout {
+            Cause::Guard
+        } else {
+            Cause::Timeout
+        }
     })
 }
 
 /// Returns when the last client waited for can no longer show its copy, and the
 /// leases that end then.
-fn last_leases(moment: &Moment, object: usize, waiting: u32) -> (u32, Leases) {
-    let before = moment.model.server_before();
+fn last_leases(moment: &Moment, object: usize) -> (u32, Leases) {
+    let before = moment.server_before();
     let by_volume = &before.volume_expiry[moment.setup.volume(object)];
     let by_object = &before.object_expiry[object];
     let (mut last, mut leases) = (0, Leases::default());
-    for client in members(waiting) {
+    for client in members(moment.server().write[object].waiting.into()) {
         let end = by_volume[client].min(by_object[client]);
         if end > last {
             (last, leases) = (end, Leases::default());
@@ -66,7 +67,7 @@ fn last_leases(moment: &Moment, object: usize, waiting: u32) -> (u32, Leases) {
 impl Cause {
     /// Returns the cause in words, with each lease that ends then.
     pub fn words(&self) -> String {
-        let of = |what: &str, set: u32| {
+        let of = |what: &str, set: u16| {
             let ending = if set.count_ones() == 1 { "" } else { "s" };
             (set != 0).then(|| format!("the {what} lease{ending} of {}", clients(set)))
         };

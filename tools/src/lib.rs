@@ -1,10 +1,10 @@
 //! Tools for whoever writes or reads runs: a text form of run files, a
 //! listing in words, a picture over time, a program beside the model.
 //!
-//! The proved library takes each step. The tools put into words or lines what
-//! its state holds before and after, and hold what a text expects to its answer.
-//! The model takes the same steps and explains why. The library writes every run
-//! file, too.
+//! All state comes from the model: the tools run it step by step and put
+//! into words or lines what its tables hold before and after each step.
+//! What a text expects is held to the proved library, which writes every run
+//! file too.
 
 pub mod arguments;
 pub mod check;

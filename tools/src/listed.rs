@@ -1,9 +1,6 @@
 //! Answers as a listing shows them, and listings read back.
 
-use gevtsomi::{Outcome, Refusal};
-
-/// What the library answers to a step.
-pub type Answered = Result<Outcome, Refusal>;
+use model::answer::Answer;
 
 /// The two numbers of a line of the listing.
 #[derive(Clone, Copy, Debug, PartialEq, Eq)]
@@ -28,14 +25,9 @@ impl Listed {
         Listed { answer: 4, value: number }
     }
 
-    pub fn of(answer: &Answered) -> Listed {
-        match answer {
-            Ok(Outcome::Done) => Listed::DONE,
-            Ok(Outcome::Shown(value)) => Listed::shown(*value),
-            Ok(Outcome::AskFirst) => Listed::ASK_FIRST,
-            Ok(Outcome::Completed(count)) => Listed::completed((*count).into()),
-            Err(refusal) => Listed::refused(refusal.number.into()),
-        }
+    pub fn of(answer: &Answer) -> Listed {
+        let (answer, value) = answer.numbers();
+        Listed { answer, value }
     }
 
     /// Returns the refusal's number, if this is one.

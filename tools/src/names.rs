@@ -1,7 +1,7 @@
 //! Messages and sets in words.
 
-use gevtsomi::{Kind, Message};
 use model::bits::members;
+use model::message::{Kind, Message};
 
 use crate::voice::Voice;
 
@@ -9,16 +9,7 @@ use crate::voice::Voice;
 pub const KINDS: [&str; 8] = ["RENEW", "GRANT", "INVALIDATE", "ACK", "OFFER", "DROPPED", "BATCH", "CLEARED"];
 
 pub fn kind(kind: &Kind) -> &'static str {
-    KINDS[match kind {
-        Kind::Renew { .. } => 0,
-        Kind::Grant { .. } => 1,
-        Kind::Invalidate { .. } => 2,
-        Kind::Ack { .. } => 3,
-        Kind::Offer { .. } => 4,
-        Kind::Dropped { .. } => 5,
-        Kind::Batch { .. } => 6,
-        Kind::Cleared { .. } => 7,
-    }]
+    KINDS[usize::from(kind.code()) - 1]
 }
 
 /// Returns the direction of a kind, by its name: `to` a client, or `from` one.
@@ -40,14 +31,10 @@ pub fn about(kind: &str) -> &'static str {
 /// Returns the number of the object or volume that a message is about.
 pub fn item(message: &Message) -> u8 {
     match message.kind {
-        Kind::Renew { object, .. }
-        | Kind::Grant { object, .. }
-        | Kind::Invalidate { object, .. }
-        | Kind::Ack { object, .. } => object,
-        Kind::Offer { volume, .. }
-        | Kind::Dropped { volume, .. }
-        | Kind::Batch { volume, .. }
-        | Kind::Cleared { volume, .. } => volume,
+        Kind::Renew { object, .. } | Kind::Invalidate { object, .. } | Kind::Ack { object, .. } => object,
+        Kind::Grant(grant) => grant.object,
+        Kind::Offer { volume, .. } | Kind::Dropped { volume, .. } => volume,
+        Kind::Batch(batch) | Kind::Cleared(batch) => batch.volume,
     }
 }
 
@@ -60,12 +47,11 @@ pub fn from_server(message: &Kind) -> bool {
 pub fn label(message: &Message) -> String {
     let name = kind(&message.kind);
     match message.kind {
-        Kind::Renew { number, .. }
-        | Kind::Grant { number, .. }
-        | Kind::Offer { number, .. }
-        | Kind::Dropped { number, .. }
-        | Kind::Batch { number, .. }
-        | Kind::Cleared { number, .. } => format!("{name} {number}"),
+        Kind::Renew { number, .. } | Kind::Offer { number, .. } | Kind::Dropped { number, .. } => {
+            format!("{name} {number}")
+        }
+        Kind::Grant(grant) => format!("{name} {}", grant.number),
+        Kind::Batch(batch) | Kind::Cleared(batch) => format!("{name} {}", batch.number),
         Kind::Invalidate { object, version, .. } | Kind::Ack { object, version, .. } => {
             format!("{name} object {object} version {version}")
         }
@@ -97,16 +83,15 @@ pub fn fields(message: &Message, voice: &Voice) -> String {
         Kind::Offer { volume, epoch, .. } | Kind::Dropped { volume, epoch, .. } => {
             format!("volume {volume}, epoch {epoch}")
         }
-        Kind::Batch { volume, epoch, objects: set, .. }
-        | Kind::Cleared { volume, epoch, objects: set, .. } => {
-            format!("volume {volume}, epoch {epoch}, {}", objects(set))
+        Kind::Batch(batch) | Kind::Cleared(batch) => {
+            format!("volume {}, epoch {}, {}", batch.volume, batch.epoch, objects(batch.set))
         }
-        Kind::Grant { object, volume_expiry, epoch, version, object_expiry, value, .. } => {
-            let value = value.map_or("no value".into(), |value| format!("value {value}"));
-            let leases = (voice.ticks(volume_expiry), voice.ticks(object_expiry));
+        Kind::Grant(grant) => {
+            let value = grant.value.map_or("no value".into(), |value| format!("value {value}"));
+            let (volume, object) = (voice.ticks(grant.volume_expiry), voice.ticks(grant.object_expiry));
             format!(
-                "object {object}, volume lease to {}, object lease to {}, epoch {epoch}, version {version}, {value}",
-                leases.0, leases.1
+                "object {}, volume lease to {volume}, object lease to {object}, epoch {}, version {}, {value}",
+                grant.object, grant.epoch, grant.version
             )
         }
     }
@@ -117,8 +102,8 @@ pub fn whole(message: &Message, voice: &Voice) -> String {
 }
 
 /// Returns "client 1", "clients 0, 2" or "nobody".
-pub fn clients(set: u32) -> String {
-    listed("client", set).unwrap_or("nobody".into())
+pub fn clients(set: u16) -> String {
+    listed("client", set.into()).unwrap_or("nobody".into())
 }
 
 /// Returns "object 1", "objects 0, 2" or "no object".

@@ -1,36 +1,19 @@
 //! Runs executed by the proved library.
 
-use gevtsomi::{list, State, Why, LISTING_BYTES};
+use gevtsomi::{list, Why, LISTING_BYTES};
 use model::gen::runs::Run;
-use model::setup::Setup;
-use model::step_record::Step;
 
+use crate::listed::{line, Listed};
 use crate::text::to_file;
 
-/// Returns the setup as the library takes it.
-pub fn setup(setup: &Setup) -> gevtsomi::Setup {
-    let Setup { clients, volumes, objects, volume_lease, object_lease, timeout, delay, volume_of } = *setup;
-    gevtsomi::Setup { clients, volumes, objects, volume_lease, object_lease, timeout, delay, volume_of }
-}
-
-/// Returns the step as the library takes it.
-pub fn step(step: &Step) -> gevtsomi::Step {
-    let Step { kind, client, object, place, clock, value } = *step;
-    gevtsomi::Step { kind, client, object, place, clock, value }
-}
-
-/// Returns the state before the first step of a run with this setup. The tools
-/// make no run whose setup is out of range.
-pub fn fresh(of: &Setup) -> State {
-    State::fresh(&setup(of)).expect("a setup in range")
-}
-
-/// Returns the library's listing of a run, which it never refuses.
+/// Returns the library's listing of a run.
 pub fn listing(run: &Run) -> Vec<u8> {
-    let mut lines = vec![0; LISTING_BYTES];
-    let len = list(&to_file(run), &mut lines).expect("a run file, and room for any listing");
-    lines.truncate(len);
-    lines
+    listing_of(&to_file(run))
+}
+
+/// Returns the answer to each step.
+pub fn answers(run: &Run) -> Vec<Listed> {
+    answers_of(&to_file(run))
 }
 
 /// Returns why the run's last step was answered "ask first", if it is a read
@@ -38,4 +21,19 @@ pub fn listing(run: &Run) -> Vec<u8> {
 pub fn why(run: &Run) -> Option<Why> {
     let last = run.steps.len() as u32;
     gevtsomi::why(&to_file(run), last).expect("a run file")
+}
+
+/// Returns the listing of a file that the library wrote, which it never
+/// refuses.
+fn listing_of(file: &[u8]) -> Vec<u8> {
+    let mut lines = vec![0; LISTING_BYTES];
+    let len = list(file, &mut lines).expect("a run file, and room for any listing");
+    lines.truncate(len);
+    lines
+}
+
+pub fn answers_of(file: &[u8]) -> Vec<Listed> {
+    let lines = String::from_utf8(listing_of(file)).expect("a listing is text");
+    let answer = |text| line(text).expect("a line of a listing").1;
+    lines.lines().skip(1).map(answer).collect()
 }

@@ -1,7 +1,7 @@
 //! Says what is wrong with a refused run file, or with a workload that has
 //! none.
 
-use gevtsomi::Refusal;
+use gevtsomi::Refused;
 use model::limits::{BAD_FILE, FILE_BYTES, OBJECTS, STEPS};
 use model::runfile::{distance, Fault};
 use model::setup::{Field, OutOfRange};
@@ -19,7 +19,7 @@ pub fn told(fault: &Fault) -> String {
 
 /// Returns why a workload has no file. Its setup is in range, so two reasons
 /// are left.
-pub fn no_workload(refused: Refusal, note_len: usize, count: u32) -> String {
+pub fn no_workload(refused: Refused, note_len: usize, count: u32) -> String {
     let count = count as usize;
     let reason = if count > STEPS {
         format!("found {count} steps, expected at most {STEPS}")

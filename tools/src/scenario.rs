@@ -6,8 +6,9 @@ use std::ops::RangeInclusive;
 use model::gen::runs::Run;
 
 use crate::listed::Listed;
+use crate::proved;
 use crate::text::actions::Action;
-use crate::text::script::{Line, Script, Written, WrittenOut};
+use crate::text::script::{Line, Script, WrittenOut};
 use crate::text::words::Trouble;
 use crate::trace::{walk_in, Moment};
 use crate::voice::Voice;
@@ -100,11 +101,11 @@ impl From<Run> for Scenario {
 impl From<Script> for Scenario {
     fn from(script: Script) -> Scenario {
         let WrittenOut { run, steps, stopped } = script.as_far_as_it_goes();
-        let origin = |step: &Written| Origin {
+        let origins = steps.iter().zip(proved::answers(&run)).map(|(step, found)| Origin {
             line: step.line,
-            expectation: step.expected.map(|expected| Expectation { expected, found: step.answer }),
-        };
-        let steps = steps.iter().map(origin).collect();
+            expectation: step.expected.map(|expected| Expectation { expected, found }),
+        });
+        let steps = origins.collect();
         let Script { voice, lines, opening, ending, .. } = script;
         Scenario { run, voice, source: Some(Source { opening, lines, ending, steps, stopped }) }
     }
@@ -114,13 +115,6 @@ impl Scenario {
     /// Calls `each` for every step of the run, in the user's voice.
     pub fn walk(&self, each: impl FnMut(&Moment)) {
         walk_in(&self.run, self.voice, each);
-    }
-
-    /// Returns the answer to each step.
-    pub fn answers(&self) -> Vec<Listed> {
-        let mut answers = Vec::with_capacity(self.run.steps.len());
-        self.walk(|moment| answers.push(Listed::of(&moment.answer)));
-        answers
     }
 
     /// Returns the line of the text that this step comes from.

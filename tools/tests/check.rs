@@ -2,12 +2,12 @@
 
 mod common;
 
-use common::{example, example_path, run_program, with_returns};
+use common::{example, example_path, run_program};
 use model::examples::all;
 use model::gen::runs::run;
 use tools::scenario::Scenario;
 use tools::text::script;
-use tools::{check, proved};
+use tools::{check, proved, text};
 
 const RUNTEXT: &str = env!("CARGO_BIN_EXE_runtext");
 
@@ -76,21 +76,18 @@ fn every_failure_is_told_in_words() {
     assert_eq!(verdict(&text), ("2 of 5 expectations failed".into(), told));
 }
 
-/// The answers to steps, taken one at a time, are those of the run's listing, the
-/// library's and the model's, for runs of all kinds.
+/// The library's answers are those of the listing, for runs of all kinds.
 #[test]
-fn answers_are_those_of_the_listings() {
+fn answers_are_the_models() {
     for number in 0..100 {
-        let scenario = Scenario::from(with_returns(run(31, number)));
-        let lines: String = scenario
-            .answers()
+        let run = run(31, number);
+        let model = String::from_utf8(model::listing::listing(&text::to_file(&run))).unwrap();
+        let lines = proved::answers(&run)
             .iter()
             .enumerate()
             .map(|(place, listed)| format!("{} {} {}\n", place + 1, listed.answer, listed.value))
-            .collect();
-        let answers = format!("step answer value\n{lines}");
-        assert_eq!(answers.as_bytes(), proved::listing(&scenario.run), "run {number}");
-        assert_eq!(answers.as_bytes(), model::listing::listing(&scenario.run.file()), "run {number}");
+            .collect::<String>();
+        assert_eq!(format!("step answer value\n{lines}"), model, "run {number}");
     }
 }
 
@@ -143,7 +140,7 @@ fn examples_expect_what_they_are_for() {
         let verdict = check::verdict(&scenario);
         assert!(verdict.holds(), "{}: {:?}", example.name, verdict.failures);
         assert!(scenario.stopped().is_none());
-        for (place, answer) in scenario.answers().iter().enumerate() {
+        for (place, answer) in proved::answers(&scenario.run).iter().enumerate() {
             let kind = scenario.run.steps[place].kind;
             let told = [model::step_record::READ, model::step_record::WRITE].contains(&kind);
             let wanted = told || answer.answer > 2;

@@ -10,8 +10,9 @@ use std::path::Path;
 use boxes::style::Style;
 use boxes::{number, parts, Part, Shape};
 use common::{example, with_returns};
-use gevtsomi::{Kind, Message, Outcome};
+use model::answer::Answer;
 use model::gen::runs::{run, Run};
+use model::message::{Kind, Message};
 use tools::latest_end::{Cause, Leases};
 use tools::picture::drawn;
 use tools::picture::layout::{Window, COLUMN};
@@ -56,12 +57,12 @@ fn with_longest_numbers(mut timeline: Timeline) -> Timeline {
     }
     for view in &mut timeline.steps {
         view.message.as_mut().map(longest);
-        view.cause = view.cause.map(|_| Cause::Leases(Leases { volume: 0xffff, object: 0 }));
+        view.cause = view.cause.map(|_| Cause::Leases(Leases { volume: u16::MAX, object: 0 }));
         (view.step.value, view.step.clock) = (u64::MAX, u32::MAX);
         view.written = steps::line(&view.step);
         let moved = view.clock != view.clock_before;
         (view.clock_before, view.clock) = (u32::MAX - u32::from(moved), u32::MAX);
-        if let Ok(Outcome::Shown(value)) = &mut view.answer {
+        if let Answer::Shown(value) = &mut view.answer {
             *value = u64::MAX;
         }
     }
@@ -76,15 +77,15 @@ fn longest(message: &mut Message) {
         Kind::Offer { number, epoch, .. } | Kind::Dropped { number, epoch, .. } => {
             (*number, *epoch) = (u32::MAX, u32::MAX)
         }
-        Kind::Batch { number, epoch, objects, .. } | Kind::Cleared { number, epoch, objects, .. } => {
-            (*number, *epoch, *objects) = (u32::MAX, u32::MAX, u32::MAX)
+        Kind::Batch(batch) | Kind::Cleared(batch) => {
+            (batch.number, batch.epoch, batch.set) = (u32::MAX, u32::MAX, u32::MAX)
         }
         Kind::Invalidate { version, epoch, .. } | Kind::Ack { version, epoch, .. } => {
             (*version, *epoch) = (u32::MAX, u32::MAX)
         }
-        Kind::Grant { number, epoch, version, value, .. } => {
-            (*number, *version, *epoch) = (u32::MAX, u32::MAX, u32::MAX);
-            *value = value.map(|_| u64::MAX);
+        Kind::Grant(grant) => {
+            (grant.number, grant.version, grant.epoch) = (u32::MAX, u32::MAX, u32::MAX);
+            grant.value = grant.value.map(|_| u64::MAX);
         }
     }
 }
@@ -301,7 +302,7 @@ fn bars_and_columns_differ_in_colour() {
 fn receiver(message: &Message) -> String {
     let from_server = matches!(
         message.kind,
-        Kind::Grant { .. } | Kind::Invalidate { .. } | Kind::Offer { .. } | Kind::Batch { .. }
+        Kind::Grant(_) | Kind::Invalidate { .. } | Kind::Offer { .. } | Kind::Batch(_)
     );
     if from_server {
         format!("client {}", message.client)

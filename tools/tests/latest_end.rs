@@ -1,4 +1,4 @@
-//! What fixes a write's latest end, compared with the library's state.
+//! What fixes a write's latest end, compared with the model's tables.
 
 use model::bits::members;
 use model::gen::runs::run;
@@ -11,32 +11,34 @@ use tools::trace::{walk, Moment};
 /// Returns the times that a cause names, as the tables before the write have
 /// them, each with its client.
 fn named(moment: &Moment, cause: &Cause) -> Vec<(Option<usize>, u32)> {
-    let (before, object) = (moment.before, usize::from(moment.step.object));
+    let (server, object) = (moment.server_before(), usize::from(moment.step.object));
     let volume = moment.setup.volume(object);
     match cause {
         Cause::Leases(leases) => {
-            let by_volume = |client| (Some(client), before.volume_lease(client, volume));
-            let by_object = |client| (Some(client), before.lease(client, object));
-            members(leases.volume).map(by_volume).chain(members(leases.object).map(by_object)).collect()
+            let by_volume = |client| (Some(client), server.volume_expiry[volume][client]);
+            let by_object = |client| (Some(client), server.object_expiry[object][client]);
+            let of_volume = members(leases.volume.into()).map(by_volume);
+            of_volume.chain(members(leases.object.into()).map(by_object)).collect()
         }
-        Cause::Guard => vec![(None, before.guard(volume))],
-        Cause::Timeout => vec![(None, before.clock() + moment.setup.timeout)],
+        Cause::Guard => vec![(None, server.guard[volume])],
+        Cause::Timeout => vec![(None, moment.before.tables.clock + moment.setup.timeout)],
     }
 }
 
-/// Checks that every time named is the write's latest end. A client is named
+/// Checks that every time named is the model's latest end. A client is named
 /// once, is waited for and has no lease that ends earlier; no other client
 /// waited for lasts as long.
 fn assert_fixes(moment: &Moment, cause: &Cause, name: &str) {
-    let (before, object) = (moment.before, usize::from(moment.step.object));
-    let write = moment.after.write(object).expect("a standing write");
+    let (server, object) = (moment.server_before(), usize::from(moment.step.object));
+    let write = &moment.server().write[object];
     let named = named(moment, cause);
     assert!(!named.is_empty(), "{name}: nothing fixes the end");
     assert!(named.iter().all(|(_, time)| *time == write.latest_end), "{name}: {cause:?}");
     let is_named = |client| named.iter().filter(|(named, _)| *named == Some(client)).count();
     assert!(named.iter().filter_map(|(client, _)| *client).all(|client| write.waiting >> client & 1 == 1));
-    for client in members(write.waiting) {
-        let leases = [before.volume_lease(client, moment.setup.volume(object)), before.lease(client, object)];
+    for client in members(write.waiting.into()) {
+        let leases =
+            [server.volume_expiry[moment.setup.volume(object)][client], server.object_expiry[object][client]];
         let last = leases.iter().all(|&end| end >= write.latest_end);
         assert_eq!(is_named(client), usize::from(last), "{name}: client {client}, {cause:?}");
     }
@@ -44,13 +46,13 @@ fn assert_fixes(moment: &Moment, cause: &Cause, name: &str) {
 
 /// Every write that stands after its step has its cause, of every kind.
 #[test]
-fn the_cause_has_the_writes_time() {
+fn the_cause_has_the_models_time() {
     let (mut volume, mut object, mut guard, mut timeout, mut several) = (0, 0, 0, 0, 0);
     for (seed, number) in (1..=6).flat_map(|seed| (0..100).map(move |number| (seed, number))) {
         walk(&run(seed, number), |moment| {
             let place = usize::from(moment.step.object);
             let opened = moment.step.kind == WRITE && !moment.refused();
-            let stands = opened && moment.after.write(place).is_some();
+            let stands = opened && moment.server().stands(place);
             let cause = cause(moment);
             assert_eq!(cause.is_some(), stands);
             let Some(cause) = cause else { return };

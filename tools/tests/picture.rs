@@ -3,10 +3,9 @@
 mod common;
 
 use common::{example, run_program, with_returns};
-use gevtsomi::{Kind, Message};
 use model::gen::runs::{run, Run};
+use model::message::{Kind, Message};
 use tools::line::Lines;
-use tools::listed::Listed;
 use tools::picture::layout::Window;
 use tools::text::from_file;
 use tools::timeline::spans::Span;
@@ -90,9 +89,8 @@ fn every_message_and_read_is_there() {
     for number in 2..50 {
         let run = with_returns(run(22, number));
         let (picture, timeline) = (svg(&run, whole(&run)), Timeline::new(&run));
-        let answered = |answer: u8| {
-            timeline.steps.iter().filter(|view| Listed::of(&view.answer).answer == answer).count()
-        };
+        let answered =
+            |answer: u8| timeline.steps.iter().filter(|view| view.answer.numbers().0 == answer).count();
         assert_eq!(count(&picture, "arrow "), timeline.flights.len() + 8, "run {number}");
         assert_eq!(count(&picture, "shown\""), answered(1) + 1);
         assert_eq!(count(&picture, "ask-first\""), answered(2) + 1);
@@ -104,15 +102,13 @@ fn every_message_and_read_is_there() {
 
 /// Returns the title of a BATCH or CLEARED, up to its end.
 fn title_of_set(message: &Message) -> Option<(&'static str, String)> {
-    let (kind, way, volume, number, epoch, set) = match message.kind {
-        Kind::Batch { volume, number, epoch, objects } => ("batch", "to", volume, number, epoch, objects),
-        Kind::Cleared { volume, number, epoch, objects } => {
-            ("cleared", "from", volume, number, epoch, objects)
-        }
+    let (kind, way, batch) = match message.kind {
+        Kind::Batch(batch) => ("batch", "to", batch),
+        Kind::Cleared(batch) => ("cleared", "from", batch),
         _ => return None,
     };
-    let (name, client) = (kind.to_uppercase(), message.client);
-    let fields = format!("volume {volume}, epoch {epoch}, {}", objects(set));
+    let (name, number, client) = (kind.to_uppercase(), batch.number, message.client);
+    let fields = format!("volume {}, epoch {}, {}", batch.volume, batch.epoch, objects(batch.set));
     Some((kind, format!("<title>{name} {number} {way} client {client} ({fields})\n")))
 }
 

@@ -7,8 +7,8 @@ use std::collections::BTreeSet;
 
 use boxes::{attribute, number, parts, Part};
 use common::{run_program, with_returns, SETUP};
-use gevtsomi::Kind;
 use model::gen::runs::{run, Run};
+use model::message::Kind;
 use tools::explain::{listing, told};
 use tools::picture::layout::{Window, COLUMN};
 use tools::picture::{drawn, page};

@@ -5,12 +5,10 @@
 mod common;
 
 use common::run_program;
-use gevtsomi::Refusal;
 use tools::explain::{answered, told};
 use tools::listed::Listed;
 use tools::scenario::{Expectation, Scenario};
 use tools::text::script;
-use tools::trace::Moment;
 
 const EXPLAIN: &str = env!("CARGO_BIN_EXE_explain");
 const PICTURE: &str = env!("CARGO_BIN_EXE_picture");
@@ -101,19 +99,17 @@ fn a_run_file_has_no_source() {
     assert!(explained.starts_with("1 (clock 0) ask client 0 object 0: done: "), "{explained}");
 }
 
-/// The model explains why: it says nothing about an answer that it would not
+/// Reasons come from the model: it says nothing about an answer that it did not
 /// give.
 #[test]
 fn reasons_are_told_of_the_models_answer_alone() {
     scenario(TEXT).walk(|moment| {
-        let told = |moment: &Moment| {
-            let found = Listed::of(&moment.answer);
-            answered(moment, Some(Expectation { expected: Listed::shown(9), found }))
-        };
-        let other = Moment { answer: Err(Refusal { number: 6 }), ..*moment };
-        assert_eq!(told(&other), "FAILED: expected shown 9, found refused 6");
-        let same = format!("FAILED: expected shown 9, found {}: ", Listed::of(&moment.answer).words());
-        assert!(told(moment).starts_with(&same), "{}", told(moment));
+        let answer = Listed::of(&moment.answer);
+        let told = |found| answered(moment, Some(Expectation { expected: Listed::shown(9), found }));
+        let other = Listed::refused(6);
+        assert_eq!(told(other), "FAILED: expected shown 9, found refused 6");
+        let same = format!("FAILED: expected shown 9, found {}: ", answer.words());
+        assert!(told(answer).starts_with(&same), "{}", told(answer));
     });
 }
 

@@ -124,10 +124,8 @@ fn generated_states_have_their_rows() {
         let scenario = Scenario::from(run(5, number));
         let run = &scenario.run;
         let Some((text, copies, queue)) = at(&scenario, run.steps.len() / 2, |moment| {
-            let held = |client| {
-                moment.objects().filter(move |&object| moment.after.copy(client, object).version != 0)
-            };
-            (tables::after(moment), moment.clients().flat_map(held).count(), moment.queue.len())
+            let held = moment.after.copies(moment.setup).iter().filter(|copy| copy.version != 0).count();
+            (tables::after(moment), held, moment.after.tables.queue.len)
         }) else {
             continue;
         };

@@ -1,4 +1,5 @@
-//! The timeline of generated runs, compared with the tables at each step.
+//! The timeline of generated runs, compared with the model's tables at each
+//! step.
 
 mod common;
 
@@ -6,13 +7,12 @@ use std::collections::BTreeMap;
 
 use common::with_returns;
 use model::gen::runs::{run, Run};
-use tools::listed::Listed;
 use tools::timeline::flights::{End, Flights};
 use tools::timeline::tracks::Track;
 use tools::timeline::{tracks, Timeline};
 use tools::trace::walk;
 
-/// The flights under way are the queue, in order.
+/// The flights under way are the model's queue, in order.
 #[test]
 fn flights_follow_the_queue() {
     let mut ends = [0; 5];
@@ -20,7 +20,7 @@ fn flights_follow_the_queue() {
         let mut flights = Flights::default();
         walk(&with_returns(run(5, number)), |moment| {
             flights.follow(moment);
-            assert!(flights.queue().eq(moment.after.messages()));
+            assert!(flights.queue().eq(moment.after.tables.queue.messages().iter().copied()));
         });
         for flight in &flights.all {
             ends[match flight.end {
@@ -43,7 +43,8 @@ fn flights_know_when_they_are_under_way() {
         let flights = Timeline::new(&run).flights;
         walk(&run, |moment| {
             let under_way = flights.iter().filter(|flight| flight.under_way_after(moment.number));
-            assert!(under_way.map(|flight| flight.message).eq(moment.after.messages()), "run {number}");
+            let queue = moment.after.tables.queue.messages();
+            assert!(under_way.map(|flight| flight.message).eq(queue.iter().copied()), "run {number}");
         });
     }
 }
@@ -88,7 +89,7 @@ fn spans_cover_what_the_tables_hold() {
             };
             let spans = timeline.spans.iter().filter(|span| covers(span.from, span.to));
             let covered: BTreeMap<_, _> = spans.map(|span| (span.track, span.detail)).collect();
-            assert_eq!(covered, tracks::of(moment.after));
+            assert_eq!(covered, tracks::of(moment.setup, moment.after));
         });
     }
 }
@@ -102,14 +103,14 @@ fn notes_are_the_servers() {
         let run = run(10, number);
         let spans = Timeline::new(&run).spans;
         walk(&run, |moment| {
-            let step = moment.number;
+            let (step, server) = (moment.number, moment.server());
             let now = |track| {
                 let mut of_track = spans.iter().filter(|span| span.track == track && span.from <= step);
                 of_track.find(|span| span.to.is_none_or(|to| step < to)).map(|span| span.detail)
             };
             let pairs = (0..16).flat_map(|client| moment.volumes().map(move |volume| (client, volume)));
             for (client, volume) in pairs {
-                let (set, batch) = (moment.after.notes(client, volume), moment.after.batch(client, volume));
+                let (set, batch) = (server.notes[volume][client], server.batch[volume][client]);
                 let shown = now(Track::Notes(client, volume));
                 let told = shown.map_or((0, 0), |notes| (notes.value, notes.version));
                 assert_eq!(told, (set.into(), batch), "run {number}, step {step}");
@@ -128,7 +129,7 @@ fn steps_have_the_models_answers() {
         let run = with_returns(run(8, number));
         let mut listing = String::from("step answer value\n");
         for (place, view) in Timeline::new(&run).steps.iter().enumerate() {
-            let Listed { answer, value } = Listed::of(&view.answer);
+            let (answer, value) = view.answer.numbers();
             listing += &format!("{} {answer} {value}\n", place + 1);
         }
         assert_eq!(listing.as_bytes(), model::listing::listing(&run.file()));

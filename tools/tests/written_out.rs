@@ -1,13 +1,14 @@
 //! Messages by name and joins, written out as exact steps.
 
-use gevtsomi::Message;
 use model::gen::runs::{run, Run};
+use model::message::Message;
+use model::state::{Machine, State};
+use model::step_call::step;
 use model::step_record::{Step, DELIVER, DOUBLE, LOSE};
 use tools::names::{item, kind, way};
 use tools::scenario::Scenario;
 use tools::text::which::Which;
 use tools::text::{parse, print, script};
-use tools::trace::walk;
 
 const SETUP: &str = "\
 clients 2 volumes 1 objects 2
@@ -192,11 +193,13 @@ fn without_such_a_message_those_under_way_are_told() {
     );
 }
 
-/// Returns the messages under way after a run.
-fn under_way(run: &Run) -> Vec<Message> {
-    let mut messages = Vec::new();
-    walk(run, |moment| messages = moment.queue.to_vec());
-    messages
+/// Returns the state after a run.
+fn end(run: &Run) -> State {
+    let mut machine = Machine::fresh();
+    for record in &run.steps {
+        step(&mut machine.world(&run.setup), record);
+    }
+    machine.state
 }
 
 /// Returns runs cut off in the middle, where more stands than at their ends.
@@ -260,10 +263,11 @@ fn names_of(messages: &[Message], place: usize) -> Vec<String> {
 fn names_in_generated_states() {
     let mut found = 0;
     for run in generated() {
-        let messages = under_way(&run);
+        let state = end(&run);
+        let messages = state.tables.queue.messages();
         for (number, place) in (0..messages.len()).enumerate() {
             let (word, kind) = [("deliver", DELIVER), ("lose", LOSE), ("double", DOUBLE)][number % 3];
-            for name in names_of(&messages, place) {
+            for name in names_of(messages, place) {
                 let whole = parse(format!("{}{word} {name}\n", print(&run)).as_bytes()).unwrap();
                 let step = Step { kind, place: place as u8, ..Step::default() };
                 assert_eq!(whole.steps.last(), Some(&step), "{name}");

@@ -59,12 +59,11 @@ mod saved_names;
 mod server;
 mod server_restart;
 mod sound;
-mod words;
 mod writes;
 
 use {
     ageing::*, batch_client::*, batch_server::*, client::*, gate::*, grant::*, latest_end::*, network::*,
-    notes::*, parked::*, rows::*, saved::*, saved_names::*, server::*, server_restart::*, sound::*, words::*,
+    notes::*, parked::*, rows::*, saved::*, saved_names::*, server::*, server_restart::*, sound::*,
     writes::*,
 };
 
@@ -384,14 +383,5 @@ list! {
         saved_rows_not_asked,
         name_before_sound,
         never_saved_before_sound,
-
-        // Words that stand for a flag or for a byte. Those of a run are 0 or 1,
-        // or a byte.
-        flag_only_1,
-        flag_lowest_bit,
-        flag_low_byte,
-        request_object_low_byte,
-        request_object_not_asked,
-        free_object_asked,
     }
 }

@@ -1,5 +1,5 @@
 //! What model and product are checked with, apart from the model itself:
-//! generated runs, states and calls, cases of single steps, stored examples, mistakes
+//! generated runs and calls, cases of single steps, stored examples, mistakes
 //! that all of these must find, and a way to make a failing file small.
 
 pub mod cases;

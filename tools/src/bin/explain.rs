@@ -6,6 +6,7 @@ use tools::arguments::Arguments;
 use tools::command::{self, Failure};
 use tools::explain::{at, line_at, line_of, tables, told};
 use tools::input::Input;
+use tools::listed::Listed;
 use tools::output::Output;
 use tools::scenario::Scenario;
 use tools::{difference, proved, refusals, refused_file, trace};
@@ -86,8 +87,10 @@ fn main() -> ExitCode {
 /// Adds what is wrong with the text, and a line that counts the run's refused
 /// steps.
 fn counted(input: &Input, scenario: &Scenario, output: Output) -> Output {
+    let mut answers = Vec::new();
+    scenario.walk(|moment| answers.push(Listed::of(&moment.answer)));
     let mut output = input.told_of(scenario, output);
-    output.told.extend(refusals::counted(scenario.answers()).map(|line| scenario.voice.said(&line)));
+    output.told.extend(refusals::counted(answers).map(|line| scenario.voice.said(&line)));
     output
 }
 

@@ -9,11 +9,12 @@ use tools::check::verdict;
 use tools::command::{self, Failure};
 use tools::input::Input;
 use tools::output::Output;
+use tools::proved;
 use tools::refusals::counted;
 use tools::refused_file::no_workload;
 use tools::scenario::Scenario;
 use tools::text::script::Script;
-use tools::text::{from_file, print, to_file, workload_file};
+use tools::text::{print, to_file, workload_file};
 use tools::upgrade;
 
 const HELP: &str = r#"runtext: the text form of runs
@@ -155,8 +156,7 @@ fn load(mut arguments: Arguments) -> Result<Output, Failure> {
     let Script { note, setup, voice, .. } = input.without_steps()?;
     let file = workload_file(seed, &note, &setup, steps)
         .map_err(|refused| input.failure(&[no_workload(refused, note.len(), steps)]))?;
-    let run = from_file(&file).expect("a run file, which the library wrote");
-    let told = counted(Scenario::from(run).answers()).map(|line| voice.said(&line));
+    let told = counted(proved::answers_of(&file)).map(|line| voice.said(&line));
     Ok(Output { told: told.into_iter().collect(), ..file.into() })
 }
 
@@ -181,7 +181,7 @@ fn check(arguments: Arguments) -> Result<Output, Failure> {
         match read {
             Ok((scenario, input)) => {
                 checked(&input, &scenario, &mut output);
-                answers.extend(scenario.answers());
+                answers.extend(proved::answers(&scenario.run));
                 voice.get_or_insert(scenario.voice);
             }
             Err(Failure::Input(message) | Failure::Usage(message)) => {

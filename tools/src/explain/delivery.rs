@@ -2,7 +2,7 @@
 //! after. If it did nothing, the reasons are the entries that the message does
 //! not match.
 
-use gevtsomi::{Kind, Message};
+use model::message::{Kind, Message};
 
 use super::notes;
 use super::steps::{completed, sends, waits};
@@ -14,15 +14,13 @@ pub fn reasons(moment: &Moment, message: &Message) -> Vec<String> {
     let mut reasons = vec![whole(message, &moment.voice)];
     reasons.extend(match message.kind {
         Kind::Renew { object, number, epoch, .. } => renew(moment, client, object.into(), number, epoch),
-        Kind::Grant { .. } => grant_stored(moment, client),
+        Kind::Grant(_) => grant_stored(moment, client),
         Kind::Invalidate { object, .. } => invalidate(moment, client, object.into()),
         Kind::Ack { object, epoch, version } => ack(moment, client, object.into(), epoch, version),
         Kind::Offer { volume, epoch, .. } => offer(moment, client, volume, epoch),
         Kind::Dropped { volume, number, epoch } => dropped(moment, client, volume.into(), number, epoch),
-        Kind::Batch { objects, .. } => notes::of_batch(moment, client, objects),
-        Kind::Cleared { volume, number, epoch, objects } => {
-            notes::of_cleared(moment, client, volume.into(), number, epoch, objects)
-        }
+        Kind::Batch(batch) => notes::of_batch(moment, client, &batch),
+        Kind::Cleared(batch) => notes::of_cleared(moment, client, &batch),
     });
     if let Kind::Renew { .. } = message.kind {
         reasons.extend(notes::dropped(moment, "dropped"));
@@ -37,7 +35,7 @@ pub fn nothing(why: impl AsRef<str>) -> Vec<String> {
 }
 
 fn renew(moment: &Moment, client: usize, object: usize, number: u32, epoch: u32) -> Vec<String> {
-    let server = moment.model.server_before();
+    let server = moment.server_before();
     let volume = moment.setup.volume(object);
     let marked = server.unreachable[volume] >> client & 1 == 1;
     match moment.sent().first().map(|sent| sent.kind) {
@@ -50,7 +48,7 @@ fn renew(moment: &Moment, client: usize, object: usize, number: u32, epoch: u32)
         Some(Kind::Invalidate { object, .. }) => {
             vec![format!("the write of object {object} still waits for client {client}")]
         }
-        Some(Kind::Batch { .. }) => notes::of_renew(moment, client, volume),
+        Some(Kind::Batch(_)) => notes::of_renew(moment, client, volume),
         Some(_) => Vec::new(),
     }
 }
@@ -67,22 +65,22 @@ fn grant_stored(moment: &Moment, client: usize) -> Vec<String> {
 /// Returns whether the delivery changed the client's request. An answer that
 /// the client takes ends it; any other leaves it.
 pub fn request_changed(moment: &Moment, client: usize) -> bool {
-    moment.after.request(client) != moment.before.request(client)
+    moment.after.requests(moment.setup)[client] != *moment.request_before(client)
 }
 
 pub fn standing(moment: &Moment, client: usize) -> String {
-    match moment.before.request(client).standing {
+    match moment.request_before(client).standing {
         None => format!("client {client} has no standing request"),
         Some(standing) => format!("client {client} waits for number {}", standing.number),
     }
 }
 
 fn invalidate(moment: &Moment, client: usize, object: usize) -> Vec<String> {
-    let mut reasons = vec![match moment.before.copy(client, object).version {
+    let mut reasons = vec![match moment.copy_before(client, object).version {
         0 => "no copy was held".into(),
         version => format!("copy of version {version} erased"),
     }];
-    let (before, after) = (moment.before.request(client), moment.after.request(client));
+    let (before, after) = (moment.request_before(client), moment.after.requests(moment.setup)[client]);
     if let (Some(standing), None) = (before.standing, after.standing) {
         reasons.push(format!("request {} forgotten", standing.number));
     }
@@ -90,16 +88,18 @@ fn invalidate(moment: &Moment, client: usize, object: usize) -> Vec<String> {
 }
 
 fn ack(moment: &Moment, client: usize, object: usize, epoch: u32, version: u32) -> Vec<String> {
-    let (before, after) = (moment.before.write(object), moment.after.write(object));
-    match after {
-        _ if before == after => nothing(unfit_ack(moment, client, object, epoch, version)),
-        Some(write) => vec![format!("the write still {}", waits(moment, object, &write))],
-        None => Vec::new(),
+    let (before, after) = (moment.server_before(), moment.server());
+    if before == after {
+        return nothing(unfit_ack(moment, client, object, epoch, version));
     }
+    if after.stands(object) {
+        return vec![format!("the write still {}", waits(moment, object, &after.write[object]))];
+    }
+    Vec::new()
 }
 
 fn unfit_ack(moment: &Moment, client: usize, object: usize, epoch: u32, version: u32) -> String {
-    let server = moment.model.server_before();
+    let server = moment.server_before();
     if !server.stands(object) {
         return format!("no write of object {object} stands");
     }
@@ -126,7 +126,7 @@ fn offer(moment: &Moment, client: usize, volume: u8, epoch: u32) -> Vec<String> 
 }
 
 fn dropped(moment: &Moment, client: usize, volume: usize, number: u32, epoch: u32) -> Vec<String> {
-    let (before, after) = (moment.model.server_before(), moment.model.server());
+    let (before, after) = (moment.server_before(), moment.server());
     let offer = before.offer[volume][client];
     if after.offer[volume][client] != offer {
         return vec![format!("client {client}'s leases, mark and offer of volume {volume} cleared")];

@@ -57,14 +57,17 @@ pub fn written(line: &Line, moment: &Moment) -> String {
     }
 }
 
-/// Returns the answer and the reason.
+/// Returns the answer and the reason. Most reasons come from the model, so they
+/// are left out if the library gave another answer.
 pub fn answered(moment: &Moment, expectation: Option<Expectation>) -> String {
+    let answer = Listed::of(&moment.answer);
     let words = match expectation {
-        None => Listed::of(&moment.answer).words(),
+        None => answer.words(),
         Some(expectation) => expectation.words(),
     };
     match reasons(moment) {
         reasons if reasons.is_empty() => words,
+        _ if expectation.is_some_and(|expectation| expectation.found != answer) => words,
         reasons => format!("{words}: {}", reasons.join("; ")),
     }
 }
@@ -80,7 +83,7 @@ pub fn told(scenario: &Scenario) -> String {
     scenario.walk(|moment| {
         step(&mut lines, scenario, moment);
         if moment.number == scenario.run.steps.len() {
-            under_way = saved::under_way(moment);
+            under_way = saved::under_way(moment.after);
         }
     });
     comments(&mut lines, source.map_or(&[], Source::closing));

@@ -1,7 +1,6 @@
-//! One line of words per step: what it was, what the library answered, and the
-//! part of the state that shows why. What the step did and sent is read from the
-//! library's state; why the server did so, from the model's. The reason of a read
-//! answered "ask first" is the library's.
+//! One line of words per step: what it was, what was answered, and the part of
+//! the model's state that shows why; for a read answered "ask first" the
+//! library's reason.
 
 mod delivery;
 mod lines;
@@ -13,6 +12,9 @@ mod steps;
 mod table;
 pub mod tables;
 
+use model::answer::Answer;
+
+use crate::listed::Listed;
 use crate::scenario::Scenario;
 use crate::trace::Moment;
 pub use lines::{answered, clock, line, line_of, listing, told, written};
@@ -33,24 +35,25 @@ pub fn at<T>(scenario: &Scenario, number: usize, see: impl Fn(&Moment) -> T) -> 
     seen
 }
 
-/// Returns the reasons for the answer, in the user's words. The model explains
-/// no answer that it would not give.
+/// Returns the listing's two numbers in words.
+pub fn answer(answer: &Answer) -> String {
+    Listed::of(answer).words()
+}
+
+/// Returns the reasons for the answer, in the user's words.
 pub fn reasons(moment: &Moment) -> Vec<String> {
-    match moment.is_modelled() {
-        true => plain_reasons(moment).iter().map(|reason| moment.voice.said(reason)).collect(),
-        false => Vec::new(),
-    }
+    plain_reasons(moment).iter().map(|reason| moment.voice.said(reason)).collect()
 }
 
 fn plain_reasons(moment: &Moment) -> Vec<String> {
     use model::step_record::*;
     match (moment.answer, moment.step.kind) {
-        (Err(refusal), _) => refusal::reasons(moment, refusal.number),
+        (Answer::Refused(number), _) => refusal::reasons(moment, number),
+        (Answer::Delivered { message, .. }, _) => delivery::reasons(moment, &message),
         (_, CLOCK) => steps::clock(moment),
         (_, READ) => read::reasons(moment),
         (_, ASK) => steps::ask(moment),
         (_, WRITE) => steps::write(moment),
-        (_, DELIVER) => moment.delivered.map_or(Vec::new(), |message| delivery::reasons(moment, &message)),
         (_, LOSE) => steps::lose(moment),
         (_, DOUBLE) => steps::double(moment),
         (_, RESTART_SERVER) => steps::restart_server(moment),

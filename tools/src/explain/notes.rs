@@ -4,6 +4,7 @@
 use std::iter;
 
 use model::bits::members;
+use model::message::Batch;
 use model::step_record::{CLOCK, DELIVER};
 use model::tables::alive;
 
@@ -17,7 +18,7 @@ pub fn of_write(moment: &Moment) -> Vec<String> {
     let object = usize::from(moment.step.object);
     let volume = moment.setup.volume(object);
     let parked = parked(moment, object, volume);
-    let (before, after) = (moment.model.server_before(), moment.model.server());
+    let (before, after) = (moment.server_before(), moment.server());
     let noted = clients_with_note(moment, &after.notes[volume], object) & parked;
     let mut reasons = Vec::new();
     for (set, instead) in [
@@ -28,7 +29,7 @@ pub fn of_write(moment: &Moment) -> Vec<String> {
             reasons.push(format!("does not wait for {}: {instead}", whose_lease_ended(moment, volume, set)));
         }
     }
-    reasons.extend(members(noted).filter_map(|client| {
+    reasons.extend(members(noted.into()).filter_map(|client| {
         batch(before.batch[volume][client]).map(|batch| format!("{batch} of client {client} is void"))
     }));
     match clients_with_note(moment, &before.notes[volume], object) {
@@ -40,15 +41,15 @@ pub fn of_write(moment: &Moment) -> Vec<String> {
 
 /// Returns the clients that have a note of the object among these of its
 /// volume.
-fn clients_with_note(moment: &Moment, notes: &[u32], object: usize) -> u32 {
+fn clients_with_note(moment: &Moment, notes: &[u32], object: usize) -> u16 {
     let has = |&client: &usize| notes[client] >> object & 1 == 1;
     moment.clients().filter(has).fold(0, |set, client| set | 1 << client)
 }
 
 /// Returns the clients with a live lease on the object and a dead one on its
 /// volume, before the step.
-fn parked(moment: &Moment, object: usize, volume: usize) -> u32 {
-    let (server, clock) = (moment.model.server_before(), moment.before.clock());
+fn parked(moment: &Moment, object: usize, volume: usize) -> u16 {
+    let (server, clock) = (moment.server_before(), moment.before.tables.clock);
     let dead = |&client: &usize| {
         alive(server.object_expiry[object][client], clock)
             && !alive(server.volume_expiry[volume][client], clock)
@@ -58,11 +59,11 @@ fn parked(moment: &Moment, object: usize, volume: usize) -> u32 {
 
 /// Returns "client 1, whose volume lease ended at 10", the same of several, or
 /// each with its own end if they differ.
-fn whose_lease_ended(moment: &Moment, volume: usize, set: u32) -> String {
-    let leases = &moment.model.server_before().volume_expiry[volume];
-    let ends: Vec<String> = members(set).map(|client| moment.voice.ticks(leases[client])).collect();
+fn whose_lease_ended(moment: &Moment, volume: usize, set: u16) -> String {
+    let expiry = |client: usize| moment.voice.ticks(moment.server_before().volume_expiry[volume][client]);
+    let ends: Vec<String> = members(set.into()).map(expiry).collect();
     if ends.iter().any(|end| *end != ends[0]) {
-        let each = members(set).zip(&ends).enumerate().map(|(place, (client, end))| match place {
+        let each = members(set.into()).zip(&ends).enumerate().map(|(place, (client, end))| match place {
             0 => format!("client {client} (volume lease ended at {end})"),
             _ => format!("client {client} ({end})"),
         });
@@ -79,18 +80,18 @@ fn batch(number: u32) -> Option<String> {
 
 /// Returns why a RENEW was answered by a BATCH.
 pub fn of_renew(moment: &Moment, client: usize, volume: usize) -> Vec<String> {
-    let server = moment.model.server_before();
+    let server = moment.server_before();
     let mut reasons = vec![format!("noted for client {client}: {}", objects(server.notes[volume][client]))];
     reasons.extend(batch(server.batch[volume][client]).map(|batch| format!("replaces {batch}")));
     reasons
 }
 
 /// Returns which copies a BATCH erased, or why it did nothing.
-pub fn of_batch(moment: &Moment, client: usize, noted: u32) -> Vec<String> {
+pub fn of_batch(moment: &Moment, client: usize, batch: &Batch) -> Vec<String> {
     if !request_changed(moment, client) {
         return nothing(standing(moment, client));
     }
-    let held = members(noted).filter(|&object| moment.before.copy(client, object).version != 0);
+    let held = members(batch.set).filter(|&object| moment.copy_before(client, object).version != 0);
     let held: u32 = held.fold(0, |set, object| set | 1 << object);
     let mut reasons = Vec::new();
     match held.count_ones() {
@@ -98,30 +99,22 @@ pub fn of_batch(moment: &Moment, client: usize, noted: u32) -> Vec<String> {
         1 => reasons.push(format!("copy of {} erased", objects(held))),
         _ => reasons.push(format!("copies of {} erased", objects(held))),
     }
-    if noted != held {
-        reasons.push(format!("no copy of {} was held", objects(noted & !held)));
+    if batch.set != held {
+        reasons.push(format!("no copy of {} was held", objects(batch.set & !held)));
     }
     reasons
 }
 
-/// Returns what a CLEARED with this number, epoch and set of objects dropped, or
-/// why it did nothing.
-pub fn of_cleared(
-    moment: &Moment,
-    client: usize,
-    volume: usize,
-    number: u32,
-    epoch: u32,
-    cleared: u32,
-) -> Vec<String> {
-    let before = moment.model.server_before();
+/// Returns what a CLEARED dropped, or why it did nothing.
+pub fn of_cleared(moment: &Moment, client: usize, cleared: &Batch) -> Vec<String> {
+    let (before, volume) = (moment.server_before(), usize::from(cleared.volume));
     let (batch, notes) = (before.batch[volume][client], before.notes[volume][client]);
-    if moment.model.server().batch[volume][client] != batch {
-        let notes = format!("{} dropped", counted("note", "of", cleared));
-        return iter::once(notes).chain(leases_dropped(moment, client, cleared)).collect();
+    if moment.server().batch[volume][client] != batch {
+        let notes = format!("{} dropped", counted("note", "of", cleared.set));
+        return iter::once(notes).chain(leases_dropped(moment, client, cleared.set)).collect();
     }
     let mut unlike = Vec::new();
-    if epoch != before.epoch[volume] {
+    if cleared.epoch != before.epoch[volume] {
         unlike.push(format!("the server's epoch is {}", before.epoch[volume]));
     }
     let marked = before.unreachable[volume] >> client & 1 == 1;
@@ -129,7 +122,7 @@ pub fn of_cleared(
         (0, 0) if marked => unlike.push(format!("no batch stands, client {client} is marked unreachable")),
         (0, 0) => unlike.push("no batch stands".into()),
         (0, _) => unlike.push(format!("no batch stands, noted: {}", objects(notes))),
-        _ if batch != number => unlike.push(format!("the batch's number is {batch}")),
+        (number, _) if number != cleared.number => unlike.push(format!("the batch's number is {number}")),
         _ => (),
     }
     nothing(unlike.join(", "))
@@ -138,7 +131,7 @@ pub fn of_cleared(
 /// Returns the live leases on the objects of a set that a CLEARED dropped, if
 /// there were any. A completed write ends its leases, so mostly there are none.
 fn leases_dropped(moment: &Moment, client: usize, set: u32) -> Option<String> {
-    let (server, clock) = (moment.model.server_before(), moment.before.clock());
+    let (server, clock) = (moment.server_before(), moment.before.tables.clock);
     let held = members(set).filter(|&object| alive(server.object_expiry[object][client], clock));
     match held.fold(0, |set, object| set | 1 << object) {
         0 => None,
@@ -158,9 +151,9 @@ fn counted(what: &str, of: &str, set: u32) -> String {
 pub fn dropped(moment: &Moment, how: &str) -> Vec<String> {
     let mut reasons = Vec::new();
     for (volume, client) in all(moment) {
-        let before = moment.model.server_before();
+        let before = moment.server_before();
         let notes = before.notes[volume][client];
-        if notes == 0 || moment.model.server().notes[volume][client] != 0 {
+        if notes == 0 || moment.server().notes[volume][client] != 0 {
             continue;
         }
         let void =
@@ -183,7 +176,7 @@ fn all(moment: &Moment) -> impl Iterator<Item = (usize, usize)> {
 /// its delay is over. For a RENEW they are empty, since the reason before tells
 /// why. Returns nothing if the mark is told elsewhere, or there is none.
 fn why_marked(moment: &Moment, volume: usize, client: usize) -> Option<String> {
-    let (end, delay) = (moment.model.server_before().volume_expiry[volume][client], moment.setup.delay);
+    let (end, delay) = (moment.server_before().volume_expiry[volume][client], moment.setup.delay);
     match moment.step.kind {
         DELIVER => Some(String::new()),
         CLOCK if moment.clock() >= end + delay => {

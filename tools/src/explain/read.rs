@@ -1,20 +1,23 @@
 //! Reasons for a read: what a shown copy rests on, or why the client has to ask
-//! first (02, A8). Reason, event and times are the proved library's.
+//! first (02, A8). That reason and its event are the proved library's; the
+//! model's tables add the times and the kind of a message.
 
-use gevtsomi::{Kind, Outcome, Reason, Why};
+use gevtsomi::{Reason, Why};
+use model::answer::Answer;
+use model::message::Kind;
 
 use crate::trace::{Moment, Past};
 
 pub fn reasons(moment: &Moment) -> Vec<String> {
     match moment.answer {
-        Ok(Outcome::Shown(_)) => shown(moment),
+        Answer::Shown(_) => shown(moment),
         _ => moment.why().map_or(Vec::new(), |why| ask_first(moment, why)),
     }
 }
 
 fn shown(moment: &Moment) -> Vec<String> {
     let (volume_expiry, object_expiry) = expiries(moment);
-    let version = moment.before.copy(moment.step.client.into(), moment.step.object.into()).version;
+    let version = moment.copy_before(moment.step.client.into(), moment.step.object.into()).version;
     vec![
         format!("version {version}"),
         format!("volume lease to {volume_expiry}"),
@@ -42,8 +45,8 @@ fn ask_first(moment: &Moment, why: Why) -> Vec<String> {
 /// Returns when the client's leases of the volume and of the object end.
 fn expiries(moment: &Moment) -> (String, String) {
     let (client, object) = (usize::from(moment.step.client), usize::from(moment.step.object));
-    let volume_expiry = moment.before.known_expiry(client, moment.setup.volume(object));
-    let object_expiry = moment.before.copy(client, object).expiry;
+    let volume_expiry = moment.before.tables.clients.expiry[client][moment.setup.volume(object)];
+    let object_expiry = moment.copy_before(client, object).expiry;
     (moment.voice.ticks(volume_expiry), moment.voice.ticks(object_expiry))
 }
 
@@ -55,7 +58,7 @@ fn event(moment: &Moment, why: Why) -> String {
 /// Returns the message on which the client dropped its leases.
 fn message(moment: &Moment, why: Why) -> &'static str {
     match step(moment, why).delivered {
-        Some(Kind::Batch { .. }) => "a BATCH",
+        Some(Kind::Batch(_)) => "a BATCH",
         _ => "an OFFER",
     }
 }

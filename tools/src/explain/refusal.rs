@@ -1,4 +1,4 @@
-//! The table entry that shows why a step was refused. The library says which
+//! The table entry that shows why a step was refused. The model says which
 //! question was answered "no".
 
 use model::limits::{
@@ -15,11 +15,11 @@ pub fn reasons(moment: &Moment, number: u8) -> Vec<String> {
         UNKNOWN_KIND => vec![format!("kind {} is not one of 1 to 11", moment.step.kind)],
         NO_SUCH_ITEM => items(moment),
         BAD_TIME => {
-            let (least, most) = (moment.before.clock(), CLOCK_MAX);
+            let (least, most) = (moment.before.tables.clock, CLOCK_MAX);
             let (least, most) = (moment.voice.ticks(least), moment.voice.ticks(most));
             vec![format!("the time must be from {least} to {most}")]
         }
-        WRITE_STANDS => standing(moment).into_iter().collect(),
+        WRITE_STANDS => vec![standing(moment)],
         NO_SUCH_NAME => vec![saved::missing(moment)],
         NO_NUMBER_LEFT => vec!["a number that must grow is at its end".into()],
         _ => vec!["setup or tables are not sound".into()],
@@ -35,13 +35,13 @@ fn items(moment: &Moment) -> Vec<String> {
         READ | ASK => [clients(), objects()].join(", "),
         WRITE => objects(),
         RESTART_CLIENT => clients(),
-        _ => format!("place {} of {}", step.place, moment.queue_before.len()),
+        _ => format!("place {} of {}", step.place, moment.before.tables.queue.len),
     };
     vec![format!("no such item: {named}, counted from 0")]
 }
 
-fn standing(moment: &Moment) -> Option<String> {
-    let write = moment.before.write(moment.step.object.into())?;
+fn standing(moment: &Moment) -> String {
+    let write = &moment.server_before().write[usize::from(moment.step.object)];
     let (waiting, end) = (clients(write.waiting), moment.voice.ticks(write.latest_end));
-    Some(format!("a write of value {} stands, latest end {end}, waiting for {waiting}", write.value))
+    format!("a write of value {} stands, latest end {end}, waiting for {waiting}", write.value)
 }

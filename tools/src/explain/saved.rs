@@ -1,7 +1,7 @@
 //! Reasons for a save and a return: what is saved or restored, and which steps a
 //! return leaves behind (02, A7).
 
-use model::limits::NAMES;
+use model::state::State;
 
 use crate::names::{objects, placed, steps};
 use crate::trace::Moment;
@@ -16,7 +16,7 @@ pub fn save(moment: &Moment) -> Vec<String> {
 }
 
 pub fn restore(moment: &Moment) -> Vec<String> {
-    let (before, after) = (moment.before.clock(), moment.clock());
+    let (before, after) = (moment.before.tables.clock, moment.clock());
     let was = match before == after {
         true => String::new(),
         false => format!(" (was {})", moment.voice.ticks(before)),
@@ -25,7 +25,7 @@ pub fn restore(moment: &Moment) -> Vec<String> {
     let saved = moment.lines.before(moment.number);
     let mut reasons = vec![format!("restores what step {saved} saved: {clock}, {}", held(moment))];
     reasons.extend(changed(moment));
-    reasons.extend(under_way(moment).map(|messages| format!("under way again: {messages}")));
+    reasons.extend(under_way(moment.after).map(|messages| format!("under way again: {messages}")));
     let (left, taken_up) = (moment.lines.left_behind(moment.number), moment.lines.taken_up(moment.number));
     if !left.is_empty() {
         reasons.push(format!("leaves behind {}", steps(&left)));
@@ -39,12 +39,13 @@ pub fn restore(moment: &Moment) -> Vec<String> {
 /// Returns what the state after the step holds: how many messages, and which
 /// standing writes.
 fn held(moment: &Moment) -> String {
-    let messages = match moment.queue.len() {
+    let messages = match moment.after.tables.queue.len {
         0 => "nothing under way".into(),
         1 => "1 message under way".into(),
         count => format!("{count} messages under way"),
     };
-    let standing = moment.objects().filter(|&object| moment.after.write(object).is_some());
+    let server = moment.server();
+    let standing = moment.objects().filter(|&object| server.stands(object));
     let writes = match standing.fold(0, |set, object| set | 1 << object) {
         0u32 => "no standing write".into(),
         set if set.count_ones() == 1 => format!("a standing write of {}", objects(set)),
@@ -56,19 +57,17 @@ fn held(moment: &Moment) -> String {
 /// Returns the objects that have another version again, and how many copies of
 /// the clients are other ones.
 fn changed(moment: &Moment) -> Vec<String> {
-    let (before, after) = (moment.before, moment.after);
-    if before == after {
+    if moment.before == moment.after {
         return vec!["nothing has changed since".into()];
     }
-    let other = |&object: &usize| before.version(object) != after.version(object);
+    let (before, after) = (moment.server_before(), moment.server());
+    let other = |&object: &usize| before.version[object] != after.version[object];
     let object = |object: usize| {
-        format!("object {object} is {} again, version {}", after.value(object), after.version(object))
+        format!("object {object} is {} again, version {}", after.value[object], after.version[object])
     };
     let mut changed: Vec<String> = moment.objects().filter(other).map(object).collect();
-    let copies = moment.clients().flat_map(|client| moment.objects().map(move |object| (client, object)));
-    let other =
-        |&(client, object): &(usize, usize)| before.copy(client, object) != after.copy(client, object);
-    match copies.filter(other).count() {
+    let copies = moment.before.copies(moment.setup).iter().zip(moment.after.copies(moment.setup));
+    match copies.filter(|(before, after)| before != after).count() {
         0 => (),
         1 => changed.push("1 copy changes".into()),
         count => changed.push(format!("{count} copies change")),
@@ -76,10 +75,9 @@ fn changed(moment: &Moment) -> Vec<String> {
     changed
 }
 
-/// Returns the messages under way after the step, with their places, if there
-/// are any.
-pub fn under_way(moment: &Moment) -> Option<String> {
-    let messages = moment.queue.iter().enumerate();
+/// Returns the messages under way with their places, if there are any.
+pub fn under_way(state: &State) -> Option<String> {
+    let messages = state.tables.queue.messages().iter().enumerate();
     let messages: Vec<String> = messages.map(|(place, message)| placed(place, message)).collect();
     (!messages.is_empty()).then(|| messages.join(", "))
 }
@@ -87,11 +85,12 @@ pub fn under_way(moment: &Moment) -> Option<String> {
 /// Returns why the state that the step names is not there.
 pub fn missing(moment: &Moment) -> String {
     let name = moment.step.place;
-    if usize::from(name) >= NAMES {
-        return format!("saved states have the names 0 to {}", NAMES - 1);
+    let most = moment.saved.len() - 1;
+    if usize::from(name) > most {
+        return format!("saved states have the names 0 to {most}");
     }
-    let saved = (0..NAMES).filter(|&name| moment.before.saved(name).is_some());
-    let saved: Vec<String> = saved.map(|name| name.to_string()).collect();
+    let saved = moment.saved.iter().enumerate().filter(|(_, state)| state.is_some());
+    let saved: Vec<String> = saved.map(|(name, _)| name.to_string()).collect();
     match &saved[..] {
         [] => format!("state {name} was never saved, nor was another"),
         [one] => format!("state {name} was never saved, only {one} was"),

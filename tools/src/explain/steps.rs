@@ -1,8 +1,9 @@
 //! Reasons for every accepted step except a delivery, a read, a save and a
 //! return.
 
-use gevtsomi::{Message, StandingWrite};
 use model::limits::QUEUE;
+use model::message::Message;
+use model::tables::Write;
 
 use super::notes;
 use crate::latest_end;
@@ -17,12 +18,12 @@ pub fn sends(moment: &Moment) -> Vec<String> {
 
 pub fn ask(moment: &Moment) -> Vec<String> {
     let client = moment.step.client;
-    let request = moment.before.request(client.into());
+    let number = moment.request_before(client.into()).next;
     let mut reasons = sends(moment);
     if reasons.is_empty() {
-        reasons.push(format!("RENEW {} from client {client} is lost, the queue has {QUEUE}", request.next));
+        reasons.push(format!("RENEW {number} from client {client} is lost, the queue has {QUEUE}"));
     }
-    if let Some(standing) = request.standing {
+    if let Some(standing) = moment.request_before(client.into()).standing {
         reasons.push(format!("replaces request {} for object {}", standing.number, standing.object));
     }
     reasons
@@ -30,14 +31,16 @@ pub fn ask(moment: &Moment) -> Vec<String> {
 
 pub fn write(moment: &Moment) -> Vec<String> {
     let object = usize::from(moment.step.object);
-    // A write stands if something fixes its latest end.
-    let (Some(write), Some(cause)) = (moment.after.write(object), latest_end::cause(moment)) else {
-        let stored = format!("nobody to wait for, stored as version {}", moment.after.version(object));
+    let server = moment.server();
+    // A write without a cause does not stand.
+    let Some(cause) = latest_end::cause(moment) else {
+        let stored = format!("nobody to wait for, stored as version {}", server.version[object]);
         return [vec![stored], notes::of_write(moment)].concat();
     };
+    let write = &server.write[object];
     let end = moment.voice.ticks(write.latest_end);
     let mut reasons =
-        vec![format!("stands, latest end {end} by {}", cause.words()), waits(moment, object, &write)];
+        vec![format!("stands, latest end {end} by {}", cause.words()), waits(moment, object, write)];
     reasons.extend(sends_to(moment));
     let lost = write.waiting.count_ones() as usize - moment.sent().len();
     if lost > 0 {
@@ -55,8 +58,8 @@ fn sends_to(moment: &Moment) -> Option<String> {
 }
 
 /// Returns what a standing write waits for.
-pub fn waits(moment: &Moment, object: usize, write: &StandingWrite) -> String {
-    let guard = moment.model.server().guard[moment.setup.volume(object)];
+pub fn waits(moment: &Moment, object: usize, write: &Write) -> String {
+    let guard = moment.server().guard[moment.setup.volume(object)];
     let held_back = moment.clock() < guard;
     let guard = moment.voice.ticks(guard);
     match (write.waiting, held_back) {
@@ -68,8 +71,8 @@ pub fn waits(moment: &Moment, object: usize, write: &StandingWrite) -> String {
 
 /// Returns the writes that completed in the step, in object order.
 pub fn completed(moment: &Moment) -> Vec<String> {
-    let words = |(object, write): (usize, StandingWrite)| {
-        let version = moment.after.version(object);
+    let words = |(object, write): (usize, &Write)| {
+        let version = moment.server().version[object];
         format!("object {object} becomes {}, version {version}", write.value)
     };
     moment.ended().into_iter().map(words).collect()
@@ -88,32 +91,34 @@ pub fn clock(moment: &Moment) -> Vec<String> {
         reasons.push(words);
     }
     reasons.extend(notes::dropped(moment, "dropped"));
-    let standing = moment.objects().filter_map(|object| Some((object, moment.after.write(object)?)));
-    for (object, write) in standing {
-        let (end, waits) = (moment.voice.ticks(write.latest_end), waits(moment, object, &write));
+    let server = moment.server();
+    for object in moment.objects().filter(|&object| server.stands(object)) {
+        let write = &server.write[object];
+        let (end, waits) = (moment.voice.ticks(write.latest_end), waits(moment, object, write));
         reasons.push(format!("write of object {object} stands, latest end {end}, {waits}"));
     }
     reasons
 }
 
 pub fn lose(moment: &Moment) -> Vec<String> {
-    moment.taken().map(|message| format!("{} is lost", whole(&message, &moment.voice))).into_iter().collect()
+    moment.taken().map(|message| format!("{} is lost", whole(message, &moment.voice))).into_iter().collect()
 }
 
 pub fn double(moment: &Moment) -> Vec<String> {
-    let told = |original: String| match moment.sent() {
+    let original = routed(&moment.before.tables.queue.messages()[usize::from(moment.step.place)]);
+    vec![match moment.sent() {
         [] => format!("the copy of {original} is lost, the queue has {QUEUE}"),
-        _ => format!("a copy of {original} at place {}", moment.queue_before.len()),
-    };
-    moment.named().map(|original| told(routed(&original))).into_iter().collect()
+        _ => format!("a copy of {original} at place {}", moment.before.tables.queue.len),
+    }]
 }
 
 pub fn restart_server(moment: &Moment) -> Vec<String> {
+    let server = moment.server();
     let volumes = moment.volumes().map(|volume| {
-        let (epoch, guard) = (moment.after.epoch(volume), moment.voice.ticks(moment.after.guard(volume)));
+        let (epoch, guard) = (server.epoch[volume], moment.voice.ticks(server.guard[volume]));
         format!("volume {volume} has epoch {epoch}, guard {guard}")
     });
-    let cut_off = |(object, write): (usize, StandingWrite)| {
+    let cut_off = |(object, write): (usize, &Write)| {
         format!("write of object {object}, value {}, cut off", write.value)
     };
     let writes = moment.ended().into_iter().map(cut_off);
@@ -122,11 +127,11 @@ pub fn restart_server(moment: &Moment) -> Vec<String> {
 
 pub fn restart_client(moment: &Moment) -> Vec<String> {
     let client = usize::from(moment.step.client);
-    let copies = moment.objects().filter(|&object| moment.before.copy(client, object).version != 0).count();
-    let request = moment.before.request(client);
+    let copies = moment.objects().filter(|&object| moment.copy_before(client, object).version != 0).count();
+    let next = moment.request_before(client).next;
     let copies = if copies == 1 { "1 copy".into() } else { format!("{copies} copies") };
-    let mut reasons = vec![format!("{copies} erased, next number {} remains", request.next)];
-    if let Some(standing) = request.standing {
+    let mut reasons = vec![format!("{copies} erased, next number {next} remains")];
+    if let Some(standing) = moment.request_before(client).standing {
         reasons.push(format!("forgets request {} for object {}", standing.number, standing.object));
     }
     reasons

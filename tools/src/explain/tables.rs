@@ -1,14 +1,12 @@
-//! The tables after a step, as the library's state has them: for clients,
-//! volumes and objects that exist, only the rows that hold something.
+//! The tables after a step: for clients, volumes and objects that exist, only
+//! the rows that hold something.
 
-use gevtsomi::State;
-use model::limits::NAMES;
 use model::setup::Setup;
+use model::state::State;
 use model::tables::alive;
 
 use super::table;
 use crate::names::{clients, objects, whole};
-use crate::proved;
 use crate::trace::Moment;
 use crate::voice::Voice;
 
@@ -19,22 +17,25 @@ macro_rules! row {
 
 /// Returns all tables after a step, one below the other, and the saved states.
 pub fn after(moment: &Moment) -> String {
-    let saved = (0..NAMES).filter_map(|name| {
-        let (state, step) = (moment.after.saved(name)?, moment.lines.saved_in(name as u8)?);
-        Some(row![name, step, moment.voice.ticks(state.clock())])
-    });
-    tables(moment.after, &moment.voice, &saved.collect::<Vec<_>>())
+    let saved: Vec<Vec<String>> = (0..)
+        .zip(moment.saved)
+        .filter_map(|(name, state)| {
+            let step = moment.lines.saved_in(name)?;
+            Some(row![name, step, moment.voice.ticks(state.as_ref()?.tables.clock)])
+        })
+        .collect();
+    tables(moment.setup, moment.after, &moment.voice, &saved)
 }
 
 /// Returns all tables before the first step.
 pub fn fresh(setup: &Setup, voice: &Voice) -> String {
-    tables(&proved::fresh(setup), voice, &[])
+    tables(setup, &State::fresh(), voice, &[])
 }
 
-fn tables(state: &State, voice: &Voice, saved: &[Vec<String>]) -> String {
-    let view = View { setup: state.setup(), state, voice };
+fn tables(setup: &Setup, state: &State, voice: &Voice, saved: &[Vec<String>]) -> String {
+    let view = View { setup, state, voice };
     let parts = [
-        format!("clock {}\n", voice.ticks(state.clock())),
+        format!("clock {}\n", voice.ticks(state.tables.clock)),
         view.volumes(),
         view.objects(),
         view.server_clients(),
@@ -51,7 +52,7 @@ fn tables(state: &State, voice: &Voice, saved: &[Vec<String>]) -> String {
 }
 
 struct View<'a> {
-    setup: gevtsomi::Setup,
+    setup: &'a Setup,
     state: &'a State,
     voice: &'a Voice,
 }
@@ -78,7 +79,7 @@ impl View<'_> {
         let ticks = self.voice.ticks(expiry);
         match expiry {
             0 => "none".into(),
-            _ if alive(expiry, self.state.clock()) => format!("{ticks} alive"),
+            _ if alive(expiry, self.state.tables.clock) => format!("{ticks} alive"),
             _ => format!("{ticks} ended"),
         }
     }
@@ -101,27 +102,31 @@ impl View<'_> {
     }
 
     fn volumes(&self) -> String {
+        let server = &self.state.tables.server;
         let row = |volume: usize| {
-            let (latest, guard) = (self.state.largest_volume_expiry(volume), self.state.guard(volume));
-            row![volume, self.state.epoch(volume), self.voice.ticks(latest), self.voice.ticks(guard)]
+            let (latest, guard) = (server.volume_latest[volume], server.guard[volume]);
+            row![volume, server.epoch[volume], self.voice.ticks(latest), self.voice.ticks(guard)]
         };
         let rows: Vec<_> = self.each_volume().map(row).collect();
         self.table("server, volumes", &["volume", "epoch", "largest expiry", "guard"], &rows)
     }
 
     fn objects(&self) -> String {
+        let server = &self.state.tables.server;
         let row = |object: usize| {
-            let standing = self.state.write(object).map_or("none".into(), |write| {
-                format!(
+            let write = &server.write[object];
+            let standing = match server.stands(object) {
+                false => "none".into(),
+                true => format!(
                     "value {}, latest end {}, waits for {}",
                     write.value,
                     self.voice.ticks(write.latest_end),
                     clients(write.waiting)
-                )
-            });
-            let (value, version) = (self.state.value(object), self.state.version(object));
-            let latest = self.voice.ticks(self.state.largest_object_expiry(object));
-            row![object, self.setup.volume_of[object], value, version, latest, standing]
+                ),
+            };
+            let (value, version) = (server.value[object], server.version[object]);
+            let latest = self.voice.ticks(server.object_latest[object]);
+            row![object, self.setup.volume(object), value, version, latest, standing]
         };
         let rows: Vec<_> = self.each_object().map(row).collect();
         let heads = ["object", "volume", "value", "version", "largest expiry", "standing write"];
@@ -129,14 +134,16 @@ impl View<'_> {
     }
 
     fn server_clients(&self) -> String {
-        let rows: Vec<_> = self.each_client().map(|client| row![client, self.state.seen(client)]).collect();
+        let seen = &self.state.tables.server.seen;
+        let rows: Vec<_> = self.each_client().map(|client| row![client, seen[client]]).collect();
         self.table("server, clients", &["client", "highest number seen"], &rows)
     }
 
     fn server_volume_leases(&self) -> String {
+        let server = &self.state.tables.server;
         let row = |(client, volume): (usize, usize)| {
-            let (expiry, offer) = (self.state.volume_lease(client, volume), self.state.offer(client, volume));
-            let marked = self.state.unreachable(client, volume);
+            let (expiry, offer) = (server.volume_expiry[volume][client], server.offer[volume][client]);
+            let marked = server.unreachable[volume] >> client & 1 == 1;
             let mark = if marked { "unreachable" } else { "none" };
             let holds = expiry != 0 || offer != 0 || marked;
             holds.then(|| row![client, volume, self.expiry(expiry), mark, number(offer)])
@@ -146,8 +153,9 @@ impl View<'_> {
     }
 
     fn server_notes(&self) -> String {
+        let server = &self.state.tables.server;
         let row = |(client, volume): (usize, usize)| {
-            let (notes, batch) = (self.state.notes(client, volume), self.state.batch(client, volume));
+            let (notes, batch) = (server.notes[volume][client], server.batch[volume][client]);
             (notes != 0 || batch != 0).then(|| row![client, volume, objects(notes), number(batch)])
         };
         let rows: Vec<_> = self.pairs(self.each_volume()).filter_map(row).collect();
@@ -155,8 +163,9 @@ impl View<'_> {
     }
 
     fn server_object_leases(&self) -> String {
+        let expiry = &self.state.tables.server.object_expiry;
         let row = |(client, object): (usize, usize)| {
-            let expiry = self.state.lease(client, object);
+            let expiry = expiry[object][client];
             (expiry != 0).then(|| row![client, object, self.expiry(expiry)])
         };
         let rows: Vec<_> = self.pairs(self.each_object()).filter_map(row).collect();
@@ -164,21 +173,20 @@ impl View<'_> {
     }
 
     fn requests(&self) -> String {
-        let row = |client: usize| {
-            let request = self.state.request(client);
+        let row = |(client, request): (usize, &model::requests::Request)| {
             let standing = request.standing.map_or("none".into(), |standing| {
                 format!("number {} for object {}", standing.number, standing.object)
             });
             row![client, request.next, standing]
         };
-        let rows: Vec<_> = self.each_client().map(row).collect();
+        let rows: Vec<_> = self.state.requests(self.setup).iter().enumerate().map(row).collect();
         self.table("clients, requests", &["client", "next number", "standing request"], &rows)
     }
 
     fn client_volumes(&self) -> String {
+        let known = &self.state.tables.clients;
         let row = |(client, volume): (usize, usize)| {
-            let epoch = self.state.known_epoch(client, volume);
-            let expiry = self.state.known_expiry(client, volume);
+            let (epoch, expiry) = (known.epoch[client][volume], known.expiry[client][volume]);
             (epoch != 0 || expiry != 0).then(|| row![client, volume, epoch, self.expiry(expiry)])
         };
         let rows: Vec<_> = self.pairs(self.each_volume()).filter_map(row).collect();
@@ -186,8 +194,9 @@ impl View<'_> {
     }
 
     fn copies(&self) -> String {
+        let copies = self.state.copies(self.setup);
         let row = |(client, object): (usize, usize)| {
-            let copy = self.state.copy(client, object);
+            let copy = &copies[self.setup.copy_place(client, object)];
             (copy.version != 0)
                 .then(|| row![client, object, copy.version, copy.value, self.expiry(copy.expiry)])
         };
@@ -196,9 +205,8 @@ impl View<'_> {
     }
 
     fn messages(&self) -> String {
-        let messages = self.state.messages().enumerate();
-        let rows: Vec<_> =
-            messages.map(|(place, message)| row![place, whole(&message, self.voice)]).collect();
+        let messages = self.state.tables.queue.messages().iter().enumerate();
+        let rows: Vec<_> = messages.map(|(place, message)| row![place, whole(message, self.voice)]).collect();
         self.table("messages under way", &["place", "message"], &rows)
     }
 }

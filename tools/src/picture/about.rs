@@ -3,7 +3,7 @@
 
 use std::fmt::{Display, Formatter, Result};
 
-use gevtsomi::{Kind, Message};
+use model::message::{Kind, Message};
 use model::step_record::{ASK, READ, RESTART_CLIENT, WRITE};
 
 use super::layout::Row;
@@ -37,14 +37,16 @@ impl About {
     pub fn message(message: &Message) -> About {
         let client = About::client(message.client.into());
         match message.kind {
-            Kind::Renew { object, .. }
-            | Kind::Grant { object, .. }
-            | Kind::Invalidate { object, .. }
-            | Kind::Ack { object, .. } => About { object: Some(object.into()), ..client },
-            Kind::Offer { volume, .. }
-            | Kind::Dropped { volume, .. }
-            | Kind::Batch { volume, .. }
-            | Kind::Cleared { volume, .. } => About { volume: Some(volume.into()), ..client },
+            Kind::Renew { object, .. } | Kind::Invalidate { object, .. } | Kind::Ack { object, .. } => {
+                About { object: Some(object.into()), ..client }
+            }
+            Kind::Grant(grant) => About { object: Some(grant.object.into()), ..client },
+            Kind::Offer { volume, .. } | Kind::Dropped { volume, .. } => {
+                About { volume: Some(volume.into()), ..client }
+            }
+            Kind::Batch(batch) | Kind::Cleared(batch) => {
+                About { volume: Some(batch.volume.into()), ..client }
+            }
         }
     }
 

@@ -1,15 +1,16 @@
 //! The header above the lanes: each step in words, its answer, its number, the
 //! clock.
 
+use model::answer::Answer;
+
 use super::about::About;
 use super::layout::{Layout, COLUMN};
 use super::letters::{width, VALUE, WORDS};
 use super::svg::{at, Point, Svg};
 use super::words::answered;
-use crate::listed::Listed;
-use crate::names;
 use crate::timeline::{StepView, Timeline};
 use crate::voice::Voice;
+use crate::{explain, names};
 
 /// The height of a row of numbers below the words.
 const ROW: f64 = 16.0;
@@ -55,8 +56,7 @@ fn words(view: &StepView, voice: &Voice) -> [String; 3] {
         (None, Some(saved)) => format!("saved in step {saved}"),
         (None, None) => String::new(),
     };
-    let answer =
-        view.expectation.map_or_else(|| Listed::of(&view.answer).words(), |expected| expected.words());
+    let answer = view.expectation.map_or_else(|| explain::answer(&view.answer), |expected| expected.words());
     [step(view, voice), voice.said(&message), answer]
 }
 
@@ -128,7 +128,7 @@ pub fn column(svg: &mut Svg, view: &StepView, left: f64, height: f64) {
     if view.passes_time() {
         svg.rect("time", at(left, 0.0), COLUMN, height);
     }
-    if view.answer.is_err() {
+    if matches!(view.answer, Answer::Refused(_)) {
         svg.rect("refusal", at(left, 0.0), COLUMN, height);
     }
     if view.failed() {

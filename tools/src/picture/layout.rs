@@ -9,7 +9,7 @@
 
 use std::collections::BTreeMap;
 
-use gevtsomi::Message;
+use model::message::Message;
 use model::step_record::{ASK, READ, RESTART_CLIENT};
 
 use super::letters::{width, LABEL};

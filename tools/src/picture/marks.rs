@@ -1,7 +1,7 @@
 //! The marks of steps on the lanes: reads shown or not, asks, writes, restarts,
 //! saves, returns, refusals.
 
-use gevtsomi::Outcome;
+use model::answer::Answer;
 use model::step_record::*;
 
 use super::about::About;
@@ -19,7 +19,7 @@ pub fn columns(timeline: &Timeline, layout: &Layout, svg: &mut Svg) {
         let view = timeline.step(number);
         column(svg, view, layout.left(number), layout.height);
         shade(timeline, layout, svg, number);
-        if view.step.kind == SAVE && view.answer.is_ok() {
+        if view.step.kind == SAVE && !matches!(view.answer, Answer::Refused(_)) {
             svg.line("save", at(layout.x(number), 0.0), at(layout.x(number), layout.height));
         }
         let right = layout.left(number) + COLUMN;
@@ -62,13 +62,13 @@ pub fn draw(timeline: &Timeline, layout: &Layout, taken: &mut Taken, svg: &mut S
 fn mark(layout: &Layout, taken: &mut Taken, svg: &mut Svg, view: &StepView, spot: Point) {
     let Point { x, y } = spot;
     match (view.answer, view.step.kind) {
-        (Err(_), _) => svg.cross("refused", spot, 5.5),
-        (Ok(Outcome::Shown(_)), _) => svg.circle("shown", spot, 6.0),
-        (Ok(Outcome::AskFirst), _) => {
+        (Answer::Refused(_), _) => svg.cross("refused", spot, 5.5),
+        (Answer::Shown(_), _) => svg.circle("shown", spot, 6.0),
+        (Answer::AskFirst, _) => {
             svg.circle("ask-first", spot, 6.0);
             svg.text("question", at(x, y + 3.2), "?");
         }
-        (Ok(outcome), WRITE) => write(svg, taken, outcome, spot),
+        (answer, WRITE) => write(svg, taken, answer, spot),
         (_, ASK) => svg.circle("asked", spot, 3.0),
         (_, RESTART_SERVER | RESTART_CLIENT) => return restart(layout, taken, svg, view, spot),
         (_, SAVE) => svg.shape("saved", &flag(spot)),
@@ -83,9 +83,9 @@ fn mark(layout: &Layout, taken: &mut Taken, svg: &mut Svg, view: &StepView, spot
 fn said(view: &StepView) -> Option<(&'static str, String)> {
     let value = |value: u64| cut(&value.to_string(), COLUMN - 2.0, VALUE);
     match (view.answer, view.step.kind) {
-        (Err(refusal), _) => Some(("refused-text", refusal.number.to_string())),
-        (Ok(Outcome::Shown(shown)), _) => Some(("shown-text", value(shown))),
-        (Ok(Outcome::Completed(_)), WRITE) => Some(("completed-text", value(view.step.value))),
+        (Answer::Refused(refusal), _) => Some(("refused-text", refusal.to_string())),
+        (Answer::Shown(shown), _) => Some(("shown-text", value(shown))),
+        (Answer::Completed(_), WRITE) => Some(("completed-text", value(view.step.value))),
         (_, RESTART_SERVER | RESTART_CLIENT) => Some(("restart-text", "restart".into())),
         (_, SAVE) => Some(("saved-text", format!("save {}", view.step.place))),
         (_, RETURN) => Some(("saved-text", format!("return {}", view.step.place))),
@@ -93,10 +93,10 @@ fn said(view: &StepView) -> Option<(&'static str, String)> {
     }
 }
 
-fn write(svg: &mut Svg, taken: &mut Taken, outcome: Outcome, spot: Point) {
+fn write(svg: &mut Svg, taken: &mut Taken, answer: Answer, spot: Point) {
     let Point { x, y } = spot;
     svg.rect("accepted", at(x - 4.0, y - 4.0), 8.0, 8.0);
-    if matches!(outcome, Outcome::Completed(_)) {
+    if matches!(answer, Answer::Completed(_)) {
         svg.shape("completed", &[at(x + 4.0, y - 6.0), at(x + 11.0, y), at(x + 4.0, y + 6.0)]);
         taken.take(Tile::around(at(x + 6.0, y), 6.0));
     }

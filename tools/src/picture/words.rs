@@ -1,6 +1,6 @@
 //! The words of messages and bars, on themselves and when pointed at.
 
-use gevtsomi::{Kind, Message, Outcome};
+use model::message::{Kind, Message};
 
 use super::letters::{cut, LABEL};
 use crate::latest_end::Cause;
@@ -17,12 +17,12 @@ const VALUES: f64 = 42.0;
 /// Returns the kind of a step's answer, as a class and as the page's buttons
 /// have it.
 pub fn answered(view: &StepView) -> &'static str {
-    match view.answer {
-        Ok(Outcome::Done) => "done",
-        Ok(Outcome::Shown(_)) => "shown",
-        Ok(Outcome::AskFirst) => "ask",
-        Ok(Outcome::Completed(_)) => "completed",
-        Err(_) => "refused",
+    match view.answer.numbers().0 {
+        0 => "done",
+        1 => "shown",
+        2 => "ask",
+        3 => "completed",
+        _ => "refused",
     }
 }
 
@@ -44,9 +44,7 @@ pub fn addressed(voice: &Voice, message: &Message) -> Vec<String> {
 pub fn anonymous(voice: &Voice, message: &Message) -> Vec<String> {
     let label = names::label(message);
     let with_objects = match message.kind {
-        Kind::Batch { objects, .. } | Kind::Cleared { objects, .. } => {
-            Some(format!("{label} {}", names::objects(objects)))
-        }
+        Kind::Batch(batch) | Kind::Cleared(batch) => Some(format!("{label} {}", names::objects(batch.set))),
         _ => None,
     };
     let wordings = with_objects.into_iter().chain([label, names::kind(&message.kind).into()]);

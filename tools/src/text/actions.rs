@@ -1,7 +1,7 @@
 //! What a line asks for, read and written: a step as a run file has it, or
 //! short words that stand for steps.
 
-use gevtsomi::Message;
+use model::message::Message;
 use model::step_record::{Step, DELIVER, DOUBLE, LOSE};
 
 use super::steps;

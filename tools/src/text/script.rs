@@ -51,7 +51,7 @@ pub struct Written {
     /// The index of its line in the script.
     pub line: usize,
     pub expected: Option<Listed>,
-    /// The library's answer.
+    /// The model's answer.
     pub answer: Listed,
 }
 

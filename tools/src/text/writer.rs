@@ -1,8 +1,8 @@
 //! Writes lines out as exact steps, in the state that the steps before them
 //! have led to.
 
-use gevtsomi::Kind;
 use model::limits::{FILE_BYTES, STEPS};
+use model::message::Kind;
 use model::runfile::distance;
 use model::setup::Setup;
 use model::step_record::Step;
@@ -100,13 +100,13 @@ fn following(moment: &Moment, ask: Step) -> Result<Option<Step>, Wrong> {
     let sent = moment.sent().first().map(|message| message.kind);
     match (moment.taken().map(|message| message.kind), sent) {
         (None, Some(Kind::Renew { .. }))
-        | (Some(Kind::Renew { .. }), Some(Kind::Grant { .. } | Kind::Offer { .. } | Kind::Batch { .. }))
+        | (Some(Kind::Renew { .. }), Some(Kind::Grant(_) | Kind::Offer { .. } | Kind::Batch(_)))
         | (Some(Kind::Offer { .. }), Some(Kind::Dropped { .. }))
-        | (Some(Kind::Batch { .. }), Some(Kind::Cleared { .. })) => {
-            Ok(Some(Step::deliver((moment.queue.len() - 1) as u8)))
+        | (Some(Kind::Batch(_)), Some(Kind::Cleared(_))) => {
+            Ok(Some(Step::deliver((moment.after.tables.queue.len - 1) as u8)))
         }
-        (Some(Kind::Dropped { .. } | Kind::Cleared { .. }), None) => Ok(Some(ask)),
-        (Some(Kind::Grant { .. }), None) => Ok(None),
+        (Some(Kind::Dropped { .. } | Kind::Cleared(_)), None) => Ok(Some(ask)),
+        (Some(Kind::Grant(_)), None) => Ok(None),
         _ => {
             let stopped = format!("the join stopped at step {}", explain::line(moment));
             Err(Wrong::new(stopped, "a step that leads to a GRANT"))

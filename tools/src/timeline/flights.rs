@@ -1,8 +1,7 @@
 //! Each message, from the step that sent it to the step that ended it.
 
-use gevtsomi::{Kind, Message};
-use model::bits::members;
 use model::limits::QUEUE;
+use model::message::{Kind, Message};
 use model::step_record::{ASK, DELIVER, DOUBLE, WRITE};
 
 use crate::trace::Moment;
@@ -83,7 +82,7 @@ impl Flights {
         for flight in self.under_way.drain(..) {
             self.all[flight].end = End::Left(sent);
         }
-        let restored = moment.queue.iter();
+        let restored = moment.after.tables.queue.messages().iter();
         self.under_way.extend(self.all.len()..self.all.len() + restored.len());
         let flight = |&message| Flight { message, sent, again, copy_of, end: End::UnderWay };
         self.all.extend(restored.map(flight));
@@ -99,13 +98,13 @@ impl Flights {
 /// sent: one by an ask or a double, one to each client that a write waits for.
 /// A delivery first makes room for the one that it may send.
 fn turned_away(moment: &Moment) -> Vec<Message> {
-    if moment.queue.len() < QUEUE {
+    if moment.after.tables.queue.len < QUEUE {
         return Vec::new();
     }
     let sent = moment.sent().len();
     match moment.step.kind {
         ASK if sent == 0 => vec![renew(moment)],
-        DOUBLE if sent == 0 => moment.named().into_iter().collect(),
+        DOUBLE if sent == 0 => vec![moment.before.tables.queue.messages()[usize::from(moment.step.place)]],
         WRITE => invalidates(moment).split_off(sent),
         _ => Vec::new(),
     }
@@ -113,9 +112,9 @@ fn turned_away(moment: &Moment) -> Vec<Message> {
 
 fn renew(moment: &Moment) -> Message {
     let (client, object) = (usize::from(moment.step.client), usize::from(moment.step.object));
-    let number = moment.before.request(client).next;
-    let epoch = moment.before.known_epoch(client, moment.setup.volume(object));
-    let version = moment.before.copy(client, object).version;
+    let number = moment.request_before(client).next;
+    let epoch = moment.before.tables.clients.epoch[client][moment.setup.volume(object)];
+    let version = moment.copy_before(client, object).version;
     Message {
         client: moment.step.client,
         kind: Kind::Renew { object: moment.step.object, number, epoch, version },
@@ -123,10 +122,13 @@ fn renew(moment: &Moment) -> Message {
 }
 
 fn invalidates(moment: &Moment) -> Vec<Message> {
-    let (object, after) = (usize::from(moment.step.object), moment.after);
-    let waiting = after.write(object).map_or(0, |write| write.waiting);
-    let (epoch, version) = (after.epoch(moment.setup.volume(object)), after.version(object) + 1);
+    let object = usize::from(moment.step.object);
+    let server = moment.server();
+    if !server.stands(object) {
+        return Vec::new();
+    }
+    let (epoch, version) = (server.epoch[moment.setup.volume(object)], server.version[object] + 1);
     let kind = Kind::Invalidate { object: moment.step.object, epoch, version };
     let to = |client| Message { client: client as u8, kind };
-    members(waiting).map(to).collect()
+    model::bits::members(server.write[object].waiting.into()).map(to).collect()
 }

@@ -1,21 +1,21 @@
 //! A run over time: its steps, the path of each message, and how long each
-//! lease, copy, write, guard, note and mark lasted, all read from the library's
-//! state.
+//! lease, copy, write, guard, note and mark lasted, all read from the model's
+//! tables.
 
 pub mod flights;
 pub mod spans;
 pub mod tracks;
 
-use gevtsomi::Message;
+use model::answer::Answer;
 use model::gen::runs::Run;
+use model::message::Message;
 use model::setup::Setup;
-use model::step_record::{Step, CLOCK};
+use model::step_record::{Step, CLOCK, DELIVER, DOUBLE, LOSE};
 
 use crate::check::verdict;
 use crate::explain;
 use crate::latest_end::{self, Cause};
 use crate::line::Lines;
-use crate::listed::Answered;
 use crate::scenario::{Expectation, Scenario, Source};
 use crate::text::steps;
 use crate::trace::Moment;
@@ -26,7 +26,7 @@ use tracks::Track;
 
 pub struct StepView {
     pub step: Step,
-    pub answer: Answered,
+    pub answer: Answer,
     pub clock_before: u32,
     pub clock: u32,
     /// The message that the step delivered, lost or doubled.
@@ -55,9 +55,9 @@ impl StepView {
         StepView {
             step: moment.step,
             answer: moment.answer,
-            clock_before: moment.before.clock(),
+            clock_before: moment.before.tables.clock,
             clock: moment.clock(),
-            message: moment.named(),
+            message: message(moment),
             cause: latest_end::cause(moment),
             line: explain::line_of(scenario, moment),
             written: line.map_or_else(
@@ -109,7 +109,7 @@ impl Timeline {
         let (mut spans, mut lines) = (Spans::default(), Lines::default());
         scenario.walk(|moment| {
             flights.follow(moment);
-            let now = tracks::of(moment.after);
+            let now = tracks::of(moment.setup, moment.after);
             spans.follow(moment.number, moment.restored().is_some(), now);
             lines.follow(&moment.step, moment.refused());
             steps.push(StepView::of(scenario, moment));
@@ -155,4 +155,9 @@ impl Timeline {
 /// Returns whether the step opened a write of the object.
 fn opens(view: &StepView, object: usize) -> bool {
     view.cause.is_some() && usize::from(view.step.object) == object
+}
+
+fn message(moment: &Moment) -> Option<Message> {
+    let names_one = [DELIVER, LOSE, DOUBLE].contains(&moment.step.kind) && !moment.refused();
+    names_one.then(|| moment.before.tables.queue.messages()[usize::from(moment.step.place)])
 }

@@ -1,8 +1,9 @@
-//! What lasts over several steps, as the library's state has it at one moment.
+//! What lasts over several steps, as the model's tables have it at one moment.
 
 use std::collections::BTreeMap;
 
-use gevtsomi::State;
+use model::setup::Setup;
+use model::state::State;
 use model::tables::alive;
 
 /// What it is and whose, so that a track holds one at a time.
@@ -39,42 +40,44 @@ type Tracks = BTreeMap<Track, Detail>;
 
 /// Returns live leases, copies, standing writes, guards that still hold writes
 /// back, notes, and unreachable marks.
-pub fn of(state: &State) -> Tracks {
+pub fn of(setup: &Setup, state: &State) -> Tracks {
     let mut tracks = Tracks::new();
-    server(state, &mut tracks);
-    for client in 0..state.setup().clients.into() {
-        volumes(state, client, &mut tracks);
-        objects(state, client, &mut tracks);
+    server(setup, state, &mut tracks);
+    for client in 0..usize::from(setup.clients) {
+        volumes(setup, state, client, &mut tracks);
+        objects(setup, state, client, &mut tracks);
     }
     tracks
 }
 
-fn server(state: &State, tracks: &mut Tracks) {
-    for volume in 0..state.setup().volumes.into() {
-        let (guard, epoch) = (state.guard(volume), state.epoch(volume));
-        if state.clock() < guard {
-            tracks.insert(Track::Guard(volume), Detail { until: guard, version: epoch, value: 0 });
+fn server(setup: &Setup, state: &State, tracks: &mut Tracks) {
+    let (server, clock) = (&state.tables.server, state.tables.clock);
+    for volume in 0..usize::from(setup.volumes) {
+        if clock < server.guard[volume] {
+            let detail = Detail { until: server.guard[volume], version: server.epoch[volume], value: 0 };
+            tracks.insert(Track::Guard(volume), detail);
         }
     }
-    for object in 0..state.setup().objects.into() {
-        if let Some(write) = state.write(object) {
-            let version = state.version(object) + 1;
-            let detail = Detail { until: write.latest_end, version, value: write.value };
-            tracks.insert(Track::Write(object), detail);
-        }
+    for object in (0..usize::from(setup.objects)).filter(|&object| server.stands(object)) {
+        let write = &server.write[object];
+        let detail =
+            Detail { until: write.latest_end, version: server.version[object] + 1, value: write.value };
+        tracks.insert(Track::Write(object), detail);
     }
 }
 
-fn volumes(state: &State, client: usize, tracks: &mut Tracks) {
-    for volume in 0..state.setup().volumes.into() {
-        let (own, known) = (state.known_expiry(client, volume), state.known_epoch(client, volume));
-        let (recorded, epoch) = (state.volume_lease(client, volume), state.epoch(volume));
-        let (notes, batch) = (state.notes(client, volume), state.batch(client, volume));
-        if alive(own, state.clock()) {
+fn volumes(setup: &Setup, state: &State, client: usize, tracks: &mut Tracks) {
+    let (tables, clock) = (&state.tables, state.tables.clock);
+    for volume in 0..usize::from(setup.volumes) {
+        let (own, recorded) =
+            (tables.clients.expiry[client][volume], tables.server.volume_expiry[volume][client]);
+        let (known, epoch) = (tables.clients.epoch[client][volume], tables.server.epoch[volume]);
+        let (notes, batch) = (tables.server.notes[volume][client], tables.server.batch[volume][client]);
+        if alive(own, clock) {
             tracks
                 .insert(Track::VolumeLease(client, volume), Detail { until: own, version: known, value: 0 });
         }
-        if alive(recorded, state.clock()) {
+        if alive(recorded, clock) {
             tracks.insert(
                 Track::ServerVolumeLease(client, volume),
                 Detail { until: recorded, version: epoch, value: 0 },
@@ -86,23 +89,25 @@ fn volumes(state: &State, client: usize, tracks: &mut Tracks) {
                 Detail { until: recorded, version: batch, value: notes.into() },
             );
         }
-        if state.unreachable(client, volume) {
+        if tables.server.unreachable[volume] >> client & 1 == 1 {
             tracks.insert(Track::Unreachable(client, volume), Detail::default());
         }
     }
 }
 
-fn objects(state: &State, client: usize, tracks: &mut Tracks) {
-    for object in 0..state.setup().objects.into() {
-        let (copy, recorded) = (state.copy(client, object), state.lease(client, object));
+fn objects(setup: &Setup, state: &State, client: usize, tracks: &mut Tracks) {
+    let clock = state.tables.clock;
+    for object in 0..usize::from(setup.objects) {
+        let copy = &state.copies(setup)[setup.copy_place(client, object)];
+        let recorded = state.tables.server.object_expiry[object][client];
         let detail = Detail { until: copy.expiry, version: copy.version, value: copy.value };
         if copy.version != 0 {
             tracks.insert(Track::Copy(client, object), Detail { until: 0, ..detail });
         }
-        if alive(copy.expiry, state.clock()) {
+        if alive(copy.expiry, clock) {
             tracks.insert(Track::ObjectLease(client, object), detail);
         }
-        if alive(recorded, state.clock()) {
+        if alive(recorded, clock) {
             tracks.insert(
                 Track::ServerObjectLease(client, object),
                 Detail { until: recorded, ..Detail::default() },

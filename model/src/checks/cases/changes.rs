@@ -4,8 +4,9 @@
 use std::rc::Rc;
 
 use crate::cases::rows::VALUE;
-use crate::cases::state::{CaseState, RequestWords};
+use crate::cases::state::CaseState;
 use crate::cases::tables::CaseTables;
+use crate::requests::{Request, Standing};
 use crate::setup::Setup;
 use crate::tables::Server;
 
@@ -28,9 +29,9 @@ impl CaseTables {
     fn change_saved(&mut self, name: u64, field: u64, place: usize, value: u64) {
         let name = name as usize;
         match field {
-            80 => self.saved.there[name] = u32::from(value != 0),
+            80 => self.saved.there[name] = value != 0,
             81 => {
-                self.saved.there[name] = 1;
+                self.saved.there[name] = true;
                 self.saved.states[name] = Rc::new(self.present.clone());
             }
             _ => Rc::make_mut(&mut self.saved.states[name]).change(field, place, value),
@@ -42,8 +43,6 @@ impl CaseState {
     fn change(&mut self, field: u64, place: usize, value: u64) {
         match field {
             10 => self.tables.clock = word(value),
-            16 => self.marks[place % 8][place / 8] = word(value),
-            23 => self.standing[place] = word(value),
             11..=19 => change_volumes(&mut self.tables.server, field, place, value),
             20..=27 => change_objects(&mut self.tables.server, field, place, value),
             30 => self.tables.clients.epoch[place / 8][place % 8] = word(value),
@@ -54,7 +53,7 @@ impl CaseState {
             60 => self.copies[place].version = word(value),
             61 => self.copies[place].value = value,
             62 => self.copies[place].expiry = word(value),
-            70..=73 => change_request(&mut self.requests[place], field, word(value)),
+            70..=73 => change_request(&mut self.requests[place], &mut self.asked[place], field, value),
             _ => panic!("field {field}"),
         }
     }
@@ -89,6 +88,7 @@ fn change_volumes(server: &mut Server, field: u64, place: usize, value: u64) {
         13 => server.guard[place] = word(value),
         14 => server.seen[place] = word(value),
         15 => server.volume_expiry[volume][client] = word(value),
+        16 => server.unreachable[volume] = with_bit(server.unreachable[volume].into(), client, value) as u16,
         17 => server.offer[volume][client] = word(value),
         18 => server.notes[volume][client] = word(value),
         _ => server.batch[volume][client] = word(value),
@@ -101,21 +101,28 @@ fn change_objects(server: &mut Server, field: u64, place: usize, value: u64) {
         20 => server.value[place] = value,
         21 => server.version[place] = word(value),
         22 => server.object_latest[place] = word(value),
+        23 => server.standing = with_bit(server.standing, place, value),
         24 => server.write[place].value = value,
         25 => server.write[place].latest_end = word(value),
         26 => server.object_expiry[object][client] = word(value),
         _ => {
             let waiting = &mut server.write[object].waiting;
-            *waiting = *waiting & !(1 << client) | u16::from(value != 0) << client;
+            *waiting = with_bit((*waiting).into(), client, value) as u16;
         }
     }
 }
 
-fn change_request(request: &mut RequestWords, field: u64, value: u32) {
+fn with_bit(set: u32, place: usize, value: u64) -> u32 {
+    set & !(1 << place) | u32::from(value != 0) << place
+}
+
+fn change_request(request: &mut Request, asked: &mut Standing, field: u64, value: u64) {
+    let mut stands = request.standing.is_some();
     match field {
-        70 => request.next = value,
-        71 => request.standing = value,
-        72 => request.number = value,
-        _ => request.object = value,
+        70 => request.next = word(value),
+        71 => stands = value != 0,
+        72 => asked.number = word(value),
+        _ => asked.object = byte(value),
     }
+    request.standing = stands.then_some(*asked);
 }

@@ -5,10 +5,10 @@ use std::fmt::Display;
 use std::rc::Rc;
 
 use crate::cases::rows::Row;
-use crate::cases::state::{CaseState, RequestWords};
+use crate::cases::state::CaseState;
 use crate::cases::tables::CaseTables;
 use crate::limits::{CLIENTS, NAMES, OBJECTS, QUEUE, VOLUMES};
-use crate::tables::ClientVolumes;
+use crate::tables::{ClientVolumes, Server};
 
 /// The same thing before and after a step.
 type Both<'a, T> = [&'a T; 2];
@@ -18,7 +18,7 @@ pub fn left(before: &CaseTables, after: &CaseTables) -> Vec<String> {
     for name in 0..NAMES {
         let both = [before, after].map(|case| &case.saved);
         let mut saved = Vec::new();
-        one(&mut saved, both, "there", |saved| saved.there[name]);
+        one(&mut saved, both, "there", |saved| u8::from(saved.there[name]));
         let [before, after] = both.map(|saved| &saved.states[name]);
         if !Rc::ptr_eq(before, after) {
             saved.extend(left_of([before, after]));
@@ -32,8 +32,8 @@ fn left_of(both: Both<CaseState>) -> Vec<String> {
     let mut lines = Vec::new();
     let tables = both.map(|state| &state.tables);
     one(&mut lines, tables, "clock", |tables| tables.clock);
-    by_volume(&mut lines, both);
-    by_object(&mut lines, both);
+    by_volume(&mut lines, tables.map(|tables| &tables.server));
+    by_object(&mut lines, tables.map(|tables| &tables.server));
     known(&mut lines, tables.map(|tables| &tables.clients));
     one(&mut lines, tables, "messages", |tables| tables.queue.len);
     each(&mut lines, both, "message", QUEUE, shown);
@@ -41,33 +41,33 @@ fn left_of(both: Both<CaseState>) -> Vec<String> {
     lines
 }
 
-fn by_volume(lines: &mut Vec<String>, both: Both<CaseState>) {
-    let servers = both.map(|state| &state.tables.server);
-    each(lines, servers, "epoch", VOLUMES, |server, volume| server.epoch[volume]);
-    each(lines, servers, "VE", VOLUMES, |server, volume| server.volume_latest[volume]);
-    each(lines, servers, "guard", VOLUMES, |server, volume| server.guard[volume]);
-    each(lines, servers, "seen", CLIENTS, |server, client| server.seen[client]);
-    by_client(lines, servers, "volume lease", VOLUMES, |server, client, volume| {
+fn by_volume(lines: &mut Vec<String>, both: Both<Server>) {
+    each(lines, both, "epoch", VOLUMES, |server, volume| server.epoch[volume]);
+    each(lines, both, "VE", VOLUMES, |server, volume| server.volume_latest[volume]);
+    each(lines, both, "guard", VOLUMES, |server, volume| server.guard[volume]);
+    each(lines, both, "seen", CLIENTS, |server, client| server.seen[client]);
+    by_client(lines, both, "volume lease", VOLUMES, |server, client, volume| {
         server.volume_expiry[volume][client]
     });
-    by_client(lines, both, "unreachable", VOLUMES, |state, client, volume| state.marks[volume][client]);
-    by_client(lines, servers, "offer", VOLUMES, |server, client, volume| server.offer[volume][client]);
-    by_client(lines, servers, "notes", VOLUMES, |server, client, volume| server.notes[volume][client]);
-    by_client(lines, servers, "batch", VOLUMES, |server, client, volume| server.batch[volume][client]);
+    by_client(lines, both, "unreachable", VOLUMES, |server, client, volume| {
+        server.unreachable[volume] >> client & 1
+    });
+    by_client(lines, both, "offer", VOLUMES, |server, client, volume| server.offer[volume][client]);
+    by_client(lines, both, "notes", VOLUMES, |server, client, volume| server.notes[volume][client]);
+    by_client(lines, both, "batch", VOLUMES, |server, client, volume| server.batch[volume][client]);
 }
 
-fn by_object(lines: &mut Vec<String>, both: Both<CaseState>) {
-    let servers = both.map(|state| &state.tables.server);
-    each(lines, servers, "value", OBJECTS, |server, object| server.value[object]);
-    each(lines, servers, "version", OBJECTS, |server, object| server.version[object]);
-    each(lines, servers, "OE", OBJECTS, |server, object| server.object_latest[object]);
-    each(lines, both, "standing", OBJECTS, |state, object| state.standing[object]);
-    each(lines, servers, "pending", OBJECTS, |server, object| server.write[object].value);
-    each(lines, servers, "end", OBJECTS, |server, object| server.write[object].latest_end);
-    by_client(lines, servers, "object lease", OBJECTS, |server, client, object| {
+fn by_object(lines: &mut Vec<String>, both: Both<Server>) {
+    each(lines, both, "value", OBJECTS, |server, object| server.value[object]);
+    each(lines, both, "version", OBJECTS, |server, object| server.version[object]);
+    each(lines, both, "OE", OBJECTS, |server, object| server.object_latest[object]);
+    each(lines, both, "standing", OBJECTS, |server, object| server.standing >> object & 1);
+    each(lines, both, "pending", OBJECTS, |server, object| server.write[object].value);
+    each(lines, both, "end", OBJECTS, |server, object| server.write[object].latest_end);
+    by_client(lines, both, "object lease", OBJECTS, |server, client, object| {
         server.object_expiry[object][client]
     });
-    by_client(lines, servers, "waiting", OBJECTS, |server, client, object| {
+    by_client(lines, both, "waiting", OBJECTS, |server, client, object| {
         server.write[object].waiting >> client & 1
     });
 }
@@ -89,15 +89,11 @@ fn shown(state: &CaseState, place: usize) -> Row {
 
 fn records(lines: &mut Vec<String>, both: Both<CaseState>) {
     each(lines, both, "copy", CLIENTS * OBJECTS, |state, place| state.copies[place]);
-    each(lines, both, "request", CLIENTS, |state, client| record(&state.requests[client]));
-}
-
-/// Returns a request as a record, whose object is a byte: the last one for a
-/// word above it, which no setup has.
-fn record(request: &RequestWords) -> String {
-    let RequestWords { next, standing, number, object } = request;
-    let stands = if *standing != 0 { "standing" } else { "none standing" };
-    format!("next {next}, {stands}, number {number}, object {}", object.min(&255))
+    each(lines, both, "request", CLIENTS, |state, client| {
+        let (request, asked) = (&state.requests[client], &state.asked[client]);
+        let stands = if request.standing.is_some() { "standing" } else { "none standing" };
+        format!("next {}, {stands}, number {}, object {}", request.next, asked.number, asked.object)
+    });
 }
 
 fn one<S, T: Display + PartialEq>(lines: &mut Vec<String>, both: Both<S>, name: &str, get: impl Fn(&S) -> T) {

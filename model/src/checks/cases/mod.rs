@@ -3,20 +3,18 @@
 //! `test_step_cases` reads, too; its output is compared with these lines.
 
 mod changes;
+mod free;
 mod left;
+mod list;
 mod numbers;
-mod reading;
 mod row_messages;
 mod row_rules;
-pub mod rows;
+pub(crate) mod rows;
 mod saved;
 mod state;
-mod storing;
 mod tables;
 
 pub use row_rules::RowRules;
-pub use saved::CaseSaved;
-pub use state::{CaseState, RequestWords};
 pub use tables::CaseTables;
 
 use left::left;
@@ -27,27 +25,6 @@ use crate::answer::Answer;
 use crate::mistakes::Mistakes;
 use crate::step_record::Step;
 
-/// Tables made by hand, and steps that follow each other on them.
-pub struct Case {
-    pub number: u64,
-    pub tables: CaseTables,
-    pub steps: Vec<Step>,
-}
-
-/// Reads the cases. The text begins with the changes that make the base.
-pub fn cases(text: &str) -> Vec<Case> {
-    let mut numbers = Numbers::of(text);
-    let base = changed(&mut numbers, &CaseTables::fresh());
-    let mut cases = Vec::new();
-    while let Some(number) = numbers.next() {
-        let tables = changed(&mut numbers, &base);
-        let count = numbers.need();
-        let steps = (0..count).map(|_| read_step(&mut numbers)).collect();
-        cases.push(Case { number, tables, steps });
-    }
-    cases
-}
-
 /// Returns a line `case answer value` for each step of each case, and below it,
 /// indented by two spaces, the message delivered and what the step left.
 pub fn lines(text: &str) -> String {
@@ -56,11 +33,14 @@ pub fn lines(text: &str) -> String {
 
 /// Returns the same under other rules, to see what a mistake changes.
 pub fn lines_under(rules: Mistakes, text: &str) -> String {
+    let mut numbers = Numbers::of(text);
+    let base = changed(&mut numbers, &CaseTables::fresh());
     let mut lines = String::new();
-    for Case { number: case, mut tables, steps } in cases(text) {
-        for step in &steps {
+    while let Some(case) = numbers.next() {
+        let mut tables = changed(&mut numbers, &base);
+        for _ in 0..numbers.need() {
             let before = tables.clone();
-            let answer = tables.take(rules, step);
+            let answer = tables.take(rules, &read_step(&mut numbers));
             let (number, value) = answer.numbers();
             lines.push_str(&format!("{case} {number} {value}\n"));
             let below = delivered(&answer).into_iter().chain(left(&before, &tables));

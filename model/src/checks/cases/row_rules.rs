@@ -1,6 +1,6 @@
 //! The rules for what is handed over: a message list as rows (docs/DECISIONS.md,
-//! "What of a live row that is no message?"), flags and objects as words, and
-//! saved states that may be there or not.
+//! "What of a live row that is no message?"), and saved states that may be there
+//! or not.
 
 use crate::cases::rows::Row;
 use crate::cases::tables::CaseTables;
@@ -19,22 +19,6 @@ pub trait RowRules {
     /// step.
     fn asks_about(&self, len: usize, place: usize, _step: &Step) -> bool {
         place < len
-    }
-
-    /// Returns whether a flag is set: any word but 0 says "yes".
-    fn is_set(&self, flag: u32) -> bool {
-        flag != 0
-    }
-
-    /// Reads the object of a request, which is a byte. Returns none if the word
-    /// is too large for one.
-    fn object(&self, word: u32) -> Option<u8> {
-        word.try_into().ok()
-    }
-
-    /// Returns whether the object of a request is asked about: where one stands.
-    fn asks_about_object(&self, stands: bool) -> bool {
-        stands
     }
 
     /// Returns whether a saved state is asked about: one that is there.

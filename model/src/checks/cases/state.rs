@@ -1,58 +1,50 @@
-//! A state as a step gets it, the present one or a saved one: words and values,
-//! some of which may mean nothing.
+//! A state as a step gets it, the present one or a saved one.
 
 use crate::cases::rows::Row;
 use crate::copies::{ObjectCopy, NO_COPIES};
-use crate::limits::{CLIENTS, OBJECTS, QUEUE, VOLUMES};
+use crate::limits::{CLIENTS, QUEUE};
+use crate::queue::Queue;
+use crate::requests::{Request, Standing, NO_REQUESTS};
 use crate::setup::Setup;
 use crate::state::State;
 use crate::tables::Tables;
 
-#[derive(Clone, Debug, PartialEq, Eq)]
+#[derive(Clone, Debug)]
 pub struct CaseState {
-    /// Everything that the fields below do not have: no marks, no standing
-    /// flags, and of the message list only the length.
-    pub tables: Tables,
-    /// Per volume and client: whether the client is marked. A flag is any word.
-    pub marks: [[u32; CLIENTS]; VOLUMES],
-    /// Per object: whether a write stands.
-    pub standing: [u32; OBJECTS],
-    pub rows: [Row; QUEUE],
-    pub copies: [ObjectCopy; CLIENTS * OBJECTS],
-    pub requests: [RequestWords; CLIENTS],
-}
-
-/// A request record. Number and object are there whether it stands or not.
-#[derive(Clone, Copy, Debug, PartialEq, Eq)]
-pub struct RequestWords {
-    pub next: u32,
-    pub standing: u32,
-    pub number: u32,
-    /// Stands for a byte, and may be too large for one.
-    pub object: u32,
+    /// Only the length of the message list counts; its messages are the rows.
+    pub(super) tables: Tables,
+    pub(crate) rows: [Row; QUEUE],
+    pub(super) copies: Vec<ObjectCopy>,
+    pub(super) requests: Vec<Request>,
+    /// Number and object of each request record, whether it stands or not.
+    pub(super) asked: [Standing; CLIENTS],
 }
 
 impl CaseState {
     pub fn fresh() -> CaseState {
         CaseState {
             tables: Tables::fresh(),
-            marks: [[0; CLIENTS]; VOLUMES],
-            standing: [0; OBJECTS],
             rows: [Row::FRESH; QUEUE],
-            copies: NO_COPIES,
-            requests: [RequestWords::FRESH; CLIENTS],
+            copies: NO_COPIES.to_vec(),
+            requests: NO_REQUESTS.to_vec(),
+            asked: [Standing { number: 0, object: 0 }; CLIENTS],
         }
     }
 
-    /// Returns the words of a state of the model, with fresh ones in what is
-    /// free.
-    pub fn of(setup: &Setup, state: &State) -> CaseState {
-        let mut words = CaseState::fresh();
-        words.store(setup, &State::fresh(), state);
-        words
+    /// Returns the same as a state of the model, with these messages.
+    pub(super) fn with_messages(&self, queue: Queue) -> State {
+        State::with(&Tables { queue, ..self.tables }, &self.copies, &self.requests)
     }
-}
 
-impl RequestWords {
-    pub const FRESH: RequestWords = RequestWords { next: 1, standing: 0, number: 0, object: 0 };
+    /// Becomes a state of the model, as far as that goes: records past the
+    /// setup's, and number and object of a request that does not stand, stay.
+    pub(super) fn become_state(&mut self, setup: &Setup, state: &State) {
+        self.tables = state.tables;
+        self.keep_list();
+        self.copies[..setup.copy_count()].copy_from_slice(state.copies(setup));
+        self.requests[..setup.clients.into()].copy_from_slice(state.requests(setup));
+        for (asked, request) in self.asked.iter_mut().zip(state.requests(setup)) {
+            *asked = request.standing.unwrap_or(*asked);
+        }
+    }
 }

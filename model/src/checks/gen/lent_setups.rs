@@ -35,8 +35,7 @@ pub fn bad(rng: &mut Rng) -> Vec<Vec<u8>> {
     bad
 }
 
-/// Returns setups with one field out of range.
-pub fn out_of_range(rng: &mut Rng) -> Vec<Setup> {
+fn out_of_range(rng: &mut Rng) -> Vec<Setup> {
     let good = sized(rng.range(1, 16) as u8, rng.range(2, 8) as u8, rng.range(1, 27) as u8);
     let changed = |change: &fn(&mut Setup)| {
         let mut setup = good;

@@ -1,5 +1,4 @@
-//! Run files, and states with a step to take on them, by seed: the same seed
-//! gives the same ones.
+//! Run files by seed: the same seed gives the same files.
 
 pub mod builder;
 pub mod damage;
@@ -21,6 +20,5 @@ pub mod scenes_restart;
 pub mod scenes_saved;
 pub mod scenes_writes;
 pub mod setups;
-pub mod states;
 pub mod workload_calls;
 pub mod writer_calls;
