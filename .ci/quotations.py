@@ -1,7 +1,7 @@
 """Which definitions and functions quote which sentence of the papers: the generated columns of docs/TRACE.md.
 
 The first column of its tables has the sentences, in each row one or a part of one. Comments of the crates quote them: a quotation has the paper's words in
-their order, and leaves words out only at ".." or a punctuation mark; one that no row has is a fault, in proofs and must-fail edits too. A comment before a
+their order, and leaves words out only at ".." or a punctuation mark; one that no row has is a fault, in must-fail edits too. A comment before a
 definition, a field of a record, a function or a type is about that one, before a constant about all constants down to the next comment; a heading
 `-- ----` is about every definition down to the next heading. One word in quotation marks is an answer ("no").
 """
@@ -51,7 +51,7 @@ def comments(path):
 
 
 def in_specs(path):
-    """Yields the comments of a file of specs, each with the definition that it is about, or ""."""
+    """Yields the comments of a file of specs or proofs, each with the definition that it is about, or ""."""
     _, crate, _, file = path.removesuffix(".antt").split("/", 3)
     file = file if crate == "protocol" else f"{crate}/{file}"
     for heading, comment, line, record in comments(path):
@@ -104,7 +104,12 @@ def quoted(found, quotation):
     return lines
 
 
-READERS = [("definition", in_specs, "specs/**/*.antt"), ("code", in_code, "src/**/*.rt"), ("", in_specs, "proofs/**/*.antt"), ("", in_edit, "must-fail/*.edit")]
+READERS = [
+    ("definition", in_specs, "specs/**/*.antt"),
+    ("code", in_code, "src/**/*.rt"),
+    ("definition", in_specs, "proofs/**/*.antt"),  # what a theorem there defines for itself
+    ("", in_edit, "must-fail/*.edit"),
+]
 
 
 def all_quotations(crates):
