@@ -1,5 +1,5 @@
 //! Links the proved static library: the archive that `GEVTSOMI_ARCHIVE`
-//! names, or the one that `rt staticlib gevtsomi` writes in the repository.
+//! names, or the one that `tools/build gevtsomi` writes in the repository.
 
 use std::path::PathBuf;
 use std::{env, process};
@@ -16,7 +16,7 @@ fn main() {
     println!("cargo:rerun-if-changed={}", archive.display());
     let (true, Some(folder), Some(file)) = (archive.is_file(), archive.parent(), archive.file_name()) else {
         eprintln!(
-            "{} is not there: run `rt staticlib gevtsomi` at the repository's top, or name the archive in {VARIABLE}",
+            "{} is not there: run `tools/build gevtsomi` at the repository's top, or name the archive in {VARIABLE}",
             archive.display()
         );
         process::exit(1);
