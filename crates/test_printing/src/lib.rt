@@ -1,38 +1,40 @@
 // Prints for the test programs: decimal numbers, each followed by a space or, with `last`, by a newline; bytes in hexadecimal; and steps.
-use libc::STDOUT_FILENO;
+#![tactic(auto)]
+
 use protocol::step::Step;
+use std::io;
 
-pub fn end() {
-    io::write_all(STDOUT_FILENO, b"\n");
+pub fn end(rt: &impl Print) -> io::Result<()> {
+    println!(rt)
 }
 
-pub fn number(n: u64) {
-    io::print_decimal(STDOUT_FILENO, n);
-    io::write_all(STDOUT_FILENO, b" ");
+pub fn number(rt: &impl Print, n: u64) -> io::Result<()> {
+    print!(rt; "{n} ")
 }
 
-pub fn last(n: u64) {
-    io::print_decimal(STDOUT_FILENO, n);
-    end();
+pub fn last(rt: &impl Print, n: u64) -> io::Result<()> {
+    println!(rt; "{n}")
 }
 
-fn byte(b: u8) {
-    io::print_hex(STDOUT_FILENO, b as u64, 2);
+fn byte(rt: &impl Print, b: u8) -> io::Result<()> {
+    print!(rt; "{b:02x}")
 }
 
-pub fn bytes(s: &[u8]) {
-    let mut i = 0;
-    while i < s.len() {
-        byte(s[i]);
-        i += 1;
+pub fn bytes(rt: &impl Print, s: &[u8]) -> io::Result<()> {
+    for b in s {
+        byte(rt, *b)?;
     }
+    Ok(())
 }
 
-pub fn step(x: Step) {
-    number(x.kind as u64);
-    number(x.client as u64);
-    number(x.object as u64);
-    number(x.place as u64);
-    number(x.clock as u64);
-    last(x.value);
+pub fn step(rt: &impl Print, x: Step) -> io::Result<()> {
+    println!(rt;
+        "{} {} {} {} {} {}",
+        x.kind,
+        x.client,
+        x.object,
+        x.place,
+        x.clock,
+        x.value
+    )
 }
