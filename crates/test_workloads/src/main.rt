@@ -1,7 +1,10 @@
 // 02, A5: prints the draws and the steps of three seeds, a small run file, and refusals. The expected output was worked out apart from the code.
+#![tactic(auto)]
+
 use bytes_layout::output::Report;
 use protocol::setup::Setup;
 use protocol::step::Step;
+use std::io;
 use test_printing::{bytes, end, last, number};
 
 // Returns a setup of 3 clients and 2 volumes with two objects each; tv 10, t 100, m 3, delay 258.
@@ -22,78 +25,72 @@ fn setup() -> Setup {
 }
 
 // Prints the first 20 draws of a seed in a line.
-fn twenty_draws(seed: u32) {
+fn twenty_draws(rt: &impl Print, seed: u32) -> io::Result<()> {
     let mut last = seed;
-    let mut k = 0u32;
-    while k < 20 {
+    for _ in 0..20 {
         last = workload::draws::next(last);
-        number(last as u64);
-        k += 1;
+        number(rt, last as u64)?;
     }
-    end();
+    end(rt)
 }
 
 // Prints the first 10 steps of a seed: kind, client, object, place, clock, value.
-fn ten_steps(seed: u32) {
+fn ten_steps(rt: &impl Print, seed: u32) -> io::Result<()> {
     let steps = workload::steps(seed, setup(), 10).steps;
-    let mut k = 0;
-    while k < 10 {
-        test_printing::step(steps.items[k]);
-        k += 1;
+    for k in 0..10 {
+        test_printing::step(rt, steps.items[k])?;
     }
+    Ok(())
 }
 
 // Prints the refusal's number, or 0 and the number of bytes written.
-fn report(r: Report) {
+fn report(rt: &impl Print, r: Report) -> io::Result<()> {
     match r {
-        Report::Written(n) => {
-            number(0);
-            last(n as u64);
-        }
-        Report::Refused(k) => last(k as u64),
+        Report::Written(n) => println!(rt; "0 {n}"),
+        Report::Refused(k) => last(rt, k as u64),
     }
 }
 
-fn vectors(seed: u32) {
-    twenty_draws(seed);
-    ten_steps(seed);
+fn vectors(rt: &impl Print, seed: u32) -> io::Result<()> {
+    twenty_draws(rt, seed)?;
+    ten_steps(rt, seed)
 }
 
 // Writes a file of 92 bytes into an output of 96, whose last 4 bytes stay, and into one of 91, which is refused and left unchanged.
-fn small_files() {
+fn small_files(rt: &impl Print) -> io::Result<()> {
     let mut out = [170u8; 96];
-    report(workload::write(1, b"ride", setup(), 2, &mut out));
-    bytes(&out);
-    end();
+    report(rt, workload::write(1, b"ride", setup(), 2, &mut out))?;
+    bytes(rt, &out)?;
+    end(rt)?;
     let mut short = [170u8; 91];
-    report(workload::write(1, b"ride", setup(), 2, &mut short));
-    bytes(&short);
-    end();
+    report(rt, workload::write(1, b"ride", setup(), 2, &mut short))?;
+    bytes(rt, &short)?;
+    end(rt)
 }
 
 // Writes the longest file with the most steps, then one byte and one step too many. A setup out of range is refused before too many steps.
-fn sizes() {
+fn sizes(rt: &impl Print) -> io::Result<()> {
     let mut out = [0u8; 65537];
     let note = [0u8; 1481];
-    report(workload::write(1, &note[..1480], setup(), 4000, &mut out));
-    report(workload::write(1, &note, setup(), 4000, &mut out));
-    report(workload::write(1, b"", setup(), 4001, &mut out));
+    report(rt, workload::write(1, &note[..1480], setup(), 4000, &mut out))?;
+    report(rt, workload::write(1, &note, setup(), 4000, &mut out))?;
+    report(rt, workload::write(1, b"", setup(), 4001, &mut out))?;
     let mut s = setup();
     s.clients = 17;
-    report(workload::write(1, b"", s, 4001, &mut out));
+    report(rt, workload::write(1, b"", s, 4001, &mut out))
 }
 
 // Writes a list of one step, whose file has 72 bytes, or of a length that may be more than a run file can have.
-fn one_step(step: Step, len: u32) {
+fn one_step(rt: &impl Print, step: Step, len: u32) -> io::Result<()> {
     let mut steps = file_records::list::blank(len);
     steps.items[0] = step;
     let mut out = [0u8; 72];
-    report(file_writer::write(b"", setup(), steps, &mut out));
-    bytes(&out);
-    end();
+    report(rt, file_writer::write(b"", setup(), steps, &mut out))?;
+    bytes(rt, &out)?;
+    end(rt)
 }
 
-fn given_steps() {
+fn given_steps(rt: &impl Print) -> io::Result<()> {
     let read = Step {
         kind: 2,
         client: 2,
@@ -102,19 +99,19 @@ fn given_steps() {
         clock: 0,
         value: 0,
     };
-    one_step(read, 1);
-    one_step(read, 4001);
-    one_step(read, 4294967295);
+    one_step(rt, read, 1)?;
+    one_step(rt, read, 4001)?;
+    one_step(rt, read, 4294967295)?;
     // a field that a read does not use, then the same in a step of an unknown kind
     let mut odd = read;
     odd.clock = 258;
-    one_step(odd, 1);
+    one_step(rt, odd, 1)?;
     odd.kind = 12;
-    one_step(odd, 1);
+    one_step(rt, odd, 1)
 }
 
 // 02, A7: writes a return to a name that no run has, then a save with a clock, which it does not use.
-fn given_names() {
+fn given_names(rt: &impl Print) -> io::Result<()> {
     let named = Step {
         kind: 11,
         client: 0,
@@ -123,19 +120,19 @@ fn given_names() {
         clock: 0,
         value: 0,
     };
-    one_step(named, 1);
+    one_step(rt, named, 1)?;
     let mut odd = named;
     odd.kind = 10;
     odd.clock = 258;
-    one_step(odd, 1);
+    one_step(rt, odd, 1)
 }
 
-fn main() {
-    vectors(0);
-    vectors(1);
-    vectors(4294967295);
-    small_files();
-    sizes();
-    given_steps();
-    given_names();
+fn main(rt: HostRuntime) -> io::Result<()> {
+    vectors(&rt, 0)?;
+    vectors(&rt, 1)?;
+    vectors(&rt, 4294967295)?;
+    small_files(&rt)?;
+    sizes(&rt)?;
+    given_steps(&rt)?;
+    given_names(&rt)
 }
