@@ -1,4 +1,6 @@
 // A test case: its setup and the number of records it lends, the text it is read from (`text`), and the changes that make it (`change`).
+#![tactic(auto)]
+
 pub mod change;
 pub mod text;
 

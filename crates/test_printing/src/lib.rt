@@ -30,11 +30,6 @@ pub fn bytes(rt: &impl Print, s: &[u8]) -> io::Result<()> {
 pub fn step(rt: &impl Print, x: Step) -> io::Result<()> {
     println!(rt;
         "{} {} {} {} {} {}",
-        x.kind,
-        x.client,
-        x.object,
-        x.place,
-        x.clock,
-        x.value
+        x.kind, x.client, x.object, x.place, x.clock, x.value
     )
 }

@@ -13,12 +13,7 @@ fn volumes(rt: &impl Print, setup: Setup) -> io::Result<()> {
 fn setup(rt: &impl Print, setup: Setup) -> io::Result<()> {
     print!(rt;
         "{} {} {} {} {} {} ",
-        setup.clients,
-        setup.volumes,
-        setup.objects,
-        setup.tv,
-        setup.t,
-        setup.m
+        setup.clients, setup.volumes, setup.objects, setup.tv, setup.t, setup.m
     )?;
     volumes(rt, setup)?;
     number(rt, setup.delay as u64)

@@ -1,8 +1,14 @@
 // Performs steps on tables that no run reaches: unsound ones, and ones at or past a limit. The cases are in the file `stdin`, as numbers among words.
 // The model reads the same file; the file `stdout` is what it prints of its answers and tables.
+#![tactic(auto)]
+
+ghost use Rattle.std.specs.Prelude.{◌≤◌, length, IfOk};
+
 use protocol::step::Step;
 use state_words::saved::{NAMES, SavedValues, SavedWords};
 use state_words::{VALUES, Values, WORDS, Words};
+use std::io;
+use std::io::Read;
 use test_case_reader::Case;
 use test_case_reader::text::Found;
 
@@ -21,8 +27,7 @@ fn changed(
 ) -> Case {
     let mut case = case;
     let mut at = changes.next;
-    let mut i = 0;
-    while i < changes.value {
+    for _ in 0..changes.value {
         let field = test_case_reader::text::number(bytes, at);
         let place = test_case_reader::text::number(bytes, field.next);
         let number = test_case_reader::text::number(bytes, place.next);
@@ -37,13 +42,13 @@ fn changed(
             number.value,
         );
         at = number.next;
-        i += 1;
     }
     case
 }
 
 // Performs a step. Prints the answer and what the step changed.
 fn performed(
+    rt: &impl Print,
     step: Step,
     id: u64,
     case: Case,
@@ -51,7 +56,7 @@ fn performed(
     values: &mut Values,
     saved: &mut SavedWords,
     saved_values: &mut SavedValues,
-) {
+) -> io::Result<()> {
     let words_before = *words;
     let values_before = *values;
     let saved_before = *saved;
@@ -64,13 +69,20 @@ fn performed(
         &mut *saved_values,
         step,
     );
-    test_step_printing::answer::show(id, answer);
-    test_step_printing::show(&words_before, &values_before, &*words, &*values);
-    test_step_printing::show_saved(&saved_before, &saved_values_before, &*saved, &*saved_values);
+    test_step_printing::answer::show(rt, id, answer)?;
+    test_step_printing::show(rt, &words_before, &values_before, &*words, &*values)?;
+    test_step_printing::show_saved(
+        rt,
+        &saved_before,
+        &saved_values_before,
+        &*saved,
+        &*saved_values,
+    )
 }
 
 // Performs steps, whose number was read, each on what the one before it left.
 fn taken(
+    rt: &impl Print,
     bytes: &[u8],
     steps: Found,
     id: u64,
@@ -79,12 +91,12 @@ fn taken(
     values: &mut Values,
     saved: &mut SavedWords,
     saved_values: &mut SavedValues,
-) {
+) -> io::Result<()> {
     let mut at = steps.next;
-    let mut i = 0;
-    while i < steps.value {
+    for _ in 0..steps.value {
         let step = test_case_reader::text::step(bytes, at);
         performed(
+            rt,
             step,
             id,
             case,
@@ -92,14 +104,15 @@ fn taken(
             &mut *values,
             &mut *saved,
             &mut *saved_values,
-        );
+        )?;
         at = test_case_reader::text::after(bytes, at, 6);
-        i += 1;
     }
+    Ok(())
 }
 
 // Performs one case, whose number was read: the number of changes, the changes, the number of steps, the steps. Returns the offset after it.
 fn case(
+    rt: &impl Print,
     bytes: &[u8],
     id: Found,
     base: Case,
@@ -107,7 +120,7 @@ fn case(
     values: &Values,
     saved: &SavedWords,
     saved_values: &SavedValues,
-) -> usize {
+) -> io::Result<usize> {
     let changes = test_case_reader::text::number(bytes, id.next);
     let steps_at = test_case_reader::text::after(
         bytes,
@@ -129,6 +142,7 @@ fn case(
         &mut saved_values,
     );
     taken(
+        rt,
         bytes,
         steps,
         id.value,
@@ -137,17 +151,15 @@ fn case(
         &mut values,
         &mut saved,
         &mut saved_values,
-    );
+    )?;
     let half = test_case_reader::text::threefold(steps.value);
-    test_case_reader::text::after(
-        bytes,
-        test_case_reader::text::after(bytes, steps.next, half),
-        half,
-    )
+    let halfway = test_case_reader::text::after(bytes, steps.next, half);
+    Ok(test_case_reader::text::after(bytes, halfway, half))
 }
 
 // Performs cases up to the end of the text, at most 1,000.
 fn cases(
+    rt: &impl Print,
     bytes: &[u8],
     from: usize,
     base: Case,
@@ -155,21 +167,20 @@ fn cases(
     values: &Values,
     saved: &SavedWords,
     saved_values: &SavedValues,
-) {
+) -> io::Result<()> {
     let mut at = from;
-    let mut i = 0u64;
-    while i < 1000 {
+    for _ in 0..1000 {
         let id = test_case_reader::text::number(bytes, at);
         if id.value == 0 {
-            return;
+            break;
         }
-        at = case(bytes, id, base, words, values, saved, saved_values);
-        i += 1;
+        at = case(rt, bytes, id, base, words, values, saved, saved_values)?;
     }
+    Ok(())
 }
 
 // Performs all cases. The text begins with the changes that make the base, which every case starts from.
-fn run(bytes: &[u8]) {
+fn run(rt: &impl Print, bytes: &[u8]) -> io::Result<()> {
     let changes = test_case_reader::text::number(bytes, 0);
     let mut words = [0u32; WORDS];
     let mut values = [0u64; VALUES];
@@ -190,11 +201,35 @@ fn run(bytes: &[u8]) {
         changes.next,
         test_case_reader::text::threefold(changes.value),
     );
-    cases(bytes, from, base, &words, &values, &saved, &saved_values);
+    cases(
+        rt,
+        bytes,
+        from,
+        base,
+        &words,
+        &values,
+        &saved,
+        &saved_values,
+    )
 }
 
-fn main() {
-    let mut file = [0u8; MOST];
-    let length = io::read_full(0, &mut file);
-    run(&file[..length]);
+// Reads until `text` is full or the input ends, and returns the number of bytes read.
+fn read(reader: &mut impl Read, text: &mut [u8]) -> io::Result<usize>
+    ensures { IfOk result (λ n. n ≤ length text.new) }
+{
+    let mut n = 0;
+    while n < text.len() {
+        let more = reader.read(&mut text[n..])?;
+        if more == 0 {
+            break;
+        }
+        n += more;
+    }
+    Ok(n)
+}
+
+fn main(rt: HostRuntime) -> io::Result<()> {
+    let mut text = [0u8; MOST];
+    let length = read(&mut rt.stdin(), &mut text)?;
+    run(&rt, &text[..length])
 }

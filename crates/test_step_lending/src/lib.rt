@@ -1,4 +1,6 @@
 // Performs a step on the client records in the words: lends the first of them to the public step, and stores them back afterwards.
+#![tactic(auto)]
+
 use protocol::records::{Copy, Request};
 use protocol::step::{Answer, Step};
 use setup::limits::CLIENTS;

@@ -1,38 +1,37 @@
 // Prints the answer to a step.
-use crate::lines::{end, fields, spaced, text};
+use crate::lines::fields;
 use protocol::message::Message;
 use protocol::step::Answer;
+use std::io;
 
-fn line(answer: u64, value: u64) {
-    spaced(answer);
-    spaced(value);
-    end();
+fn line(rt: &impl Print, answer: u64, value: u64) -> io::Result<()> {
+    println!(rt; " {answer} {value}")
 }
 
 // Prints done if no write completed, else completed and how many.
-fn completed(writes: u32) {
+fn completed(rt: &impl Print, writes: u32) -> io::Result<()> {
     if writes == 0 {
-        line(0, 0);
-        return;
+        line(rt, 0, 0)
+    } else {
+        line(rt, 3, writes as u64)
     }
-    line(3, writes as u64);
 }
 
-fn delivered(message: Message, writes: u32) {
-    completed(writes);
-    text(b"  delivered:");
-    fields(message_fields::fields_of(message));
+fn delivered(rt: &impl Print, message: Message, writes: u32) -> io::Result<()> {
+    completed(rt, writes)?;
+    print!(rt; "  delivered:")?;
+    fields(rt, message_fields::fields_of(message))
 }
 
 // Prints the case, the answer's number and value in 01, and the message in it.
-pub fn show(id: u64, answer: Answer) {
-    io::print_decimal(1, id);
+pub fn show(rt: &impl Print, id: u64, answer: Answer) -> io::Result<()> {
+    print!(rt; "{id}")?;
     match answer {
-        Answer::Done => line(0, 0),
-        Answer::Shown(value) => line(1, value),
-        Answer::AskFirst => line(2, 0),
-        Answer::Completed(writes) => completed(writes),
-        Answer::Delivered(message, writes) => delivered(message, writes),
-        Answer::Refused(question) => line(4, question as u64),
+        Answer::Done => line(rt, 0, 0),
+        Answer::Shown(value) => line(rt, 1, value),
+        Answer::AskFirst => line(rt, 2, 0),
+        Answer::Completed(writes) => completed(rt, writes),
+        Answer::Delivered(message, writes) => delivered(rt, message, writes),
+        Answer::Refused(question) => line(rt, 4, question as u64),
     }
 }

@@ -4,9 +4,9 @@ ghost use Rattle.std.specs.Prelude.{◌+◌, ◌≤◌, ◌<◌};
 ghost use Rattle.setup.specs.Limits.{SLOTS};
 ghost use Rattle.state_words.specs.Fields.{WORDS, VALUES};
 
-use crate::lines::{end, number, spaced, text};
 use setup::limits;
 use state_words::{CLIENT_OBJECTS, Values, Words, pass};
+use std::io;
 
 // How the elements of a field are counted: by one number, by client and volume, or by client and object.
 #[derive(Clone, Copy)]
@@ -16,51 +16,60 @@ pub enum Row {
     Objects,
 }
 
-fn place(row: Row, i: usize) {
+fn place(rt: &impl Print, row: Row, i: usize) -> io::Result<()> {
     match row {
-        Row::One => spaced(i as u64),
-        Row::Volumes => {
-            spaced((i / limits::VOLUMES) as u64);
-            spaced((i % limits::VOLUMES) as u64);
-        }
-        Row::Objects => {
-            spaced((i / limits::SLOTS) as u64);
-            spaced((i % limits::SLOTS) as u64);
-        }
+        Row::One => print!(rt; " {i}"),
+        Row::Volumes => print!(rt; " {} {}", i / limits::VOLUMES, i % limits::VOLUMES),
+        Row::Objects => print!(rt; " {} {}", i / limits::SLOTS, i % limits::SLOTS),
     }
 }
 
-fn element(prefix: &[u8], name: &[u8], row: Row, i: usize, before: u64, after: u64) {
-    if before != after {
-        text(prefix);
-        text(name);
-        place(row, i);
-        number(b": ", after);
-        end();
+fn element(
+    rt: &impl Print,
+    prefix: &str,
+    name: &str,
+    row: Row,
+    i: usize,
+    before: u64,
+    after: u64,
+) -> io::Result<()> {
+    if before == after {
+        return Ok(());
     }
+    print!(rt; "{prefix}{name}")?;
+    place(rt, row, i)?;
+    println!(rt; ": {after}")
 }
 
-fn word(prefix: &[u8], name: &[u8], row: Row, i: usize, before: u32, after: u32) {
-    element(prefix, name, row, i, before as u64, after as u64);
+fn word(
+    rt: &impl Print,
+    prefix: &str,
+    name: &str,
+    row: Row,
+    i: usize,
+    before: u32,
+    after: u32,
+) -> io::Result<()> {
+    element(rt, prefix, name, row, i, before as u64, after as u64)
 }
 
 // Prints the changes among `count` words from `from` on.
 pub fn words(
-    prefix: &[u8],
-    name: &[u8],
+    rt: &impl Print,
+    prefix: &str,
+    name: &str,
     row: Row,
     from: usize,
     count: usize,
     before: &Words,
     after: &Words,
-)
+) -> io::Result<()>
     requires { from + count ≤ WORDS }
 {
-    let mut i = 0;
-    while i < count {
-        word(prefix, name, row, i, before[from + i], after[from + i]);
-        i += 1;
+    for i in 0..count {
+        word(rt, prefix, name, row, i, before[from + i], after[from + i])?;
     }
+    Ok(())
 }
 
 fn member(set: u32, client: usize) -> u32
@@ -70,32 +79,53 @@ fn member(set: u32, client: usize) -> u32
 }
 
 // Prints the changes among the clients in the sets from `from` on, one per object.
-pub fn members(prefix: &[u8], name: &[u8], from: usize, before: &Words, after: &Words)
+pub fn members(
+    rt: &impl Print,
+    prefix: &str,
+    name: &str,
+    from: usize,
+    before: &Words,
+    after: &Words,
+) -> io::Result<()>
     requires { from + SLOTS ≤ WORDS }
 {
-    let mut i = 0;
-    while i < CLIENT_OBJECTS {
+    for i in 0..CLIENT_OBJECTS {
         let object = from + i % limits::SLOTS;
         let client = i / limits::SLOTS;
         word(
+            rt,
             prefix,
             name,
             Row::Objects,
             i,
             member(before[object], client),
             member(after[object], client),
-        );
-        i += 1;
+        )?;
     }
+    Ok(())
 }
 
 // Prints the changes among the values from `from` on, one per object.
-pub fn values(prefix: &[u8], name: &[u8], from: usize, before: &Values, after: &Values)
+pub fn values(
+    rt: &impl Print,
+    prefix: &str,
+    name: &str,
+    from: usize,
+    before: &Values,
+    after: &Values,
+) -> io::Result<()>
     requires { from + SLOTS ≤ VALUES }
 {
-    let mut i = 0;
-    while i < limits::SLOTS {
-        element(prefix, name, Row::One, i, before[from + i], after[from + i]);
-        i += 1;
+    for i in 0..limits::SLOTS {
+        element(
+            rt,
+            prefix,
+            name,
+            Row::One,
+            i,
+            before[from + i],
+            after[from + i],
+        )?;
     }
+    Ok(())
 }

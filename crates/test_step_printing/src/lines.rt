@@ -1,35 +1,20 @@
-// Prints the pieces of lines.
+// Prints the end of a line.
 use message_fields::Fields;
-
-pub fn text(bytes: &[u8]) {
-    io::write_all(1, bytes);
-}
-
-// Prints a number with words before it.
-pub fn number(words: &[u8], value: u64) {
-    text(words);
-    io::print_decimal(1, value);
-}
-
-pub fn spaced(value: u64) {
-    number(b" ", value);
-}
-
-pub fn end() {
-    text(b"\n");
-}
+use std::io;
 
 // Prints a message's ten fields, in the frame's order.
-pub fn fields(message: Fields) {
-    spaced(message.kind as u64);
-    spaced(message.client as u64);
-    spaced(message.object as u64);
-    spaced(message.present as u64);
-    spaced(message.number as u64);
-    spaced(message.volume_expiry as u64);
-    spaced(message.epoch as u64);
-    spaced(message.version as u64);
-    spaced(message.object_expiry as u64);
-    spaced(message.value);
-    end();
+pub fn fields(rt: &impl Print, message: Fields) -> io::Result<()> {
+    println!(rt;
+        " {} {} {} {} {} {} {} {} {} {}",
+        message.kind,
+        message.client,
+        message.object,
+        message.present,
+        message.number,
+        message.volume_expiry,
+        message.epoch,
+        message.version,
+        message.object_expiry,
+        message.value
+    )
 }

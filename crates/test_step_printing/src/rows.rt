@@ -1,10 +1,11 @@
 // Prints a line for each message and each client record, lent or not, that a step changed.
-use crate::lines::{end, fields, number, text};
+use crate::lines::fields;
 use message_fields::Fields;
 use protocol::message::Message;
 use protocol::records::{Copy, Request};
 use setup::limits::{CLIENTS, PLACES};
 use state_words::{CLIENT_OBJECTS, Values, Words};
+use std::io;
 
 fn same_fields(before: Fields, after: Fields) -> bool {
     let head = (before.kind == after.kind)
@@ -21,32 +22,36 @@ fn same_fields(before: Fields, after: Fields) -> bool {
         & (before.value == after.value)
 }
 
-fn message(prefix: &[u8], i: usize, before: Message, after: Message) {
+fn message(
+    rt: &impl Print,
+    prefix: &str,
+    i: usize,
+    before: Message,
+    after: Message,
+) -> io::Result<()> {
     let fields_before = message_fields::fields_of(before);
     let fields_after = message_fields::fields_of(after);
     if same_fields(fields_before, fields_after) {
-        return;
+        return Ok(());
     }
-    text(prefix);
-    number(b"message ", i as u64);
-    text(b":");
-    fields(fields_after);
+    print!(rt; "{prefix}message {i}:")?;
+    fields(rt, fields_after)
 }
 
 pub fn messages(
-    prefix: &[u8],
+    rt: &impl Print,
+    prefix: &str,
     before: &Words,
     values_before: &Values,
     after: &Words,
     values_after: &Values,
-) {
-    let mut i = 0;
-    while i < PLACES {
+) -> io::Result<()> {
+    for i in 0..PLACES {
         let message_before = network_queue::list::message_at(before, values_before, i);
         let message_after = network_queue::list::message_at(after, values_after, i);
-        message(prefix, i, message_before, message_after);
-        i += 1;
+        message(rt, prefix, i, message_before, message_after)?;
     }
+    Ok(())
 }
 
 fn same_copy(before: Copy, after: Copy) -> bool {
@@ -55,32 +60,30 @@ fn same_copy(before: Copy, after: Copy) -> bool {
         & (before.expiry == after.expiry)
 }
 
-fn copy(prefix: &[u8], i: usize, before: Copy, after: Copy) {
+fn copy(rt: &impl Print, prefix: &str, i: usize, before: Copy, after: Copy) -> io::Result<()> {
     if same_copy(before, after) {
-        return;
+        return Ok(());
     }
-    text(prefix);
-    number(b"copy ", i as u64);
-    number(b": version ", after.version as u64);
-    number(b", value ", after.value);
-    number(b", expiry ", after.expiry as u64);
-    end();
+    println!(rt;
+        "{prefix}copy {i}: version {}, value {}, expiry {}",
+        after.version, after.value, after.expiry
+    )
 }
 
 pub fn copies<'a, 'b>(
-    prefix: &[u8],
+    rt: &impl Print,
+    prefix: &str,
     before: &'a Words,
     values_before: &'a Values,
     after: &'b Words,
     values_after: &'b Values,
-) {
-    let mut i = 0;
-    while i < CLIENT_OBJECTS {
+) -> io::Result<()> {
+    for i in 0..CLIENT_OBJECTS {
         let copy_before = client_records::copies::copy_at(before, values_before, i);
         let copy_after = client_records::copies::copy_at(after, values_after, i);
-        copy(prefix, i, copy_before, copy_after);
-        i += 1;
+        copy(rt, prefix, i, copy_before, copy_after)?;
     }
+    Ok(())
 }
 
 fn same_request(before: Request, after: Request) -> bool {
@@ -90,34 +93,39 @@ fn same_request(before: Request, after: Request) -> bool {
         & (before.object == after.object)
 }
 
-// Prints whether the client has a request standing.
-fn stands(standing: bool) {
+// Whether the client has a request standing, in words.
+fn stands(standing: bool) -> &'static str {
     if standing {
-        text(b", standing");
+        "standing"
     } else {
-        text(b", none standing");
+        "none standing"
     }
 }
 
-fn request(prefix: &[u8], i: usize, before: Request, after: Request) {
+fn request(
+    rt: &impl Print,
+    prefix: &str,
+    i: usize,
+    before: Request,
+    after: Request,
+) -> io::Result<()> {
     if same_request(before, after) {
-        return;
+        return Ok(());
     }
-    text(prefix);
-    number(b"request ", i as u64);
-    number(b": next ", after.next as u64);
-    stands(after.standing);
-    number(b", number ", after.number as u64);
-    number(b", object ", after.object as u64);
-    end();
+    println!(rt;
+        "{prefix}request {i}: next {}, {}, number {}, object {}",
+        after.next,
+        stands(after.standing),
+        after.number,
+        after.object
+    )
 }
 
-pub fn requests(prefix: &[u8], before: &Words, after: &Words) {
-    let mut i = 0;
-    while i < CLIENTS {
+pub fn requests(rt: &impl Print, prefix: &str, before: &Words, after: &Words) -> io::Result<()> {
+    for i in 0..CLIENTS {
         let request_before = client_records::requests::request_at(before, i);
         let request_after = client_records::requests::request_at(after, i);
-        request(prefix, i, request_before, request_after);
-        i += 1;
+        request(rt, prefix, i, request_before, request_after)?;
     }
+    Ok(())
 }

@@ -1,175 +1,206 @@
 // Prints a line for each element of the tables that a step changed.
-
 use crate::elements::{Row, members, values, words};
-use crate::lines::{end, number, text};
 use setup::limits::{CLIENTS, SLOTS, VOLUMES};
 use state_words::{CLIENT_OBJECTS, CLIENT_VOLUMES, Values, Words, client, server};
+use std::io;
 
 // Prints a single number if it changed.
-pub fn one(prefix: &[u8], name: &[u8], before: u32, after: u32) {
-    if before != after {
-        text(prefix);
-        number(name, after as u64);
-        end();
+pub fn one(rt: &impl Print, prefix: &str, name: &str, before: u32, after: u32) -> io::Result<()> {
+    if before == after {
+        return Ok(());
     }
+    println!(rt; "{prefix}{name}{after}")
 }
 
-pub fn volumes(prefix: &[u8], before: &Words, after: &Words) {
+pub fn volumes(rt: &impl Print, prefix: &str, before: &Words, after: &Words) -> io::Result<()> {
     words(
+        rt,
         prefix,
-        b"epoch",
+        "epoch",
         Row::One,
         server::VOLUME_EPOCH,
         VOLUMES,
         before,
         after,
-    );
+    )?;
     words(
+        rt,
         prefix,
-        b"VE",
+        "VE",
         Row::One,
         server::VOLUME_EXPIRY,
         VOLUMES,
         before,
         after,
-    );
+    )?;
     words(
+        rt,
         prefix,
-        b"guard",
+        "guard",
         Row::One,
         server::GUARD,
         VOLUMES,
         before,
         after,
-    );
+    )?;
     words(
+        rt,
         prefix,
-        b"seen",
+        "seen",
         Row::One,
         server::SEEN,
         CLIENTS,
         before,
         after,
-    );
+    )?;
     words(
+        rt,
         prefix,
-        b"volume lease",
+        "volume lease",
         Row::Volumes,
         server::SESSION_EXPIRY,
         CLIENT_VOLUMES,
         before,
         after,
-    );
+    )?;
     words(
+        rt,
         prefix,
-        b"unreachable",
+        "unreachable",
         Row::Volumes,
         server::UNREACHABLE,
         CLIENT_VOLUMES,
         before,
         after,
-    );
+    )?;
     words(
+        rt,
         prefix,
-        b"offer",
+        "offer",
         Row::Volumes,
         server::OFFER,
         CLIENT_VOLUMES,
         before,
         after,
-    );
+    )?;
     words(
+        rt,
         prefix,
-        b"notes",
+        "notes",
         Row::Volumes,
         server::NOTES,
         CLIENT_VOLUMES,
         before,
         after,
-    );
+    )?;
     words(
+        rt,
         prefix,
-        b"batch",
+        "batch",
         Row::Volumes,
         server::BATCH,
         CLIENT_VOLUMES,
         before,
         after,
-    );
+    )
 }
 
 pub fn objects(
-    prefix: &[u8],
+    rt: &impl Print,
+    prefix: &str,
     before: &Words,
     values_before: &Values,
     after: &Words,
     values_after: &Values,
-) {
-    values(prefix, b"value", server::VALUE, values_before, values_after);
-    words(
+) -> io::Result<()> {
+    values(
+        rt,
         prefix,
-        b"version",
+        "value",
+        server::VALUE,
+        values_before,
+        values_after,
+    )?;
+    words(
+        rt,
+        prefix,
+        "version",
         Row::One,
         server::VERSION,
         SLOTS,
         before,
         after,
-    );
+    )?;
     words(
+        rt,
         prefix,
-        b"OE",
+        "OE",
         Row::One,
         server::OBJECT_EXPIRY,
         SLOTS,
         before,
         after,
-    );
+    )?;
     words(
+        rt,
         prefix,
-        b"standing",
+        "standing",
         Row::One,
         server::STANDING,
         SLOTS,
         before,
         after,
-    );
+    )?;
     values(
+        rt,
         prefix,
-        b"pending",
+        "pending",
         server::PENDING,
         values_before,
         values_after,
-    );
-    words(prefix, b"end", Row::One, server::END, SLOTS, before, after);
+    )?;
     words(
+        rt,
         prefix,
-        b"object lease",
+        "end",
+        Row::One,
+        server::END,
+        SLOTS,
+        before,
+        after,
+    )?;
+    words(
+        rt,
+        prefix,
+        "object lease",
         Row::Objects,
         server::LEASE,
         CLIENT_OBJECTS,
         before,
         after,
-    );
-    members(prefix, b"waiting", server::WAITING, before, after);
+    )?;
+    members(rt, prefix, "waiting", server::WAITING, before, after)
 }
 
-pub fn views(prefix: &[u8], before: &Words, after: &Words) {
+pub fn views(rt: &impl Print, prefix: &str, before: &Words, after: &Words) -> io::Result<()> {
     words(
+        rt,
         prefix,
-        b"known epoch",
+        "known epoch",
         Row::Volumes,
         client::VIEW_EPOCH,
         CLIENT_VOLUMES,
         before,
         after,
-    );
+    )?;
     words(
+        rt,
         prefix,
-        b"known expiry",
+        "known expiry",
         Row::Volumes,
         client::VIEW_EXPIRY,
         CLIENT_VOLUMES,
         before,
         after,
-    );
+    )
 }

@@ -72,7 +72,10 @@ fn small_files(rt: &impl Print) -> io::Result<()> {
 fn sizes(rt: &impl Print) -> io::Result<()> {
     let mut out = [0u8; 65537];
     let note = [0u8; 1481];
-    report(rt, workload::write(1, &note[..1480], setup(), 4000, &mut out))?;
+    report(
+        rt,
+        workload::write(1, &note[..1480], setup(), 4000, &mut out),
+    )?;
     report(rt, workload::write(1, &note, setup(), 4000, &mut out))?;
     report(rt, workload::write(1, b"", setup(), 4001, &mut out))?;
     let mut s = setup();
