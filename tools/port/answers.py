@@ -215,7 +215,8 @@ def renamed(text, to):
             name = m.group(0)
             if re.search(r"\blet $", text[:i]):
                 bound[-1] = bound[-1] | {name}
-            out.append(name if any(name in b for b in bound[-1:]) else to.get(name, name))
+            field = re.match(r"\s*=(?!=)", text[m.end():]) and re.search(r"[{;]\s*$", text[:i])
+            out.append(name if field or name in bound[-1] else to.get(name, name))
             i = m.end()
             continue
         out.append(ch)
