@@ -248,6 +248,11 @@ class Turn:
         text = re.sub(rf"(?<!args)(?<!ranges)(?<!requires)(?<!ensures)(?<!new)\.({IDENT})", step, text)
         text = re.sub(r"\.given\.0(?![\w'.-])", ".given", text)
         text = re.sub(r"\.in_default\.keys", ".in_default.in_default-own.keys", text)
+        while True:  # a name for several clauses
+            m = re.search(rf"\s*let ({IDENT}) = ((?:[A-Za-z_][\w'-]*\.)*(?:requires|ensures)) in(?![\w'-])", text)
+            if not m:
+                break
+            text = text[: m.start()] + " " + re.sub(rf"(?<![\w'.-]){re.escape(m.group(1))}(?![\w'-])", m.group(2), text[m.end():])
         pre = self.info.get("pre")
         if pre and len(pre["fields"]) > 1:
             text = by_label(text, r"requires", pre["fields"])
