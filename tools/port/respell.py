@@ -1,11 +1,11 @@
 #!/usr/bin/env python3
 """Respells this repository's own definitions and lemmas as today's Rattle writes names: words in snake case, types and modules in camel case.
 
-usage: tools/port/respell.py            at the top, once, right after /opt/rattle/port/port.py
+usage: tools/port/respell.py [MAP..]    at the top, once, right after the port.py of the kit
 
-A name is respelled where a file of specs/ or proofs/ declares it and no library declares it too. The map is written to tools/port/names.tsv the first time,
-and read from there afterwards, so that the same names come out on any commit. Where a definition and a lemma would get one name, the lemma gets `_law` after
-its name. Strings and plain comments of .rt files stay; must-fail edits are respelled with the text that they replace.
+A name is respelled where a file of specs/ or proofs/ declares it and no library declares it too. The maps are names.tsv and names-2.tsv beside this file, one
+after the other, or those that are given; names.tsv was made by `make_map`, on the first run. Where a definition and a lemma would get one name, the lemma gets
+`_law` after its name. Strings and plain comments of .rt files stay; must-fail edits are respelled with the text that they replace.
 """
 import collections
 import os
@@ -15,6 +15,7 @@ import sys
 
 HERE = os.path.dirname(os.path.realpath(__file__))
 MAP = os.path.join(HERE, "names.tsv")
+MAPS = [MAP, os.path.join(HERE, "names-2.tsv")]
 WORD = re.compile(r"[A-Za-z_][A-Za-z0-9_'₀-₉]*(?:-[A-Za-z0-9_'₀-₉]+)*")
 DECLARED = re.compile(r"^\s*(?:(?:unfoldable|abbrev|pub|opaque|private|instance|record|data)\s+)*([a-z_][A-Za-z0-9_'₀-₉]*(?:-[A-Za-z0-9_'₀-₉]+)*)(?:\s*[({].*)?\s+:(?:\s|$)")
 IMPORT = re.compile(r"^\s*(?:pub )?(?:ghost )?use ([^\s{]+)\.\{(.*)\}", re.M)
@@ -115,15 +116,21 @@ def respell_antt(text, to):
     return "\n".join(out)
 
 
-def main():
-    if os.path.exists(MAP):
-        with open(MAP, encoding="utf-8") as f:
-            to = dict(line.rstrip("\n").split("\t") for line in f if line.strip())
-    else:
+def main(maps):
+    if not os.path.exists(MAP):
         to, left = make_map()
         with open(MAP, "w", encoding="utf-8") as f:
             f.writelines(f"{a}\t{b}\n" for a, b in sorted(to.items()))
         print("left, as a library has the name too:", ", ".join(left))
+    for it in maps or MAPS:
+        with open(it, encoding="utf-8") as f:
+            apply(dict(line.rstrip("\n").split("\t") for line in f if line.strip()))
+    for crate in sorted(os.listdir("crates")):
+        if os.path.isdir(os.path.join("crates", crate, "src")):
+            subprocess.run(["rt", "fmt"], cwd=os.path.join("crates", crate), stdout=subprocess.DEVNULL, check=True)
+
+
+def apply(to):
     n = 0
     for path in files((".antt", ".rt", ".edit")):
         text = text_of(path)
@@ -138,10 +145,7 @@ def main():
             with open(path, "w", encoding="utf-8") as f:
                 f.write(new)
     print(f"{len(to)} names, {n} files")
-    for crate in sorted(os.listdir("crates")):
-        if os.path.isdir(os.path.join("crates", crate, "src")):
-            subprocess.run(["rt", "fmt"], cwd=os.path.join("crates", crate), stdout=subprocess.DEVNULL, check=True)
 
 
 if __name__ == "__main__":
-    sys.exit(main())
+    sys.exit(main(sys.argv[1:]))
