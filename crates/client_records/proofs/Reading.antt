@@ -75,7 +75,8 @@ pub request_read : (w : List ℕ) (d : ℕ) → d < 16
 unfolding records_of
 request_read w d h =
     rw (part_at word_lengths w REQUEST-NEXT d h, part_at word_lengths w REQUEST-STANDING d h, part_at word_lengths w REQUEST-NUMBER d h, part_at word_lengths w REQUEST-OBJECT d h)
-    (sym (tabulate_at (request_at (parts word_lengths w REQUEST-NEXT) (parts word_lengths w REQUEST-STANDING) (parts word_lengths w REQUEST-NUMBER) (parts word_lengths w REQUEST-OBJECT)) 16 d no_request h))
+    (sym (tabulate_at (request_at (parts word_lengths w REQUEST-NEXT) (parts word_lengths w REQUEST-STANDING) (parts word_lengths w REQUEST-NUMBER)
+    (parts word_lengths w REQUEST-OBJECT)) 16 d no_request h))
 
 -- ---- a sweep: one iteration, and the end of the loop
 

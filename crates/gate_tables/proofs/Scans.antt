@@ -17,7 +17,8 @@ use Rattle.protocol.specs.Setup.{in_range}
 use Rattle.protocol.proofs.Ranges.{ranges}
 use Rattle.protocol.specs.Messages.{message_at}
 use Rattle.protocol.specs.Tables.{by_volume, by_object}
-use Rattle.protocol.specs.Sound.{time_fits, can_grow, clock_limit, set_sound, volume_sound, object_sound, session_sound, sessions_sound, holder_sound, holders_sound, message_sound, queue_sound, tables_sound}
+use Rattle.protocol.specs.Sound.{time_fits, can_grow, clock_limit, set_sound, volume_sound, object_sound}
+use Rattle.protocol.specs.Sound.{session_sound, sessions_sound, holder_sound, holders_sound, message_sound, queue_sound, tables_sound}
 use Rattle.state_words.specs.Fields.{word_lengths, at, CLOCK, VOLUME-EPOCH, VOLUME-EXPIRY, GUARD, SESSION-EXPIRY, VERSION, OBJECT-EXPIRY, STANDING, END, LEASE, NOTES, VIEW-EXPIRY}
 use Rattle.state_words.proofs.ReadsLaws.{length_word}
 use Rattle.state_words.specs.View.{tables_of, numbers_of}

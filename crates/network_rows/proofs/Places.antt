@@ -15,7 +15,8 @@ row_same a b v u i j h e =
     rw (h 0 (omega arith), h 1 (omega arith), h 2 (omega arith), h 3 (omega arith), h 4 (omega arith), h 5 (omega arith), h 6 (omega arith), h 7 (omega arith), h 8 (omega arith), e)
 
 -- .. and so read as the same message
-pub message_same : (a b v u : List ℕ) (i j : ℕ) → ((k : ℕ) → k < 9 → get_or a (i * 9 + k) 0 ≡ get_or b (j * 9 + k) 0) → get_or v i 0 ≡ get_or u j 0 → message_of a v i ≡ message_of b u j
+pub message_same : (a b v u : List ℕ) (i j : ℕ) → ((k : ℕ) → k < 9 → get_or a (i * 9 + k) 0 ≡ get_or b (j * 9 + k) 0) → get_or v i 0 ≡ get_or u j 0 → message_of a v i
+    ≡ message_of b u j
 unfolding message_of narrow_at
 message_same a b v u i j h e = rw (row_same a b v u i j h e, h 0 (omega arith), h 1 (omega arith), h 2 (omega arith), h 3 (omega arith))
 

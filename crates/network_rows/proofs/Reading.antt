@@ -22,7 +22,8 @@ unfolding fields_at
 load_is r x i a b c d k₀ k₁ k₂ k₃ k₄ k₅ k₆ k₇ k₈ h p q s t e₀ e₁ e₂ e₃ e₄ e₅ e₆ e₇ e₈ =
     rw (p, q, s, t, e₀, e₁, e₂, e₃, e₄, e₅, e₆, e₇, e₈, part_at value_lengths x MESSAGE-VALUE i h)
 
-pub narrow_is : (r : List ℕ) (i k₀ k₁ k₂ k₃ : ℕ) → k₀ ≡ get_or r (i * 9 + 0) 0 → k₁ ≡ get_or r (i * 9 + 1) 0 → k₂ ≡ get_or r (i * 9 + 2) 0 → k₃ ≡ get_or r (i * 9 + 3) 0
+pub narrow_is : (r : List ℕ) (i k₀ k₁ k₂ k₃ : ℕ) → k₀ ≡ get_or r (i * 9 + 0) 0 → k₁ ≡ get_or r (i * 9 + 1) 0 → k₂ ≡ get_or r (i * 9 + 2) 0 → k₃
+    ≡ get_or r (i * 9 + 3) 0
     → (ltb k₀ 256 && ltb k₁ 256 && ltb k₂ 256 && ltb k₃ 256) ≡ narrow_at r i
 unfolding narrow_at
 narrow_is r i k₀ k₁ k₂ k₃ e₀ e₁ e₂ e₃ = rw (e₀, e₁, e₂, e₃)

@@ -135,7 +135,8 @@ module _ (s : Setup) (w a b c d u x y : List ℕ) (n : ℕ) (h : length w ≡ WO
       ap length e₂ ∙ length_store always (λ (v : ℕ). at GUARD + v) (λ (v : ℕ). get_or (parts word_lengths a VOLUME-EXPIRY) v 0) a 8
       ∙ ap length e₁ ∙ length_store always (λ (v : ℕ). at VOLUME-EPOCH + v) (λ (v : ℕ). get_or (parts word_lengths w VOLUME-EPOCH) v 0 + 1) w n ∙ h
 
-  guards : parts word_lengths b ≡ with_part (parts word_lengths a) GUARD (store_each always (λ (v : ℕ). v) (λ (v : ℕ). get_or (parts word_lengths a VOLUME-EXPIRY) v 0) (parts word_lengths a GUARD) 8)
+  guards : parts word_lengths b ≡ with_part (parts word_lengths a) GUARD (store_each always (λ (v : ℕ). v) (λ (v : ℕ). get_or (parts word_lengths a VOLUME-EXPIRY) v 0)
+      (parts word_lengths a GUARD) 8)
   guards = ap (parts word_lengths) e₂ ∙ stored_each word_lengths GUARD always (λ (v : ℕ). v) (λ (v : ℕ). get_or (parts word_lengths a VOLUME-EXPIRY) v 0) 8 (λ d l. l) a
 
   epochs : parts word_lengths a ≡ with_part (parts word_lengths w) VOLUME-EPOCH (store_each always (λ (v : ℕ).
@@ -165,7 +166,15 @@ module _ (s : Setup) (w a b c d u x y : List ℕ) (n : ℕ) (h : length w ≡ WO
   unfolding records_of
   records_restarted =
       let lc = sessions_length b c long e₃ in
-      rw (holders_fields d u (objects_length c d lc e₄) e₅, objects_fields c d lc e₄, sessions_fields b c long e₃, guards, epochs, filled_field value_lengths x y PENDING 0 (omega (arith, l)) f)
+      rw (
+        holders_fields d u (objects_length c d lc e₄) e₅,
+        objects_fields c d lc e₄,
+        sessions_fields b c long e₃,
+        guards,
+        epochs,
+        filled_field value_lengths x y PENDING 0
+            (omega (arith, l)) f,
+      )
 
   pub restarts : (tables_of u y ≡ server_restarted s (tables_of w x)) × (records_of u y ≡ records_of w x)
   restarts = (tables_restarted, records_restarted)

@@ -1,6 +1,7 @@
 -- What the machine's operations on a word do to its bits, and what they give as sets.
 use Prim.Native.Nat.{ℕ, zero, suc, ◌+◌, ◌-◌, ◌*◌, ◌/◌, ◌%◌, ◌^◌, ◌<◌, ◌≤◌, min, max}
-use Rattle.std.proofs.Common.{le_of_suc-le-suc, lt_of_lt_of_le, lt_of_le_of_lt, div-one, zero-add, suc-add, add-zero, one-add, arith, inl, inr, ap₂, ◌∙◌, lit<, pow_pos, pow_mono, shl_exact, shl_lt, shr-shr}
+use Rattle.std.proofs.Common.{le_of_suc-le-suc, lt_of_lt_of_le, lt_of_le_of_lt, div-one, zero-add, suc-add, add-zero, one-add, arith}
+use Rattle.std.proofs.Common.{inl, inr, ap₂, ◌∙◌, lit<, pow_pos, pow_mono, shl_exact, shl_lt, shr-shr}
 use Rattle.std.specs.Prelude.{Bool, cond, ◌&&◌, ◌||◌, ◌⊎◌, ◌≡◌, eqb}
 use Rattle.std.proofs.Math.Bool.{true, false, not}
 use Rattle.std.proofs.Math.Path.{refl, sym, ap}
@@ -103,7 +104,8 @@ module _ (m k : ℕ) (h : m < 2 ^ 32) (i : k < 32) where
   unfolding removed
   removes =
       rw (one_shifted k i)
-      (set_is _ 32 _ (and_below m _ h) (λ j b. bit_and_law m ((2 ^ 32 - 1) - 1 * 2 ^ k) j ∙ ap (λ (x : Bool). bit_at m j && x) (bit_not 32 (1 * 2 ^ k) j (one_below k i) b ∙ ap not (bit_one k j))))
+      (set_is _ 32 _ (and_below m _ h) (λ j b. bit_and_law m ((2 ^ 32 - 1) - 1 * 2 ^ k) j
+      ∙ ap (λ (x : Bool). bit_at m j && x) (bit_not 32 (1 * 2 ^ k) j (one_below k i) b ∙ ap not (bit_one k j))))
 
 pub lessens : (a b : ℕ) → a < 2 ^ 32 → b < 2 ^ 32 → bit_and a ((2 ^ 32 - 1) - b) ≡ less a b
 unfolding less

@@ -23,8 +23,14 @@ pub age_client-requires : goal.age_client-requires
 age_client-requires c = record { setup_value = search rules; client_bound = omega (arith, (ranges _ c.requires).clients.1) }
 
 pub loop-client-preserved : goal.loop-client-preserved
-loop-client-preserved c =
-    (search rules, (only_again _ _ _ c.loop-client.invariant.1.0 c.age_client.ensures.only_sessions, fold_again _ _ _ _ _ _ (search rules) c.age_client.ensures.words_after c.loop-client.invariant.1.1))
+loop-client-preserved c = (
+  search rules,
+  (
+    only_again _ _ _ c.loop-client.invariant.1.0 c.age_client.ensures.only_sessions,
+    fold_again _ _ _ _ _ _
+        (search rules) c.age_client.ensures.words_after c.loop-client.invariant.1.1,
+  ),
+)
 
 pub returns : goal.returns
 unfolding aged

@@ -5,7 +5,10 @@ use Rattle.server_cleared.proofs.Clearing.{records_cleared, clear_yes, clear_no}
 use Rattle.server_cleared.proofs.receive_cleared.Goals as goal
 
 pub clear_taken-requires : goal.clear_taken-requires
-clear_taken-requires c = record { client_bound = (omega (arith, c.requires.client_lt_clients, (ranges _ c.requires.setup_value).clients.1)); volume_bound = (omega (arith, c.requires.volume_lt_volumes, (ranges _ c.requires.setup_value).volumes.1)) }
+clear_taken-requires c = record {
+  client_bound = (omega (arith, c.requires.client_lt_clients, (ranges _ c.requires.setup_value).clients.1));
+  volume_bound = (omega (arith, c.requires.volume_lt_volumes, (ranges _ c.requires.setup_value).volumes.1));
+}
 
 pub bounds-words-i : goal.bounds-words-i
 bounds-words-i c =
@@ -20,7 +23,10 @@ bounds-words-i-then-clear_taken-2 c =
     omega (arith, c.requires.client_lt_clients, c.requires.volume_lt_volumes, (ranges _ c.requires.setup_value).clients.1, (ranges _ c.requires.setup_value).volumes.1)
 
 pub clear_leases-requires : goal.clear_leases-requires
-clear_leases-requires c = record { client_bound = (omega (arith, c.requires.client_lt_clients, (ranges _ c.requires.setup_value).clients.1)); n_bound = omega (arith, (ranges _ c.requires.setup_value).objects.1) }
+clear_leases-requires c = record {
+  client_bound = (omega (arith, c.requires.client_lt_clients, (ranges _ c.requires.setup_value).clients.1));
+  n_bound = omega (arith, (ranges _ c.requires.setup_value).objects.1);
+}
 
 pub returns-then-clear_taken : goal.returns-then-clear_taken
 returns-then-clear_taken c = record {

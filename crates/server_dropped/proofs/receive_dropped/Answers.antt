@@ -4,7 +4,10 @@ use Rattle.server_dropped.proofs.Dropping.{drop_grows, drop_yes, drop_no}
 use Rattle.server_dropped.proofs.receive_dropped.Goals as goal
 
 pub drop_taken-requires : goal.drop_taken-requires
-drop_taken-requires c = record { client_bound = (omega (arith, c.requires.client_lt_clients, (ranges _ c.requires.setup_value).clients.1)); volume_bound = (omega (arith, c.requires.volume_lt_volumes, (ranges _ c.requires.setup_value).volumes.1)) }
+drop_taken-requires c = record {
+  client_bound = (omega (arith, c.requires.client_lt_clients, (ranges _ c.requires.setup_value).clients.1));
+  volume_bound = (omega (arith, c.requires.volume_lt_volumes, (ranges _ c.requires.setup_value).volumes.1));
+}
 
 pub bounds-words-client : goal.bounds-words-client
 bounds-words-client c =

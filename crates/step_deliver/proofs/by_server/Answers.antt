@@ -3,16 +3,36 @@ use Rattle.step_deliver.proofs.Delivering.{renew_in, ack_in, dropped_in, cleared
 use Rattle.step_deliver.proofs.by_server.Goals as goal
 
 pub receive_renew-requires : goal.receive_renew-requires
-receive_renew-requires c = record { setup_value = c.requires.setup_value; values_bound = c.requires.values_bound; growing = c.requires.growing; client_lt_clients = c.requires.client_lt_clients; object_lt_objects = renew_in _ _ c.requires.k_value _ _ _ _ c.in-Renew.is }
+receive_renew-requires c = record {
+  setup_value = c.requires.setup_value;
+  values_bound = c.requires.values_bound;
+  growing = c.requires.growing;
+  client_lt_clients = c.requires.client_lt_clients;
+  object_lt_objects = renew_in _ _ c.requires.k_value _ _ _ _ c.in-Renew.is;
+}
 
 pub receive_ack-requires : goal.receive_ack-requires
-receive_ack-requires c = record { setup_value = c.requires.setup_value; growing = c.requires.growing; client_lt_clients = c.requires.client_lt_clients; object_lt_objects = ack_in _ _ c.requires.k_value _ _ _ c.in-Ack.is }
+receive_ack-requires c = record {
+  setup_value = c.requires.setup_value;
+  growing = c.requires.growing;
+  client_lt_clients = c.requires.client_lt_clients;
+  object_lt_objects = ack_in _ _ c.requires.k_value _ _ _ c.in-Ack.is;
+}
 
 pub receive_dropped-requires : goal.receive_dropped-requires
-receive_dropped-requires c = record { setup_value = c.requires.setup_value; growing = c.requires.growing; client_lt_clients = c.requires.client_lt_clients; volume_lt_volumes = dropped_in _ _ c.requires.k_value _ _ _ c.in-Dropped.is }
+receive_dropped-requires c = record {
+  setup_value = c.requires.setup_value;
+  growing = c.requires.growing;
+  client_lt_clients = c.requires.client_lt_clients;
+  volume_lt_volumes = dropped_in _ _ c.requires.k_value _ _ _ c.in-Dropped.is;
+}
 
 pub receive_cleared-requires : goal.receive_cleared-requires
-receive_cleared-requires c = record { setup_value = c.requires.setup_value; client_lt_clients = c.requires.client_lt_clients; volume_lt_volumes = cleared_in _ _ c.requires.k_value _ _ _ _ c.in-Cleared.is }
+receive_cleared-requires c = record {
+  setup_value = c.requires.setup_value;
+  client_lt_clients = c.requires.client_lt_clients;
+  volume_lt_volumes = cleared_in _ _ c.requires.k_value _ _ _ _ c.in-Cleared.is;
+}
 
 pub returns-in-Renew : goal.returns-in-Renew
 returns-in-Renew c = record { values_after = serves_renew _ _ _ _ _ _ _ _ _ c.in-Renew.is c.receive_renew.ensures.values_after; values_unchanged = c.receive_renew.ensures.values_unchanged }

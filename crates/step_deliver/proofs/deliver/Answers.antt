@@ -13,11 +13,23 @@ remove-requires c = record { place_bound = c.requires.place_bound; values_bound 
 pub by_server-count-requires : goal.by_server-count-requires
 by_server-count-requires c =
     let n = sound_message _ _ c.requires.values_value _ c.requires.place_bound in
-    let t = c.remove.ensures.values_after in record { setup_value = c.requires.setup_value; values_bound = rw t (sound_clock _ _ c.requires.values_value); growing = rw t (growing _ _ c.requires.values_value); client_lt_clients = rw c.live_message-m.ensures n.0; k_value = rw c.live_message-m.ensures n.1 }
+    let t = c.remove.ensures.values_after in
+    record {
+      setup_value = c.requires.setup_value;
+      values_bound = rw t (sound_clock _ _ c.requires.values_value);
+      growing = rw t (growing _ _ c.requires.values_value);
+      client_lt_clients = rw c.live_message-m.ensures n.0;
+      k_value = rw c.live_message-m.ensures n.1;
+    }
 
 pub by_client-change-requires : goal.by_client-change-requires
 by_client-change-requires c =
-    let n = sound_message _ _ c.requires.values_value _ c.requires.place_bound in record { setup_value = c.requires.setup_value; client_lt_clients = rw c.live_message-m.ensures n.0; k_value = rw c.live_message-m.ensures n.1 }
+    let n = sound_message _ _ c.requires.values_value _ c.requires.place_bound in
+    record {
+      setup_value = c.requires.setup_value;
+      client_lt_clients = rw c.live_message-m.ensures n.0;
+      k_value = rw c.live_message-m.ensures n.1;
+    }
 
 pub returns : goal.returns
 returns c = record {

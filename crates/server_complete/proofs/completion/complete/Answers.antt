@@ -11,4 +11,10 @@ post-requires c =
     }
 
 pub returns : goal.returns
-returns c = let all = completes _ _ _ _ _ _ _ _ _ c.volume_of-volume.ensures refl refl (c.mark_waiting.ensures.words_after, c.mark_waiting.ensures.only_sessions) c.clear_leases.ensures _ _ (c.post.ensures.values_after, c.post.ensures.values_unchanged) in record { values_after = all.0; values_unchanged = all.1 }
+returns c =
+    let all = completes _ _ _ _ _ _ _ _ _ c.volume_of-volume.ensures refl refl (c.mark_waiting.ensures.words_after, c.mark_waiting.ensures.only_sessions) c.clear_leases.ensures _ _
+    (c.post.ensures.values_after, c.post.ensures.values_unchanged) in
+    record {
+      values_after = all.0;
+      values_unchanged = all.1;
+    }

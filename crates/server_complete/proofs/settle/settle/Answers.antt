@@ -12,7 +12,12 @@ loop-setup-init c = (search rules, (search rules, (c.requires.growing, (refl, rw
 
 pub complete-requires : goal.complete-requires
 complete-requires c =
-    let l = c.loop-setup in record { setup_value = c.requires.setup_value; object_lt_objects = c.if-n-object.false; object_bound = settle_version _ _ _ _ _ _ l.invariant.0 c.next_triggered-object.ensures l.invariant.1.1.0 c.if-n-object.false }
+    let l = c.loop-setup in
+    record {
+      setup_value = c.requires.setup_value;
+      object_lt_objects = c.if-n-object.false;
+      object_bound = settle_version _ _ _ _ _ _ l.invariant.0 c.next_triggered-object.ensures l.invariant.1.1.0 c.if-n-object.false;
+    }
 
 pub overflow_add-count : goal.overflow_add-count
 overflow_add-count c =
@@ -44,4 +49,9 @@ loop-setup-preserved c =
 
 pub returns : goal.returns
 unfolding settled
-returns c = let l = c.loop-setup in record { values_after = settle_end _ _ _ _ _ _ l.invariant.0 c.next_triggered-object.ensures _ _ l.invariant.1.1.1.1 c.if-n-object.true; values_unchanged = l.invariant.1.1.1.0 }
+returns c =
+    let l = c.loop-setup in
+    record {
+      values_after = settle_end _ _ _ _ _ _ l.invariant.0 c.next_triggered-object.ensures _ _ l.invariant.1.1.1.1 c.if-n-object.true;
+      values_unchanged = l.invariant.1.1.1.0;
+    }

@@ -5,7 +5,12 @@ use Rattle.server_renew.proofs.Rules.{by_offer, by_batch, by_resend, by_hold, by
 use Rattle.server_renew.proofs.answer.renew_by.Goals as goal
 
 pub returns-then-must_drop : goal.returns-then-must_drop
-returns-then-must_drop c = let all = by_offer _ _ _ _ _ _ _ _ _ _ c.volume_of-volume.ensures c.must_drop.ensures _ _ c.if-must_drop.true (c.offer.ensures.values_after, c.offer.ensures.values_unchanged) in record { values_after = all.0; values_unchanged = all.1 }
+returns-then-must_drop c =
+    let all = by_offer _ _ _ _ _ _ _ _ _ _ c.volume_of-volume.ensures c.must_drop.ensures _ _ c.if-must_drop.true (c.offer.ensures.values_after, c.offer.ensures.values_unchanged) in
+    record {
+      values_after = all.0;
+      values_unchanged = all.1;
+    }
 
 pub returns-then-words-client-ne0 : goal.returns-then-words-client-ne0
 returns-then-words-client-ne0 c =
@@ -52,4 +57,7 @@ returns c =
     c.must_drop.ensures
     _ c.if-must_drop.false (not_noted _ _ _ _ (omega (arith, c.requires.client_lt_clients, (ranges _ c.requires.setup_value).clients.1))
     p.volume c.if-words-client-ne0.false) c.lowest_waited-low.ensures _ _
-    c.if-low-setup.false (rests _ _ _ p.object c.if-words-object-ne0.false) (c.grant.ensures.values_after, c.grant.ensures.values_unchanged) in record { values_after = all.0; values_unchanged = all.1 }
+    c.if-low-setup.false (rests _ _ _ p.object c.if-words-object-ne0.false) (c.grant.ensures.values_after, c.grant.ensures.values_unchanged) in record {
+      values_after = all.0;
+      values_unchanged = all.1;
+    }

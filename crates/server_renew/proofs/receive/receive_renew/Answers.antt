@@ -7,7 +7,12 @@ pub bounds-words-client : goal.bounds-words-client
 bounds-words-client c = omega (arith, c.requires.client_lt_clients, (ranges _ c.requires.setup_value).clients.1)
 
 pub returns-then-number-words : goal.returns-then-number-words
-returns-then-number-words c = let all = renew_old _ _ _ _ _ (omega (arith, c.requires.client_lt_clients, (ranges _ c.requires.setup_value).clients.1)) _ _ _ c.if-number-words.true in record { values_after = all.0; values_unchanged = all.1 }
+returns-then-number-words c =
+    let all = renew_old _ _ _ _ _ (omega (arith, c.requires.client_lt_clients, (ranges _ c.requires.setup_value).clients.1)) _ _ _ c.if-number-words.true in
+    record {
+      values_after = all.0;
+      values_unchanged = all.1;
+    }
 
 pub bounds-words-client-2 : goal.bounds-words-client-2
 bounds-words-client-2 c = omega (arith, c.requires.client_lt_clients, (ranges _ c.requires.setup_value).clients.1)
@@ -23,4 +28,10 @@ renew_by-requires c = record {
 }
 
 pub returns : goal.returns
-returns c = let all = renew_new _ _ _ _ _ (omega (arith, c.requires.client_lt_clients, (ranges _ c.requires.setup_value).clients.1)) _ _ _ _ _ c.if-number-words.false (c.renew_by.ensures.values_after, c.renew_by.ensures.values_unchanged) in record { values_after = all.0; values_unchanged = all.1 }
+returns c =
+    let all = renew_new _ _ _ _ _ (omega (arith, c.requires.client_lt_clients, (ranges _ c.requires.setup_value).clients.1)) _ _ _ _ _ c.if-number-words.false
+    (c.renew_by.ensures.values_after, c.renew_by.ensures.values_unchanged) in
+    record {
+      values_after = all.0;
+      values_unchanged = all.1;
+    }

@@ -20,4 +20,10 @@ loop-client-preserved c =
 
 pub returns : goal.returns
 unfolding tables_of
-returns c = let l = c.loop-client.invariant in let all = notify_end _ _ _ _ _ _ _ _ _ _ _ _ l.1.0 l.0 c.next-client.ensures l.1.1 c.if-n-client.true in record { values_after = all.0; values_unchanged = all.1 }
+returns c =
+    let l = c.loop-client.invariant in
+    let all = notify_end _ _ _ _ _ _ _ _ _ _ _ _ l.1.0 l.0 c.next-client.ensures l.1.1 c.if-n-client.true in
+    record {
+      values_after = all.0;
+      values_unchanged = all.1;
+    }

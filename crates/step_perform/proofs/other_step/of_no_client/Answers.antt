@@ -10,7 +10,13 @@ pass_time-requires c = record { setup_value = c.requires.setup_value; growing = 
 
 pub accept_write-requires : goal.accept_write-requires
 accept_write-requires c =
-    let q = passed _ _ _ _ (c.requires.step_value no_request) in record { setup_value = c.requires.setup_value; values_bound = sound_clock _ _ c.requires.values_value; object_lt_objects = object_exists q (rw c.in-4.is); object_bound = version_grows q c.in-4.is }
+    let q = passed _ _ _ _ (c.requires.step_value no_request) in
+    record {
+      setup_value = c.requires.setup_value;
+      values_bound = sound_clock _ _ c.requires.values_value;
+      object_lt_objects = object_exists q (rw c.in-4.is);
+      object_bound = version_grows q c.in-4.is;
+    }
 
 pub remove-requires : goal.remove-requires
 remove-requires c =
@@ -45,4 +51,8 @@ returns-in-7 c = record { values_after = λ p r. by_double _ p r _ _ _ c.in-7.is
 
 pub returns-in_default : goal.returns-in_default
 returns-in_default c =
-    let q = passed _ _ _ _ (c.requires.step_value no_request) in record { values_after = λ p r. by_restart_server _ p r _ _ _ (last_of_no_client _ c.requires.step_value_2 q.knows c.requires.fact c.in_default.in_default-own.rest) c.restart.ensures.values_after; values_unchanged = c.restart.ensures.values_unchanged }
+    let q = passed _ _ _ _ (c.requires.step_value no_request) in
+    record {
+      values_after = λ p r. by_restart_server _ p r _ _ _ (last_of_no_client _ c.requires.step_value_2 q.knows c.requires.fact c.in_default.in_default-own.rest) c.restart.ensures.values_after;
+      values_unchanged = c.restart.ensures.values_unchanged;
+    }
