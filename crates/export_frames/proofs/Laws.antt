@@ -12,7 +12,7 @@ use Rattle.frame.specs.declared.Decoded.{Decoded}
 use Rattle.frame.specs.declared.Decoded.TheVariants as decoded
 use Rattle.frame.specs.declared.Encoded.{Encoded}
 use Rattle.frame.specs.declared.Encoded.TheVariants as encoded
-use Rattle.message_fields.specs.Fields.{fields_of, message_in, same, sound}
+use Rattle.message_fields.specs.Fields.{fields_of, message_in, sound}
 use Rattle.frame.specs.Frame.{framed, decoded_number, encoded_number, Decodes, Encodes}
 use Rattle.export_frames.specs.Numbers.{numbers_of}
 use Rattle.export_frames.specs.Calls.{EncodesFields, DecodesFields}

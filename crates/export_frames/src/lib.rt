@@ -1,5 +1,7 @@
 // Encodes and decodes frames for callers from other languages, which have a message's fields as ten numbers. Each call returns 0 or the refusal's
 // number in 01; a refused call changes nothing.
+#![tactic(auto)]
+
 pub mod numbers;
 
 ghost use Rattle.export_frames.specs.Calls.{EncodesFields, DecodesFields};

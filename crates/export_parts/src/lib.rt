@@ -1,5 +1,7 @@
 // Reads the parts of a run file that a caller in another language lends: a setup in 48 bytes, and steps in records of 16 bytes, laid out as in a file.
 // Other bytes become a part that the writer refuses.
+#![tactic(auto)]
+
 ghost use Rattle.std.specs.Prelude.{◌*◌, ◌≤◌, ◌≡◌, length};
 ghost use Rattle.file_records.specs.Held.{steps_by};
 ghost use Rattle.export_parts.specs.Lent.{setup_lent, step_lent, steps_lent};

@@ -1,4 +1,6 @@
 // Reads run files: a note, the setup, the steps and a trailer (01, "Frame, run file and listing").
+#![tactic(auto)]
+
 ghost use Rattle.std.specs.Prelude.{◌≡◌};
 ghost use Rattle.file_reader.specs.File.{no_contents, contents_of, note_of, step_at};
 

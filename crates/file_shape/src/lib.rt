@@ -1,5 +1,7 @@
 // Finds the parts of a run file, and tests whether a file has the shape that 01 requires.
 
+#![tactic(auto)]
+
 ghost use Rattle.std.specs.Prelude.{◌≡◌};
 ghost use Rattle.file_shape.specs.Shape.{count_of, setup_place, first_place, step_fits, steps_fit, trailer_fits, measured, contents_fit, well_formed};
 ghost use Rattle.file_shape.specs.Parts.{Parts};

@@ -1,5 +1,5 @@
 -- 02, A5: "no other file of the same note has those parts".
-use Prim.Native.Nat.{ℕ, zero, suc, ◌+◌, ◌-◌, ◌*◌, ◌≤◌}
+use Prim.Native.Nat.{ℕ, zero, suc, ◌+◌, ◌*◌, ◌≤◌}
 use native.Mathlib.Omega.{arith}
 use Rattle.std.specs.Prelude.{true, ◌≡◌, refl, get_or}
 use mathlib.Core.List.{List, ◌++◌, append_assoc}

@@ -1,4 +1,6 @@
 // Writes run files from a note, a setup and steps. The reader returns the same parts from them (02, A5).
+#![tactic(auto)]
+
 ghost use Rattle.std.specs.Prelude.{◌+◌, ◌*◌, ◌≤◌, true, ◌≡◌, length};
 ghost use Rattle.bytes_layout.specs.Written.{Written};
 ghost use Rattle.laws.specs.Lists.{All};

@@ -1,4 +1,6 @@
 // Writes the listing of a run (01, "Frame, run file and listing"). Each function writes at the offset `at` and returns the offset after.
+#![tactic(auto)]
+
 ghost use Rattle.std.specs.Prelude.{◌+◌, ◌≤◌, length};
 ghost use Rattle.bytes_layout.specs.Written.{Written};
 ghost use Rattle.listing.specs.Listing.{header, line, line_of, refused_listing};

@@ -1,4 +1,6 @@
 // Returns the number and the value that 01 gives each answer.
+#![tactic(auto)]
+
 ghost use Rattle.std.specs.Prelude.{◌≡◌};
 ghost use Rattle.protocol.specs.Answers.{doneOrCompleted, answerNumber, answerValue};
 

@@ -1,4 +1,6 @@
 // Writes numbers in decimal, at the offset `at` of an output. Each function that writes returns the offset after.
+#![tactic(auto)]
+
 ghost use Rattle.std.specs.Prelude.{◌+◌, ◌≤◌, ◌≡◌, length};
 ghost use Rattle.listing_decimal.specs.Decimal.{digit, width, decimal, field};
 ghost use Rattle.bytes_layout.specs.Written.{Written};

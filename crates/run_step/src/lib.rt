@@ -1,5 +1,7 @@
 // Performs one step of a run in place, on words that also hold the clients' records; a save or a return is a step of `run_saved`. A run starts from fresh
 // words, so the answer to question 1 is never "no", and it is not asked.
+#![tactic(auto)]
+
 ghost use Rattle.std.specs.Prelude.{true, ◌≡◌};
 ghost use Rattle.protocol.specs.Setup.{in_range};
 ghost use Rattle.protocol.specs.World.{answer_of, stepped};

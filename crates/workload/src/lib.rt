@@ -1,4 +1,6 @@
 // 02, A5: makes a workload from a seed, as steps or as a run file.
+#![tactic(auto)]
+
 pub mod draws;
 
 ghost use Rattle.std.specs.Prelude.{◌≡◌, ◌≤◌, true, length};

@@ -1,0 +1,12 @@
+use Rattle.file_shape.proofs.Laws.{parts_by, by_contents, not_measured}
+use borrow.Author.Rules.{rules}
+use Rattle.file_shape.proofs.well_formed.Goals as goal
+
+pub contents_fit-requires : goal.contents_fit-requires
+contents_fit-requires c = search (parts_by, rules)
+
+pub returns-then-measured : goal.returns-then-measured
+returns-then-measured c = search by_contents
+
+pub returns : goal.returns
+returns c = search not_measured
