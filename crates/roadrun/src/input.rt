@@ -1,32 +1,23 @@
-// Reads standard input.
-ghost use Rattle.std.specs.Prelude.{◌≤◌, length};
-ghost use Rattle.roadrun.specs.Input.{input_length};
+// Reads a whole file.
+ghost use Rattle.std.specs.Prelude.{◌<◌, ◌≤◌, length, take, IfOk};
+ghost use Rattle.std.specs.Io.KnownBytes.{Consumes, IsAtEnd};
 
-use libc::STDIN_FILENO;
-
-// The number of bytes up to the end of input, or a failed read. `io::read_full` does not tell the two apart.
-#[derive(Clone, Copy)]
-pub enum Input {
-    Read(usize),
-    Failed,
-}
+use std::io;
+use std::io::Read;
 
 // Reads until `file` is full or the input ends, and returns the number of bytes read.
-pub fn read(file: &mut [u8]) -> Input
-    ensures { input_length result ≤ length file.new }
+pub fn read<R: Read>(reader: &mut R, file: &mut [u8]) -> io::Result<usize>
+    ensures within { IfOk result (λ n. n ≤ length file.new) }
+    ensures bytes { IfOk result (λ n. Consumes (R.remaining reader.old) (R.remaining reader.new) (take n file.new)) }
+    ensures end { IfOk result (λ n. n < length file.new → IsAtEnd (R.remaining reader.new)) }
 {
     let mut n = 0;
     while n < file.len() {
-        let rest = &mut file[n..];
-        let got = libc::read(STDIN_FILENO, rest);
-        if got < 0 {
-            return Input::Failed;
-        }
-        let more = io::count(got, rest);
+        let more = reader.read(&mut file[n..])?;
         if more == 0 {
             break;
         }
         n += more;
     }
-    Input::Read(n)
+    Ok(n)
 }
