@@ -54,10 +54,8 @@ pub fn number(bytes: &[u8], at: usize) -> Found {
 // Returns the offset after `count` numbers.
 pub fn after(bytes: &[u8], from: usize, count: u64) -> usize {
     let mut at = from;
-    let mut i = 0;
-    while i < count {
+    for _ in 0..count {
         at = number(bytes, at).next;
-        i += 1;
     }
     at
 }

@@ -11,10 +11,8 @@ use test_case_reader::Case;
 // Returns all copies in the tables.
 fn copies_in<'a>(words: &'a Words, values: &'a Values) -> [Copy; CLIENT_OBJECTS] {
     let mut copies = [setup::fresh::fresh_copy(); CLIENT_OBJECTS];
-    let mut i = 0;
-    while i < CLIENT_OBJECTS {
+    for i in 0..CLIENT_OBJECTS {
         copies[i] = client_records::copies::copy_at(words, values, i);
-        i += 1;
     }
     copies
 }
@@ -22,27 +20,21 @@ fn copies_in<'a>(words: &'a Words, values: &'a Values) -> [Copy; CLIENT_OBJECTS]
 // Returns all requests in the words.
 fn requests_in(words: &Words) -> [Request; CLIENTS] {
     let mut requests = [setup::fresh::fresh_request(); CLIENTS];
-    let mut i = 0;
-    while i < CLIENTS {
+    for i in 0..CLIENTS {
         requests[i] = client_records::requests::request_at(words, i);
-        i += 1;
     }
     requests
 }
 
 fn keep_copies(words: &mut Words, values: &mut Values, copies: [Copy; CLIENT_OBJECTS]) {
-    let mut i = 0;
-    while i < CLIENT_OBJECTS {
+    for i in 0..CLIENT_OBJECTS {
         client_records::copies::put_copy(&mut *words, &mut *values, i, copies[i]);
-        i += 1;
     }
 }
 
 fn keep_requests(words: &mut Words, requests: [Request; CLIENTS]) {
-    let mut i = 0;
-    while i < CLIENTS {
+    for i in 0..CLIENTS {
         client_records::requests::put_request(&mut *words, i, requests[i]);
-        i += 1;
     }
 }
 
