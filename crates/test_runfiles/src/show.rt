@@ -7,7 +7,9 @@ use test_printing::{bytes, last, number, step};
 
 // Prints the first and the last volume byte.
 fn volumes(rt: &impl Print, setup: Setup) -> io::Result<()> {
-    print!(rt; "{} {} ", setup.volume[0], setup.volume[27])
+    let first = setup.volume[0];
+    let last = setup.volume[27];
+    print!(rt; "{first} {last} ")
 }
 
 fn setup(rt: &impl Print, setup: Setup) -> io::Result<()> {
@@ -16,7 +18,7 @@ fn setup(rt: &impl Print, setup: Setup) -> io::Result<()> {
         setup.clients, setup.volumes, setup.objects, setup.tv, setup.t, setup.m
     )?;
     volumes(rt, setup)?;
-    number(rt, setup.delay as u64)
+    print!(rt; "{} ", setup.delay)
 }
 
 // Returns the bytes from `from` up to `to`, or none if the file does not have them.
