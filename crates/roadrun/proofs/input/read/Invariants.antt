@@ -1,5 +1,5 @@
-use Rattle.std.proofs.Common.{length, ◌-◌, ◌<◌, ◌≤◌, take, IfOk, ◌≡◌, ℕ, ◌+◌, ◌*◌}
-use Rattle.std.specs.Io.KnownBytes.{Consumes, IsAtEnd}
+use Rattle.std.proofs.Common.{length, ◌-◌, ◌≤◌, take}
+use Rattle.std.specs.Io.KnownBytes.{Consumes}
 use Rattle.roadrun.proofs.input.read.Given as goal
 
 -- What was read so far stands at the start of the file.
