@@ -1,5 +1,7 @@
 // Performs one step of a run, a save or a return too (02, A7), on a machine: the present state and the four saved ones. A run starts from fresh words with
 // nothing saved, so no state is ever unsound, and question 1 is not asked.
+#![tactic(auto)]
+
 ghost use Rattle.std.specs.Prelude.{true, ◌≡◌};
 ghost use Rattle.protocol.specs.Setup.{in_range};
 ghost use Rattle.protocol.specs.Saved.{uses_name, Called};

@@ -1,5 +1,7 @@
 // One step of 01's kinds over lent words and lent records: looks up the records that the step can touch, decides, and applies the decision to them. Saves
 // and returns are one layer above.
+#![tactic(auto)]
+
 ghost use Rattle.std.specs.Prelude.{◌≡◌};
 ghost use Rattle.protocol.specs.Answers.{answerNumber};
 ghost use Rattle.protocol.specs.World.{answer_of, stepped};
