@@ -13,7 +13,7 @@ fn reason<'a>(error: &io::Error, text: &'a mut [u8; 128]) -> &'a str {
     let mut room = &mut text[..];
     // What does not fit is cut off.
     let _ = write!(room, "{error}");
-    let length = text.iter().position(|b| *b == 0).unwrap_or(0);
+    let length = text.iter().position(|b| *b == 0).unwrap_or(text.len());
     let told = str::from_utf8(&text[..length]).unwrap_or("");
     match told.split_once(" (os error ") {
         Some((reason, _)) => reason,
