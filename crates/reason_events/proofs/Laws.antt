@@ -2,15 +2,10 @@
 -- Letters: r a request, d client, o object, k a kind of message, a an answer, m its message, x a step, l a last event, ls those of the states, n a name.
 use Prim.Native.Nat.{ℕ, ◌<◌}
 use mathlib.Core.Bool.{Bool, true, false, ◌&&◌, ◌||◌}
-use mathlib.Core.List.{List, [], ◌∷◌}
 use mathlib.Core.Path.{◌≡◌, refl, sym, ◌∙◌}
 use lib.Dec.{eqb}
 use borrow.Author.Tests.{eq-eqb, ne_eqb}
-use denote.Enum.Declared.{tag_of}
-use types.Run.{OneOf, miss}
 use Rattle.laws.specs.Line.{save, back}
-use Rattle.protocol.specs.contracts.message.Kind as kind
-use Rattle.protocol.specs.contracts.step.Answer as answer
 use Rattle.protocol.specs.declared.message.Kind.{Kind}
 use Rattle.protocol.specs.declared.message.Kind.TheVariants.{Renew, Grant, Invalidate, Ack, Offer, Dropped, Batch, Cleared}
 use Rattle.protocol.specs.declared.message.Message.{Message}
@@ -36,13 +31,9 @@ use Rattle.promises.specs.Reasons.Lasts.{NameKnown, followed}
 pub grant_is : (r : Request) (o i n x e w y : ℕ) (p : Payload) (k : Kind) (b : Bool) → k ≡ Grant i n x e w y p → b ≡ stands r n → (eqb i o && b) ≡ is_grant r o k
 grant_is r o i n x e w y p k b h g = rw (h, g)
 
--- the tags of all kinds but GRANT
-abbrev ungranted : List ℕ
-ungranted = 0 ∷ 2 ∷ 3 ∷ 4 ∷ 5 ∷ 6 ∷ 7 ∷ []
-
-pub no_grant : (r : Request) (o : ℕ) (k : Kind) → OneOf ungranted (tag_of kind.the_type k) → false ≡ is_grant r o k
+pub no_grant : (r : Request) (o : ℕ) (k : Kind) → ((i n x e w y : ℕ) (p : Payload) → k ≡ Grant i n x e w y p → ⊥) → false ≡ is_grant r o k
 no_grant r o (Renew _ _ _ _) h = refl
-no_grant r o (Grant _ _ _ _ _ _ _) h = absurd (miss ungranted 1 tt h)
+no_grant r o (Grant i n x e w y p) h = absurd (h i n x e w y p refl)
 no_grant r o (Invalidate _ _ _) h = refl
 no_grant r o (Ack _ _ _) h = refl
 no_grant r o (Offer _ _ _) h = refl
@@ -51,33 +42,31 @@ no_grant r o (Batch _ _ _ _) h = refl
 no_grant r o (Cleared _ _ _ _) h = refl
 
 -- RENEW, GRANT, ACK, DROPPED and CLEARED erase nothing
-abbrev harmless : List ℕ
-harmless = 0 ∷ 1 ∷ 3 ∷ 5 ∷ 7 ∷ []
-
-pub no_cause : (k : Kind) → OneOf harmless (tag_of kind.the_type k) → 0 ≡ receipt_cause k
-no_cause (Renew _ _ _ _) h = refl
-no_cause (Grant _ _ _ _ _ _ _) h = refl
-no_cause (Invalidate _ _ _) h = absurd (miss harmless 2 tt h)
-no_cause (Ack _ _ _) h = refl
-no_cause (Offer _ _ _) h = absurd (miss harmless 4 tt h)
-no_cause (Dropped _ _ _) h = refl
-no_cause (Batch _ _ _ _) h = absurd (miss harmless 6 tt h)
-no_cause (Cleared _ _ _ _) h = refl
+pub no_cause : (k : Kind) → ((o e w : ℕ) → k ≡ Invalidate o e w → ⊥) → ((v n e : ℕ) → k ≡ Offer v n e → ⊥)
+    → ((v n e s : ℕ) → k ≡ Batch v n e s → ⊥) → 0 ≡ receipt_cause k
+no_cause (Renew _ _ _ _) f g h = refl
+no_cause (Grant _ _ _ _ _ _ _) f g h = refl
+no_cause (Invalidate o e w) f g h = absurd (f o e w refl)
+no_cause (Ack _ _ _) f g h = refl
+no_cause (Offer v n e) f g h = absurd (g v n e refl)
+no_cause (Dropped _ _ _) f g h = refl
+no_cause (Batch v n e s) f g h = absurd (h v n e s refl)
+no_cause (Cleared _ _ _ _) f g h = refl
 
 -- ---- answers
--- the tags of all answers but that of a delivery
-abbrev undelivered : List ℕ
-undelivered = 0 ∷ 1 ∷ 2 ∷ 3 ∷ 5 ∷ []
+-- the answer of no delivery
+abbrev pub Undelivered : Answer → Type 0
+Undelivered a = (m : Message) (n : ℕ) → a ≡ Delivered m n → ⊥
 
 pub granted_is : (r : Request) (d o n : ℕ) (a : Answer) (m : Message) (b : Bool) → a ≡ Delivered m n → b ≡ is_grant r o m.kind → (eqb m.client d && b) ≡ granted_by r d o a
 granted_is r d o n a m b h g = rw (h, g)
 
-pub none_granted : (r : Request) (d o : ℕ) (a : Answer) → OneOf undelivered (tag_of answer.the_type a) → false ≡ granted_by r d o a
+pub none_granted : (r : Request) (d o : ℕ) (a : Answer) → Undelivered a → false ≡ granted_by r d o a
 none_granted r d o Done h = refl
 none_granted r d o (Shown _) h = refl
 none_granted r d o AskFirst h = refl
 none_granted r d o (Completed _) h = refl
-none_granted r d o (Delivered _ _) h = absurd (miss undelivered 4 tt h)
+none_granted r d o (Delivered m n) h = absurd (h m n refl)
 none_granted r d o (Refused _) h = refl
 
 pub restart_caused : (x : Step) (a : Answer) → x.kind ≡ 9 → 4 ≡ cause_by x a
@@ -86,12 +75,12 @@ restart_caused x a h = rw (eq-eqb _ 9 h)
 pub receipt_caused : (x : Step) (a : Answer) (m : Message) (n b : ℕ) → (x.kind ≡ 9 → ⊥) → a ≡ Delivered m n → b ≡ receipt_cause m.kind → b ≡ cause_by x a
 receipt_caused x a m n b h g e = rw (ne_eqb x.kind 9 h, g, e)
 
-pub none_caused : (x : Step) (a : Answer) → (x.kind ≡ 9 → ⊥) → OneOf undelivered (tag_of answer.the_type a) → 0 ≡ cause_by x a
+pub none_caused : (x : Step) (a : Answer) → (x.kind ≡ 9 → ⊥) → Undelivered a → 0 ≡ cause_by x a
 none_caused x Done h g = rw (ne_eqb x.kind 9 h)
 none_caused x (Shown _) h g = rw (ne_eqb x.kind 9 h)
 none_caused x AskFirst h g = rw (ne_eqb x.kind 9 h)
 none_caused x (Completed _) h g = rw (ne_eqb x.kind 9 h)
-none_caused x (Delivered _ _) h g = absurd (miss undelivered 4 tt g)
+none_caused x (Delivered m n) h g = absurd (g m n refl)
 none_caused x (Refused _) h g = rw (ne_eqb x.kind 9 h)
 
 -- ---- the event

@@ -1,5 +1,7 @@
 // Tells what a step did to a client's copy of an object (02, A8), by value: from the step and its answer, the client's request before it, and the copy before
 // and after it. Keeps the last event beside the present state and each saved one.
+#![tactic(auto)]
+
 ghost use Rattle.std.specs.Prelude.{◌<◌, ◌≡◌};
 ghost use Rattle.laws.specs.Line as line;
 ghost use Rattle.protocol.specs.Saved.{names};

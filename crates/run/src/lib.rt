@@ -1,4 +1,6 @@
 // Lists a run: from the bytes of its file to the bytes of its listing.
+#![tactic(auto)]
+
 pub mod steps;
 
 ghost use Rattle.std.specs.Prelude.{◌≤◌, ◌≡◌, length};
