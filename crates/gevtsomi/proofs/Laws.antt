@@ -14,9 +14,7 @@ use Rattle.file_records.specs.declared.list.Steps.{Steps}
 use Rattle.file_records.specs.Held.{held}
 use Rattle.file_writer.specs.File.{write_refusal}
 use Rattle.workload.specs.Workload.{workload, file_refusal}
-use Rattle.promises.specs.declared.reasons.Reason.{Reason}
 use Rattle.reason.specs.declared.Explanation.{Explanation}
-use Rattle.reason.specs.declared.Explanation.TheVariants as explanation
 use Rattle.reason.specs.Explained.{explanation_of}
 use Rattle.gevtsomi.specs.Calls.{length_after, Writes, WritesFile, WritesWorkload, explained_number, reason_after, event_after, TellsWhy}
 
@@ -42,12 +40,6 @@ module _ (before after : List ℕ) (n : ℕ) (a : Report) (r m : ℕ) (f : r ≡
 
 -- ---- an explanation x; r and e are the caller's reason and event before the call
 module _ (x : Explanation) (r e : ℕ) where
-  pub given_told : (g : Reason) → x ≡ explanation.Given g → (0 ≡ explained_number x) × ((g.why ≡ reason_after x r) × (g.step ≡ event_after x e))
-  given_told g h = rw h (refl, (refl, refl))
-
-  pub refused_told : (k : ℕ) → x ≡ explanation.Refused k → (k ≡ explained_number x) × ((r ≡ reason_after x r) × (e ≡ event_after x e))
-  refused_told k h = rw h (refl, (refl, refl))
-
   pub why_told : (file : List ℕ) (step r' e' n : ℕ) → x ≡ explanation_of file step → (n ≡ explained_number x) × ((r' ≡ reason_after x r) × (e' ≡ event_after x e))
       → TellsWhy file step r r' e e' n
   why_told file step r' e' n h t = record { number = rw h at t.0; reason = rw h at t.1.0; event = rw h at t.1.1 }

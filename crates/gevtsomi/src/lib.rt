@@ -1,5 +1,7 @@
 // The library that other languages link (`rt staticlib gevtsomi`). Its calls take numbers and slices, and return 0 or the refusal's number in 01 or 02;
 // a refused call changes nothing. A slice is two arguments, its address and its length.
+#![tactic(auto)]
+
 ghost use Rattle.std.specs.Prelude.{◌≡◌};
 ghost use Rattle.bytes_layout.specs.Report.{report_number};
 ghost use Rattle.export_parts.specs.Lent.{setup_lent, steps_lent};

@@ -1,4 +1,6 @@
 // Tells why a read of a run was answered "ask first" (02, A8): from the bytes of a run file and the number of a step.
+#![tactic(auto)]
+
 pub mod given;
 pub mod steps;
 

@@ -1,0 +1,5 @@
+use Rattle.gevtsomi.proofs.Laws.{told_all}
+use Rattle.gevtsomi.proofs.gevtsomi_list.Goals as goal
+
+pub returns : goal.returns
+returns c = search told_all

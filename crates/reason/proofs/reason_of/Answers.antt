@@ -1,0 +1,22 @@
+use native.Mathlib.Omega.{arith}
+use Rattle.reason.proofs.Laws.{none_before, none_past, place_fits, read_chosen, chosen_reason, unread_reason}
+use Rattle.reason.proofs.reason_of.Goals as goal
+
+pub returns-then-number-eq0 : goal.returns-then-number-eq0
+returns-then-number-eq0 c = search none_before
+
+pub returns-then-c-number : goal.returns-then-c-number
+returns-then-c-number c = search none_past
+
+pub overflow_add-c : goal.overflow_add-c
+overflow_add-c c =
+    omega (arith, place_fits _ _ c.requires.c_value c.requires.refusal_value _ c.if-number-eq0.false c.if-c-number.false)
+
+pub run_until-requires : goal.run_until-requires
+run_until-requires c = search read_chosen
+
+pub returns-then-reads_in : goal.returns-then-reads_in
+returns-then-reads_in c = search chosen_reason
+
+pub returns : goal.returns
+returns c = search unread_reason
