@@ -1,4 +1,4 @@
-// The library that other languages link (`rt staticlib gevtsomi`). Its calls take numbers and slices, and return 0 or the refusal's number in 01 or 02;
+// The library that other languages link (`tools/build gevtsomi`). Its calls take numbers and slices, and return 0 or the refusal's number in 01 or 02;
 // a refused call changes nothing. A slice is two arguments, its address and its length.
 #![tactic(auto)]
 

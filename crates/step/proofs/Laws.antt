@@ -3,7 +3,7 @@
 -- no number; 1 is after the step of 01, 2 after the copies, 3 after the requests are in the words, 4 at the end.
 use Prim.Native.Nat.{ℕ, ◌*◌, ◌<◌, ◌≤◌}
 use native.Mathlib.Omega.{arith}
-use mathlib.Core.Bool.{Bool, true, false, cond, not}
+use mathlib.Core.Bool.{Bool, true, false, cond}
 use mathlib.Core.List.{List, []}
 use mathlib.Core.Logic.{⊎_elim}
 use mathlib.Core.Path.{◌≡◌, refl, sym, ap, subst, ◌∙◌}
@@ -11,7 +11,7 @@ use lib.Dec.{eqb, ltb}
 use lib.ListN.{length, get_or, set, take}
 use lib.Seq.{take_all}
 use borrow.Author.Tests.{eqb-true, ltb-true}
-use Rattle.laws.specs.Choice.{cond_keeps, true_or_false, not_both, and-true, and_no, or_true}
+use Rattle.laws.specs.Choice.{true_or_false, not_both, and-true, and_no, or_true}
 use Rattle.laws.specs.Line.{Saved, never, state, saved_under}
 use Rattle.laws.specs.Overlay.{overlay, overlay_none, overlay_take, length_overlay}
 use Rattle.laws.specs.Tabulate.{length_tabulate}
@@ -40,10 +40,9 @@ use Rattle.state_words.proofs.Worlds.{few_copies}
 use Rattle.saved_states.specs.Stored.{Saves, Restores, saves_world, restores_world}
 use Rattle.client_records.specs.Stores.{with_copies, with_requests}
 use Rattle.step_saved.specs.declared.plan.Plan.{Plan}
-use Rattle.step_saved.specs.declared.plan.Act.TheVariants.{Keep, Save, Return}
 use Rattle.step_saved.specs.Sound.{all_sound, all_sound_law}
-use Rattle.step_saved.specs.Plan.{idle, passed, by_one, staying, saving, returning, name_plan, plan_of}
-use Rattle.step_saved.specs.Applied.{Fits, Same, SameSaved, Applied}
+use Rattle.step_saved.specs.Plan.{idle, passed, staying, saving, returning, name_plan, plan_of}
+use Rattle.step_saved.specs.Applied.{Same, SameSaved, Applied}
 use Rattle.step_lent.specs.Lent.{world}
 use Rattle.step.specs.Lent.{machine, Unchanged}
 
@@ -149,30 +148,6 @@ kept_same e f = rw (e, f)
 
 done_refuses {ℓ} : {A : Type ℓ} → ◌≡◌ {A = ℕ} 0 4 → A
 done_refuses e = absurd (omega (arith, e))
-
--- ---- the plan's act is on one of the four names
-keep_fits : Fits Keep
-unfolding Fits
-keep_fits = tt
-
-save_fits : (n : ℕ) → ltb n names ≡ true → Fits (Save n)
-unfolding Fits
-save_fits n e = ltb-true n names e
-
-return_fits : (n : ℕ) → ltb n names ≡ true → Fits (Return n)
-unfolding Fits
-return_fits n e = ltb-true n names e
-
-pub fits : (s : Setup) (w : World) (ws xs : List (List ℕ)) (y : Step) → Fits (planned s w ws xs y).act
-unfolding plan_of name_plan
-fits s w ws xs y =
-    cond_keeps (λ (g : Plan). Fits g.act) (all_sound s ws xs) (λ _.
-    cond_keeps (λ (g : Plan). Fits g.act) (uses_name y) (λ _.
-    cond_keeps (λ (g : Plan). Fits g.act) (by_one (answered s w ws xs y)) (λ _. keep_fits) (λ _.
-    cond_keeps (λ (g : Plan). Fits g.act) (ltb y.place names) (λ e.
-    cond_keeps (λ (g : Plan). Fits g.act) (is_save y) (λ _. save_fits y.place e) (λ _.
-    cond_keeps (λ (g : Plan). Fits g.act) (is_saved (get_or ws y.place [])) (λ _. return_fits y.place e) (λ _. keep_fits)))
-    (λ _. keep_fits))) (λ _. keep_fits)) (λ _. keep_fits)
 
 module _ (s : Setup) (w x : List ℕ) (l : List Copy) (k : List Request) (ws xs : List (List ℕ)) (y : Step) where
   abbrev q : Machine
@@ -463,3 +438,46 @@ module _ (s : Setup) (w x : List ℕ) (l : List Copy) (k : List Request) (ws xs 
       where
         named_met : all_sound s ws xs ≡ true → uses_name y ≡ true → Met w₄ x₄ l₄ k₄ ws₄ xs₄
         named_met f u = ⊎_elim (name_met f u) (now_unsound_met f u) (true_or_false (world_sound s q.now))
+
+-- ---- what each call promises, in the order of the calls: i is the step that the rules of 01 are asked, b their answer, p the plan
+module _ (s : Setup) (w x : List ℕ) (l : List Copy) (k : List Request) (ws xs : List (List ℕ)) (y i : Step) (kept : Bool) (b : Answer) (p : Plan)
+    (e : kept ≡ all_sound s ws xs) (f : i ≡ passed kept y) (g : b ≡ answer_of s (world w x l k) i) (h : p ≡ plan_of s kept b ws y) where
+  inner_is : i ≡ asked s ws xs y
+  inner_is = f ∙ ap (λ (z : Bool). passed z y) e
+
+  answer_is : b ≡ answered s (world w x l k) ws xs y
+  answer_is = g ∙ ap (answer_of s (world w x l k)) inner_is
+
+  pub plan_is : p ≡ planned s (world w x l k) ws xs y
+  plan_is = h ∙ ap (λ (z : Bool). plan_of s z b ws y) e ∙ ap (λ (z : Answer). plan_of s (all_sound s ws xs) z ws y) answer_is
+
+  module _ (w₁ x₁ : List ℕ) (l₁ : List Copy) (k₁ : List Request) (w₂ x₂ w₃ w₄ x₄ : List ℕ) (l₄ : List Copy) (k₄ : List Request) (ws₄ xs₄ : List (List ℕ)) where
+    pub leaves : world w₁ x₁ l₁ k₁ ≡ stepped s (world w x l k) i → (answerNumber b ≡ 4 → (w₁ ≡ w) × ((x₁ ≡ x) × ((l₁ ≡ l) × (k₁ ≡ k))))
+        → records_of w₁ x₁ ≡ records_of w x → tables_of w₂ x₂ ≡ tables_of w₁ x₁
+        → records_of w₂ x₂ ≡ with_copies (records_of w₁ x₁) (overlay no_copy (records_of w₁ x₁).copies l₁ p.copies_saved)
+        → (p.copies_saved ≡ 0 → (w₂ ≡ w₁) × (x₂ ≡ x₁)) → ((z : List ℕ) → tables_of w₃ z ≡ tables_of w₂ z)
+        → ((z : List ℕ) → records_of w₃ z ≡ with_requests (records_of w₂ z) (overlay no_request (records_of w₂ z).requests k₁ p.requests_saved))
+        → (p.requests_saved ≡ 0 → w₃ ≡ w₂) → Applied p.act w₃ x₂ ws xs w₄ x₄ ws₄ xs₄
+        → l₄ ≡ overlay no_copy l₁ (records_of w₄ x₄).copies p.copies_restored → k₄ ≡ overlay no_request k₁ (requests_of w₄) p.requests_restored
+        → Left s w x l k ws xs y w₄ x₄ l₄ k₄ ws₄ xs₄
+    leaves b₀ b₁ b₂ b₃ b₄ b₅ b₆ b₇ b₈ b₉ b₁₀ b₁₁ = record {
+      w₁ = w₁;
+      x₁ = x₁;
+      l₁ = l₁;
+      k₁ = k₁;
+      w₂ = w₂;
+      x₂ = x₂;
+      w₃ = w₃;
+      steps = b₀ ∙ ap (stepped s (world w x l k)) inner_is;
+      refuses = λ r. b₁ (ap answerNumber answer_is ∙ r);
+      keeps = b₂;
+      copies_tables = b₃;
+      copies_records = rw (← plan_is) b₄;
+      copies_none = rw (← plan_is) b₅;
+      requests_tables = b₆;
+      requests_records = rw (← plan_is) b₇;
+      requests_none = rw (← plan_is) b₈;
+      applied = rw (← plan_is) b₉;
+      copies = rw (← plan_is) b₁₀;
+      requests = rw (← plan_is) b₁₁;
+    }

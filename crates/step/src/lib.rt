@@ -1,5 +1,7 @@
 // The public step (01 and 02, A7) over lent words, lent records and four saved states. A step of 01's kinds is `step_lent`'s. A save stores the lent
 // records in the words, where they have room, and saves the words; a return restores the words and loads the lent records from them.
+#![tactic(auto)]
+
 ghost use Rattle.std.specs.Prelude.{false, ◌≡◌};
 ghost use Rattle.protocol.specs.Answers.{answerNumber, answerValue};
 ghost use Rattle.protocol.specs.Saved.{uses_name, Called};

@@ -1,0 +1,31 @@
+use Rattle.std.proofs.Common.{◌∙◌, ap}
+use Rattle.protocol.specs.Answers.{answerNumber, answerValue}
+use Rattle.step_saved.specs.Applied.{plan_fits}
+use Rattle.step_numbers.proofs.Numbers.{number_is, value_is}
+use Rattle.step.specs.Lent.{machine}
+use Rattle.step.proofs.Laws.{plan_is, leaves, met}
+use Rattle.step.proofs.step.Goals as goal
+
+pub apply-requires : goal.apply-requires
+apply-requires c = rw c.planned-p.ensures (plan_fits _ _ _ _ _)
+
+pub returns : goal.returns
+returns c =
+    let a = c.args in
+    let q = machine a.setup a.words.now a.values.now a.copies.now a.requests.now a.saved.now a.saved_values.now in
+    let e = plan_is a.setup a.words.now a.values.now a.copies.now a.requests.now a.saved.now a.saved_values.now a.step _ _ _ _
+    c.all-kept.ensures c.inner-inner.ensures c.step-a.ensures.answers c.planned-p.ensures in
+    let h = met a.setup a.words.now a.values.now a.copies.now a.requests.now a.saved.now a.saved_values.now a.step _ _ _ _ _ _
+    (leaves _ _ _ _ _ _ _ _ _ _ _ _ c.all-kept.ensures c.inner-inner.ensures c.step-a.ensures.answers c.planned-p.ensures
+    c.step-a.new.words c.step-a.new.values c.step-a.new.copies c.step-a.new.requests c.to_words.new.words c.to_words.new.values
+    c.to_words-2.new.words c.apply.new.words c.apply.new.values c.from_words.new.copies c.from_words-2.new.requests c.apply.new.saved
+    c.apply.new.saved_values c.step-a.ensures.moves c.step-a.ensures.refuses c.step-a.ensures.keeps c.to_words.ensures.values_unchanged
+    c.to_words.ensures.values_after c.to_words.ensures.words_unchanged c.to_words-2.ensures.by_index c.to_words-2.ensures.by_index_2
+    c.to_words-2.ensures.words_unchanged c.apply.ensures c.from_words.ensures c.from_words-2.ensures) in
+    record {
+      calls = rw e h.calls;
+      numbers = rw e (ap answerNumber h.calls.answers ∙ number_is a.setup q a.step);
+      values = rw e (ap answerValue h.calls.answers ∙ value_is a.setup q a.step);
+      refuses = rw e h.refuses;
+      keeps = h.keeps;
+    }
