@@ -22,7 +22,7 @@ use Rattle.protocol.specs.Tables.{with_queue, with_views}
 use Rattle.protocol.specs.Writes.{settled, clock_staged, write_staged, Counted}
 use Rattle.protocol.specs.Server.{ack_staged, drop_staged}
 use Rattle.protocol.specs.Client.{showable, stands}
-use Rattle.protocol.specs.Answers.{completedAnswer}
+use Rattle.protocol.specs.Answers.{completed_answer}
 use Rattle.protocol.specs.Gate.{known, exists, refusal_of_step, refusal}
 use Rattle.protocol.specs.Decide.{kept, answered, read_decided, ask_decided, restart_decided, Received, received, grant_received, invalidate_received, offer_received, batch_received, deliver_decided}
 use Rattle.protocol.specs.World.{World, target, answer_of}
@@ -72,15 +72,15 @@ module _ (s : Setup) (i : in_range s ≡ true) (n : Net) (f : Fleet) (ok : NetOk
         shown_by true y u = refl
         shown_by false y u = refl
 
-    clock_answer : x.kind ≡ 1 → (performed_of s bare x).outcome.answer ≡ completedAnswer (server_clock s f.server x.clock).count
+    clock_answer : x.kind ≡ 1 → (performed_of s bare x).outcome.answer ≡ completed_answer (server_clock s f.server x.clock).count
     clock_answer e =
         let g = blind_reply (λ (u : Tables). settled s (clock_staged s u x.clock)) w.tables (clock_blind s t x.clock) f.server r.server in
-        rw (clock_performed s t (copy_of s bare x) (request_of s bare x) x e) (ap (λ (y : ServerReply). completedAnswer y.count) g.0)
+        rw (clock_performed s t (copy_of s bare x) (request_of s bare x) x e) (ap (λ (y : ServerReply). completed_answer y.count) g.0)
 
-    write_answer : x.kind ≡ 4 → (performed_of s bare x).outcome.answer ≡ completedAnswer (server_write s f.server x.object x.value).count
+    write_answer : x.kind ≡ 4 → (performed_of s bare x).outcome.answer ≡ completed_answer (server_write s f.server x.object x.value).count
     write_answer e =
         let g = blind_reply (λ (u : Tables). settled s (write_staged s u x.object x.value)) w.tables (write_blind s t x.object x.value) f.server r.server in
-        rw (write_performed s t (copy_of s bare x) (request_of s bare x) x e) (ap (λ (y : ServerReply). completedAnswer y.count) g.0)
+        rw (write_performed s t (copy_of s bare x) (request_of s bare x) x e) (ap (λ (y : ServerReply). completed_answer y.count) g.0)
 
     done_ask : x.kind ≡ 3 → (performed_of s bare x).outcome.answer ≡ answer.Done
     unfolding ask_decided

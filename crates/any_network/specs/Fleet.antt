@@ -10,7 +10,7 @@ use Rattle.protocol.specs.declared.setup.Setup.{Setup}
 use Rattle.protocol.specs.declared.step.Answer.{Answer}
 use Rattle.protocol.specs.declared.step.Answer.TheVariants as answer
 use Rattle.protocol.specs.declared.step.Step.{Step}
-use Rattle.protocol.specs.Answers.{completedAnswer}
+use Rattle.protocol.specs.Answers.{completed_answer}
 use Rattle.protocol.specs.Gate.{is_clock, is_read, is_ask, is_write, is_restart_server}
 use Rattle.protocol.specs.Ledger.{Event, server_restart as restarted, showing, completions, clock_events, write_events, receipt_staged}
 use Rattle.protocol.specs.History.{told}
@@ -61,10 +61,10 @@ read_answer shown a = cond shown (answer.Shown a) answer.AskFirst
 
 abbrev pub done_answer : Setup → Fleet → Step → Answer
 done_answer s f x =
-    cond (is_clock x) (completedAnswer (server_clock s f.server x.clock).count)
+    cond (is_clock x) (completed_answer (server_clock s f.server x.clock).count)
     (cond (is_read x) (read_answer (client_shows s (f.clients x.client) x.object) (copy_in (f.clients x.client) x.object).value)
     (cond (is_ask x) answer.Done
-    (cond (is_write x) (completedAnswer (server_write s f.server x.object x.value).count) answer.Done)))
+    (cond (is_write x) (completed_answer (server_write s f.server x.object x.value).count) answer.Done)))
 
 abbrev pub own_answer : Setup → Fleet → Step → Answer
 own_answer s f x = cond (accepted s f x) (done_answer s f x) (answer.Refused (refusal_by s f x))

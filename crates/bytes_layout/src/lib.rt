@@ -1,5 +1,7 @@
 // Reads and writes little-endian numbers of 4 and 8 bytes (01, "Frame, run file and listing"), and copies bytes to a lent output. Callers ensure that
 // there is room.
+#![tactic(auto)]
+
 pub mod output;
 
 ghost use Rattle.std.specs.Prelude.{◌+◌, ◌*◌, ◌/◌, ◌%◌, ◌≤◌, ◌≡◌, length};

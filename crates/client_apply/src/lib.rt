@@ -1,5 +1,7 @@
 // Reads the client records that a step can touch from the words, and applies a decision to them. Indices outside the setup read as empty and are never
 // written.
+#![tactic(auto)]
+
 ghost use Rattle.std.specs.Prelude.{true, ◌≡◌, ◌*◌, get_or};
 ghost use Rattle.protocol.specs.Setup.{in_range};
 ghost use Rattle.protocol.specs.Tables.{no_copy, no_request};

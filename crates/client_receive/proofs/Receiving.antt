@@ -21,7 +21,7 @@ use Rattle.protocol.specs.Server.{sent}
 use Rattle.protocol.specs.Client.{viewed, stands, forgotten, grant_stored}
 use Rattle.protocol.specs.Decide.{kept, by_client, grant_received, invalidate_received, offer_received, batch_received}
 use Rattle.lease_tests.specs.Parts.{Placed}
-use Rattle.state_words.specs.Fields.{word_lengths, VIEW-EPOCH, VIEW-EXPIRY}
+use Rattle.state_words.specs.Fields.{word_lengths, VIEW_EPOCH, VIEW_EXPIRY}
 use Rattle.state_words.specs.View.{tables_of, records_of}
 use Rattle.client_receive.specs.declared.receive.Terms.{Terms}
 use Rattle.client_receive.specs.Views.{view_stored, grant_heard}
@@ -34,11 +34,11 @@ module _ (w x a : List ℕ) (d v e y : ℕ) (h : d < 16) (l : v < 8) (i : a ≡ 
 
   tables_viewed : tables_of a x ≡ with_views (tables_of w x) (viewed (tables_of w x).views d v e y)
   unfolding tables_of
-  tables_viewed = rw (i, stored word_lengths _ VIEW-EXPIRY (by_volume d v) y inside, stored word_lengths _ VIEW-EPOCH (by_volume d v) e inside)
+  tables_viewed = rw (i, stored word_lengths _ VIEW_EXPIRY (by_volume d v) y inside, stored word_lengths _ VIEW_EPOCH (by_volume d v) e inside)
 
   records_viewed : records_of a x ≡ records_of w x
   unfolding records_of
-  records_viewed = rw (i, stored word_lengths _ VIEW-EXPIRY (by_volume d v) y inside, stored word_lengths _ VIEW-EPOCH (by_volume d v) e inside)
+  records_viewed = rw (i, stored word_lengths _ VIEW_EXPIRY (by_volume d v) y inside, stored word_lengths _ VIEW_EPOCH (by_volume d v) e inside)
 
 -- ---- GRANT
 

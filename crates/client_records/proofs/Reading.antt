@@ -15,19 +15,19 @@ use Rattle.protocol.specs.declared.setup.Setup.{Setup}
 use Rattle.protocol.specs.declared.step.Sweep.{Sweep}
 use Rattle.protocol.specs.Tables.{no_copy, no_request}
 use Rattle.protocol.specs.Client.{swept, sweep_at}
-use Rattle.state_words.specs.Fields.{word_lengths, value_lengths, at, at_value, WORDS, VALUES, COPY-VERSION, COPY-EXPIRY, REQUEST-NEXT, REQUEST-STANDING, REQUEST-NUMBER, REQUEST-OBJECT, COPY-VALUE}
+use Rattle.state_words.specs.Fields.{word_lengths, value_lengths, at, at_value, WORDS, VALUES, COPY_VERSION, COPY_EXPIRY, REQUEST_NEXT, REQUEST_STANDING, REQUEST_NUMBER, REQUEST_OBJECT, COPY_VALUE}
 use Rattle.state_words.specs.View.{tables_of, copy_at, request_at, Records, records_of, requests_of}
 use Rattle.client_records.specs.Stores.{with_copy, swept_over}
 
 -- ---- a copy
 
 pub copy_read : (w x : List ℕ) (i : ℕ) → i < 512
-    → record { version = get_or w (at COPY-VERSION + i) 0; value = get_or x (at_value COPY-VALUE + i) 0; expiry = get_or w (at COPY-EXPIRY + i) 0 }
+    → record { version = get_or w (at COPY_VERSION + i) 0; value = get_or x (at_value COPY_VALUE + i) 0; expiry = get_or w (at COPY_EXPIRY + i) 0 }
     ≡ get_or (records_of w x).copies i no_copy
 unfolding records_of
 copy_read w x i h =
-    rw (part_at word_lengths w COPY-VERSION i h, part_at value_lengths x COPY-VALUE i h, part_at word_lengths w COPY-EXPIRY i h)
-    (sym (tabulate_at (copy_at (parts word_lengths w COPY-VERSION) (parts value_lengths x COPY-VALUE) (parts word_lengths w COPY-EXPIRY)) 512 i no_copy h))
+    rw (part_at word_lengths w COPY_VERSION i h, part_at value_lengths x COPY_VALUE i h, part_at word_lengths w COPY_EXPIRY i h)
+    (sym (tabulate_at (copy_at (parts word_lengths w COPY_VERSION) (parts value_lengths x COPY_VALUE) (parts word_lengths w COPY_EXPIRY)) 512 i no_copy h))
 
 copies_set : (a b c : List ℕ) (i : ℕ) (y : Copy) → i < 512 → length a ≡ 512 → length b ≡ 512 → length c ≡ 512
     → tabulate (copy_at (set a i y.version) (set b i y.value) (set c i y.expiry)) 0 512 ≡ set (tabulate (copy_at a b c) 0 512) i y
@@ -38,25 +38,25 @@ copies_set a b c i y h k l m =
 
 module _ (w x : List ℕ) (i : ℕ) (y : Copy) (h : i < 512) (lw : length w ≡ WORDS) (lx : length x ≡ VALUES) where
   abbrev words_copied : List ℕ
-  words_copied = set (set w (at COPY-VERSION + i) y.version) (at COPY-EXPIRY + i) y.expiry
+  words_copied = set (set w (at COPY_VERSION + i) y.version) (at COPY_EXPIRY + i) y.expiry
 
   abbrev values_copied : List ℕ
-  values_copied = set x (at_value COPY-VALUE + i) y.value
+  values_copied = set x (at_value COPY_VALUE + i) y.value
 
   tables_copied : tables_of words_copied values_copied ≡ tables_of w x
   unfolding tables_of
-  tables_copied = rw (stored word_lengths _ COPY-EXPIRY i y.expiry h, stored word_lengths _ COPY-VERSION i y.version h, stored value_lengths _ COPY-VALUE i y.value h)
+  tables_copied = rw (stored word_lengths _ COPY_EXPIRY i y.expiry h, stored word_lengths _ COPY_VERSION i y.version h, stored value_lengths _ COPY_VALUE i y.value h)
 
   records_copied : records_of words_copied values_copied ≡ with_copy (records_of w x) i y
   unfolding records_of
   records_copied =
       rw (
-        stored word_lengths _ COPY-EXPIRY i y.expiry h,
-        stored word_lengths _ COPY-VERSION i y.version h,
-        stored value_lengths _ COPY-VALUE i y.value h,
-        copies_set (parts word_lengths w COPY-VERSION) (parts value_lengths x COPY-VALUE)
-            (parts word_lengths w COPY-EXPIRY) i y h (part_length word_lengths w COPY-VERSION (omega arith))
-            (part_length value_lengths x COPY-VALUE (omega arith)) (part_length word_lengths w COPY-EXPIRY (omega arith)),
+        stored word_lengths _ COPY_EXPIRY i y.expiry h,
+        stored word_lengths _ COPY_VERSION i y.version h,
+        stored value_lengths _ COPY_VALUE i y.value h,
+        copies_set (parts word_lengths w COPY_VERSION) (parts value_lengths x COPY_VALUE)
+            (parts word_lengths w COPY_EXPIRY) i y h (part_length word_lengths w COPY_VERSION (omega arith))
+            (part_length value_lengths x COPY_VALUE (omega arith)) (part_length word_lengths w COPY_EXPIRY (omega arith)),
       )
 
   pub copy_stored : (tables_of words_copied values_copied ≡ tables_of w x) × (records_of words_copied values_copied ≡ with_copy (records_of w x) i y)
@@ -66,17 +66,17 @@ module _ (w x : List ℕ) (i : ℕ) (y : Copy) (h : i < 512) (lw : length w ≡ 
 
 pub request_read : (w : List ℕ) (d : ℕ) → d < 16
     → record {
-      next = get_or w (at REQUEST-NEXT + d) 0;
-      standing = flag (get_or w (at REQUEST-STANDING + d) 0);
-      number = get_or w (at REQUEST-NUMBER + d) 0;
-      object = get_or w (at REQUEST-OBJECT + d) 0 % 256;
+      next = get_or w (at REQUEST_NEXT + d) 0;
+      standing = flag (get_or w (at REQUEST_STANDING + d) 0);
+      number = get_or w (at REQUEST_NUMBER + d) 0;
+      object = get_or w (at REQUEST_OBJECT + d) 0 % 256;
     }
     ≡ get_or (requests_of w) d no_request
 unfolding records_of
 request_read w d h =
-    rw (part_at word_lengths w REQUEST-NEXT d h, part_at word_lengths w REQUEST-STANDING d h, part_at word_lengths w REQUEST-NUMBER d h, part_at word_lengths w REQUEST-OBJECT d h)
-    (sym (tabulate_at (request_at (parts word_lengths w REQUEST-NEXT) (parts word_lengths w REQUEST-STANDING) (parts word_lengths w REQUEST-NUMBER)
-    (parts word_lengths w REQUEST-OBJECT)) 16 d no_request h))
+    rw (part_at word_lengths w REQUEST_NEXT d h, part_at word_lengths w REQUEST_STANDING d h, part_at word_lengths w REQUEST_NUMBER d h, part_at word_lengths w REQUEST_OBJECT d h)
+    (sym (tabulate_at (request_at (parts word_lengths w REQUEST_NEXT) (parts word_lengths w REQUEST_STANDING) (parts word_lengths w REQUEST_NUMBER)
+    (parts word_lengths w REQUEST_OBJECT)) 16 d no_request h))
 
 -- ---- a sweep: one iteration, and the end of the loop
 

@@ -5,7 +5,7 @@ use Rattle.laws.specs.Flags.{word_of, flag_word}
 use Rattle.laws.specs.Parts.{parts, part_length, stored}
 use Rattle.laws.specs.Tabulate.{tabulate, tabulate_set}
 use Rattle.protocol.specs.declared.records.Request.{Request}
-use Rattle.state_words.specs.Fields.{word_lengths, WORDS, REQUEST-NEXT, REQUEST-STANDING, REQUEST-NUMBER, REQUEST-OBJECT}
+use Rattle.state_words.specs.Fields.{word_lengths, WORDS, REQUEST_NEXT, REQUEST_STANDING, REQUEST_NUMBER, REQUEST_OBJECT}
 use Rattle.state_words.specs.View.{tables_of, request_at, records_of}
 use Rattle.client_records.specs.Stores.{RequestPut, with_request, request_stored}
 
@@ -31,26 +31,26 @@ module _ (w x : List ℕ) (d : ℕ) (r : Request) (h : d < 16) (n : r.object < 2
   unfolding tables_of
   tables_requested =
       rw (
-        stored word_lengths _ REQUEST-OBJECT d r.object h,
-        stored word_lengths _ REQUEST-NUMBER d r.number h,
-        stored word_lengths _ REQUEST-STANDING d (word_of r.standing) h,
-        stored word_lengths _ REQUEST-NEXT d r.next h,
+        stored word_lengths _ REQUEST_OBJECT d r.object h,
+        stored word_lengths _ REQUEST_NUMBER d r.number h,
+        stored word_lengths _ REQUEST_STANDING d (word_of r.standing) h,
+        stored word_lengths _ REQUEST_NEXT d r.next h,
       )
 
   records_requested : records_of (request_stored w d r) x ≡ with_request (records_of w x) d r
   unfolding records_of
   records_requested =
       rw (
-        stored word_lengths _ REQUEST-OBJECT d r.object h,
-        stored word_lengths _ REQUEST-NUMBER d r.number h,
-        stored word_lengths _ REQUEST-STANDING d (word_of r.standing) h,
-        stored word_lengths _ REQUEST-NEXT d r.next h,
-        requests_set (parts word_lengths w REQUEST-NEXT)
-            (parts word_lengths w REQUEST-STANDING) (parts word_lengths w REQUEST-NUMBER)
-            (parts word_lengths w REQUEST-OBJECT) d r h n (part_length word_lengths w REQUEST-NEXT (omega arith))
-            (part_length word_lengths w REQUEST-STANDING (omega arith))
-            (part_length word_lengths w REQUEST-NUMBER (omega arith))
-            (part_length word_lengths w REQUEST-OBJECT (omega arith)),
+        stored word_lengths _ REQUEST_OBJECT d r.object h,
+        stored word_lengths _ REQUEST_NUMBER d r.number h,
+        stored word_lengths _ REQUEST_STANDING d (word_of r.standing) h,
+        stored word_lengths _ REQUEST_NEXT d r.next h,
+        requests_set (parts word_lengths w REQUEST_NEXT)
+            (parts word_lengths w REQUEST_STANDING) (parts word_lengths w REQUEST_NUMBER)
+            (parts word_lengths w REQUEST_OBJECT) d r h n (part_length word_lengths w REQUEST_NEXT (omega arith))
+            (part_length word_lengths w REQUEST_STANDING (omega arith))
+            (part_length word_lengths w REQUEST_NUMBER (omega arith))
+            (part_length word_lengths w REQUEST_OBJECT (omega arith)),
       )
 
 pub request_stored_law : (w u x : List ℕ) (d : ℕ) (r : Request) → d < 16 → RequestPut w u d r → (tables_of u x ≡ tables_of w x) × (records_of u x ≡ with_request (records_of w x) d r)

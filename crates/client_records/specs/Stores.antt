@@ -7,7 +7,7 @@ use Rattle.protocol.specs.declared.records.Request.{Request}
 use Rattle.protocol.specs.declared.setup.Setup.{Setup}
 use Rattle.protocol.specs.declared.step.Sweep.{Sweep}
 use Rattle.protocol.specs.Client.{sweep_at}
-use Rattle.state_words.specs.Fields.{WORDS, at, REQUEST-NEXT, REQUEST-STANDING, REQUEST-NUMBER, REQUEST-OBJECT}
+use Rattle.state_words.specs.Fields.{WORDS, at, REQUEST_NEXT, REQUEST_STANDING, REQUEST_NUMBER, REQUEST_OBJECT}
 use Rattle.state_words.specs.View.{Records}
 
 abbrev pub with_copies : Records → List Copy → Records
@@ -29,8 +29,8 @@ swept_over s g first n q = with_copies q (fold_from (sweep_at s g first) q.copie
 -- the words with a request stored
 abbrev pub request_stored : List ℕ → ℕ → Request → List ℕ
 request_stored words d r =
-    set (set (set (set words (at REQUEST-NEXT + d) r.next) (at REQUEST-STANDING + d) (word_of r.standing)) (at REQUEST-NUMBER + d) r.number)
-    (at REQUEST-OBJECT + d) r.object
+    set (set (set (set words (at REQUEST_NEXT + d) r.next) (at REQUEST_STANDING + d) (word_of r.standing)) (at REQUEST_NUMBER + d) r.number)
+    (at REQUEST_OBJECT + d) r.object
 
 -- .. as `put_request` stores it, with what its types say: the words have their fixed length, and a request's object is a byte
 pub record RequestPut (w u : List ℕ) (d : ℕ) (r : Request) : Type 0 where

@@ -2,7 +2,7 @@ ghost use Rattle.std.specs.Prelude.{◌≡◌, ◌+◌, ◌<◌, ◌≤◌, get_
 ghost use Rattle.protocol.specs.Tables.{no_copy};
 ghost use Rattle.state_words.specs.View.{tables_of, records_of};
 ghost use Rattle.client_records.specs.Stores.{with_copy, swept_over};
-ghost use Rattle.state_words.specs.Fields.{CLIENT-OBJECTS};
+ghost use Rattle.state_words.specs.Fields.{CLIENT_OBJECTS};
 
 use client_cache::copy;
 use protocol::records::Copy;
@@ -11,7 +11,7 @@ use protocol::step::Sweep;
 use state_words::{Values, Words, client as fields, pass};
 
 pub fn copy_at<'a>(words: &'a Words, values: &'a Values, place: usize) -> Copy
-    requires { place < CLIENT-OBJECTS }
+    requires { place < CLIENT_OBJECTS }
     ensures { result ≡ get_or (records_of words.now values.now).copies place no_copy }
 {
     Copy {
@@ -22,7 +22,7 @@ pub fn copy_at<'a>(words: &'a Words, values: &'a Values, place: usize) -> Copy
 }
 
 pub fn put_copy(words: &mut Words, values: &mut Values, place: usize, c: Copy)
-    requires { place < CLIENT-OBJECTS }
+    requires { place < CLIENT_OBJECTS }
     ensures values_unchanged { tables_of words.new values.new ≡ tables_of words.old values.old }
     ensures values_after { records_of words.new values.new ≡ with_copy (records_of words.old values.old) place c }
 {
@@ -36,7 +36,7 @@ pub fn put_copy(words: &mut Words, values: &mut Values, place: usize, c: Copy)
 // Sweeps n copies, beginning at `first`: sets a volume's "object expiries to 0", or erases all, since after a restart "only its next request number
 // remains".
 pub fn sweep(setup: Setup, words: &mut Words, values: &mut Values, g: Sweep, first: usize, n: usize)
-    requires { first + n ≤ CLIENT-OBJECTS }
+    requires { first + n ≤ CLIENT_OBJECTS }
     ensures values_unchanged { tables_of words.new values.new ≡ tables_of words.old values.old }
     ensures values_after { records_of words.new values.new ≡ swept_over setup g first n (records_of words.old values.old) }
 {

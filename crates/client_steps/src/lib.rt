@@ -1,4 +1,6 @@
 // Performs a client's own steps: read, ask and restart (01, "Steps" 2, 3 and 9).
+#![tactic(auto)]
+
 ghost use Rattle.std.specs.Prelude.{◌≡◌, true, ◌<◌};
 ghost use Rattle.protocol.specs.Setup.{in_range};
 ghost use Rattle.protocol.specs.Decide.{read_decided, ask_decided, restart_decided};

@@ -1,4 +1,6 @@
 // Computes a sweep over one client's copies in the list of all, by value: where it stops, and what each copy becomes.
+#![tactic(auto)]
+
 ghost use Rattle.std.specs.Prelude.{◌≡◌, ◌-◌};
 ghost use Rattle.protocol.specs.Client as client;
 ghost use Rattle.client_sweeps.specs.Places.{stop_of};

@@ -1,4 +1,6 @@
 // Reads the setup and the steps of a run file from their bytes, writes them (`bytes`), and holds steps by value (`list`).
+#![tactic(auto)]
+
 pub mod bytes;
 pub mod list;
 pub mod sizes;

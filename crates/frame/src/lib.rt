@@ -1,4 +1,6 @@
 // Encodes messages as frames of 32 bytes and decodes them (01, "Frame, run file and listing").
+#![tactic(auto)]
+
 ghost use Rattle.std.specs.Prelude.{◌≡◌};
 ghost use Rattle.frame.specs.Frame.{accepted, Decodes, Encodes};
 

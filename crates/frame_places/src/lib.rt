@@ -1,4 +1,6 @@
 // Reads and writes a message's fields in the 32 bytes of a frame.
+#![tactic(auto)]
+
 ghost use Rattle.std.specs.Prelude.{◌≤◌, ◌≡◌, length};
 ghost use Rattle.bytes_layout.specs.Number.{Stored};
 ghost use Rattle.frame_places.specs.Places.{FRAME, head, numbers, laid, fields_in};

@@ -1,4 +1,6 @@
 // The gate: asks its questions in order, about the tables in the words and values (01, "Questions at the gate").
+#![tactic(auto)]
+
 ghost use Rattle.std.specs.Prelude.{◌≡◌};
 ghost use Rattle.protocol.specs.Gate.{refusal};
 ghost use Rattle.state_words.specs.View.{tables_of};

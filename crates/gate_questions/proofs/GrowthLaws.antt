@@ -14,7 +14,7 @@ use Rattle.protocol.specs.declared.step.Step.{Step}
 use Rattle.protocol.specs.Sound.{can_grow}
 use Rattle.protocol.specs.Tables.{epoch_at, version_at}
 use Rattle.protocol.specs.Gate.{is_write, is_restart_server, is_ask, growable}
-use Rattle.state_words.specs.Fields.{word_lengths, at, VOLUME-EPOCH, VERSION}
+use Rattle.state_words.specs.Fields.{word_lengths, at, VOLUME_EPOCH, VERSION}
 use Rattle.state_words.specs.View.{tables_of, numbers_of}
 
 module _ (w : List ℕ) (x : Step) where
@@ -26,9 +26,9 @@ module _ (w : List ℕ) (x : Step) where
   unfolding tables_of
   grows_past h = rw (part_past word_lengths w VERSION x.object h) (or_yes (not (is_write x)))
 
-pub epoch_grows : (w : List ℕ) (v n : ℕ) → v < n → n ≤ 8 → can_grow (get_or w (at VOLUME-EPOCH + v) 0) ≡ can_grow (epoch_at (numbers_of w) v)
+pub epoch_grows : (w : List ℕ) (v n : ℕ) → v < n → n ≤ 8 → can_grow (get_or w (at VOLUME_EPOCH + v) 0) ≡ can_grow (epoch_at (numbers_of w) v)
 unfolding tables_of
-epoch_grows w v n h k = rw (part_at word_lengths w VOLUME-EPOCH v (omega arith))
+epoch_grows w v n h k = rw (part_at word_lengths w VOLUME_EPOCH v (omega arith))
 
 module _ (s : Setup) (w : List ℕ) (r : Request) (x : Step) where
   pub growable_words : (version epochs : Bool) → version ≡ (not (is_write x) || can_grow (version_at (numbers_of w) x.object))

@@ -1,4 +1,6 @@
 // Questions 3 to 6 at the gate (01, "Questions at the gate"), once the setup is in range. They read the words, not the values.
+#![tactic(auto)]
+
 pub mod growth;
 
 ghost use Rattle.std.specs.Prelude.{◌≡◌};

@@ -1,4 +1,6 @@
 // Question 1 for the client records (01, "Questions at the gate"): for one copy or request, passed by value, and for the number of them.
+#![tactic(auto)]
+
 ghost use Rattle.std.specs.Prelude.{◌&&◌, ◌≡◌};
 
 pub mod copies;

@@ -19,18 +19,18 @@ use Rattle.protocol.specs.Messages.{message_at}
 use Rattle.protocol.specs.Tables.{by_volume, by_object}
 use Rattle.protocol.specs.Sound.{time_fits, can_grow, clock_limit, set_sound, volume_sound, object_sound}
 use Rattle.protocol.specs.Sound.{session_sound, sessions_sound, holder_sound, holders_sound, message_sound, queue_sound, tables_sound}
-use Rattle.state_words.specs.Fields.{word_lengths, at, CLOCK, VOLUME-EPOCH, VOLUME-EXPIRY, GUARD, SESSION-EXPIRY, VERSION, OBJECT-EXPIRY, STANDING, END, LEASE, NOTES, VIEW-EXPIRY}
+use Rattle.state_words.specs.Fields.{word_lengths, at, CLOCK, VOLUME_EPOCH, VOLUME_EXPIRY, GUARD, SESSION_EXPIRY, VERSION, OBJECT_EXPIRY, STANDING, END, LEASE, NOTES, VIEW_EXPIRY}
 use Rattle.state_words.proofs.ReadsLaws.{length_word}
 use Rattle.state_words.specs.View.{tables_of, numbers_of}
 
 module _ (w : List ℕ) where
   pub volume_fits_law : (v n : ℕ) → v < n → n ≤ 8
-      → (leb 1 (get_or w (at VOLUME-EPOCH + v) 0) && time_fits (get_or w (at VOLUME-EXPIRY + v) 0) && time_fits (get_or w (at GUARD + v) 0)) ≡ volume_sound (numbers_of w) v
+      → (leb 1 (get_or w (at VOLUME_EPOCH + v) 0) && time_fits (get_or w (at VOLUME_EXPIRY + v) 0) && time_fits (get_or w (at GUARD + v) 0)) ≡ volume_sound (numbers_of w) v
   unfolding tables_of
-  volume_fits_law v n h k = rw (part_at word_lengths w VOLUME-EPOCH v (omega arith), part_at word_lengths w VOLUME-EXPIRY v (omega arith), part_at word_lengths w GUARD v (omega arith))
+  volume_fits_law v n h k = rw (part_at word_lengths w VOLUME_EPOCH v (omega arith), part_at word_lengths w VOLUME_EXPIRY v (omega arith), part_at word_lengths w GUARD v (omega arith))
 
   pub object_fits : (o n : ℕ) → o < n → n ≤ 28
-      → ((leb 1 (get_or w (at VERSION + o) 0) && time_fits (get_or w (at OBJECT-EXPIRY + o) 0))
+      → ((leb 1 (get_or w (at VERSION + o) 0) && time_fits (get_or w (at OBJECT_EXPIRY + o) 0))
       && (eqb (get_or w (at STANDING + o) 0) 0
       || (time_fits (get_or w (at END + o) 0) && can_grow (get_or w (at VERSION + o) 0)))) ≡ object_sound (numbers_of w) o
   unfolding tables_of
@@ -40,19 +40,19 @@ module _ (w : List ℕ) where
         ← not_not (eqb (get_or w (at STANDING + o) 0) 0),
         flag_at word_lengths w STANDING o l,
         part_at word_lengths w VERSION o l,
-        part_at word_lengths w OBJECT-EXPIRY o l,
+        part_at word_lengths w OBJECT_EXPIRY o l,
         part_at word_lengths w END o l,
       )
 
   pub session_fits : (s : Setup) (d v : ℕ) (r : Bool) → in_range s ≡ true → d < 16 → v < s.volumes → r ≡ set_sound s v (get_or w (at NOTES + by_volume d v) 0)
-      → (time_fits (get_or w (at SESSION-EXPIRY + by_volume d v) 0) && time_fits (get_or w (at VIEW-EXPIRY + by_volume d v) 0) && r) ≡ session_sound s (numbers_of w) d v
+      → (time_fits (get_or w (at SESSION_EXPIRY + by_volume d v) 0) && time_fits (get_or w (at VIEW_EXPIRY + by_volume d v) 0) && r) ≡ session_sound s (numbers_of w) d v
   unfolding tables_of
   session_fits s d v r i g h e =
       let l : by_volume d v < 128 = omega (arith, (ranges s i).volumes.1) in
       rw (
         e,
-        part_at word_lengths w SESSION-EXPIRY (by_volume d v) l,
-        part_at word_lengths w VIEW-EXPIRY (by_volume d v) l,
+        part_at word_lengths w SESSION_EXPIRY (by_volume d v) l,
+        part_at word_lengths w VIEW_EXPIRY (by_volume d v) l,
         part_at word_lengths w NOTES (by_volume d v) l,
       )
 

@@ -1,5 +1,7 @@
 // Tells which fields a step uses, by its kind (01, "Steps"). The gate checks the fields that are used, and the reader of run files the others. Neither
 // depends on the other, so this is a crate below both.
+#![tactic(auto)]
+
 ghost use Rattle.std.specs.Prelude.{◌≡◌};
 ghost use Rattle.protocol.specs.Gate.{is_clock, is_write, uses_client, uses_object, uses_place, known};
 ghost use Rattle.protocol.specs.Saved.{uses_name, known_kind};

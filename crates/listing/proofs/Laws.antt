@@ -5,7 +5,7 @@ use mathlib.Core.List.{List, [], ◌∷◌, ◌++◌}
 use mathlib.Core.Path.{◌≡◌}
 use lib.ListN.{length, length-append}
 use Rattle.protocol.specs.declared.step.Answer.{Answer}
-use Rattle.protocol.specs.Answers.{answerNumber, answerValue}
+use Rattle.protocol.specs.Answers.{answer_number, answer_value}
 use Rattle.listing_decimal.specs.Decimal.{decimal, field, decimal_short}
 use Rattle.bytes_layout.specs.Written.{Written}
 use Rattle.bytes_layout.proofs.Written.{written_then}
@@ -28,7 +28,7 @@ second_fits k l p q a h u = omega (arith, after_field k l p a q 32 u)
 pub third_fits : (k l m : List ℕ) (p q r a b : ℕ) → p + 63 ≤ length k → Written k l p (field a 32) q → Written l m q (field b 32) r → r + 21 ≤ length m
 third_fits k l m p q r a b h u v = omega (arith, after_field k l p a q 32 u, after_field l m q b r 32 v)
 
-pub answer_written : (l m : List ℕ) (p step e n v : ℕ) (a : Answer) → n ≡ answerNumber a → v ≡ answerValue a → Written l m p (line step n v) e
+pub answer_written : (l m : List ℕ) (p step e n v : ℕ) (a : Answer) → n ≡ answer_number a → v ≡ answer_value a → Written l m p (line step n v) e
     → Written l m p (line_of step a) e
 answer_written l m p step e n v a f g w = rw (← f, ← g) w
 

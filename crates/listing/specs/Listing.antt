@@ -4,7 +4,7 @@ use Rattle.std.proofs.Common.{arith, ◌∙◌, length-append}
 use Rattle.laws.specs.Choice.{cond_keeps}
 use Rattle.protocol.specs.declared.step.Answer.{Answer}
 use Rattle.protocol.specs.declared.step.Answer.TheVariants.{Done, Shown, AskFirst, Completed, Delivered, Refused}
-use Rattle.protocol.specs.Answers.{doneOrCompleted, answerNumber, answerValue}
+use Rattle.protocol.specs.Answers.{done_or_completed, answer_number, answer_value}
 use Rattle.listing_decimal.specs.Decimal.{width, tens, field, length_field, further_most, further_below}
 
 -- room for the longest listing: a header, and 4,000 lines of at most 28 bytes
@@ -22,7 +22,7 @@ unfoldable pub line : ℕ → ℕ → ℕ → List ℕ
 line step number value = field step space ++ (field number space ++ field value newline)
 
 abbrev pub line_of : ℕ → Answer → List ℕ
-line_of step a = line step (answerNumber a) (answerValue a)
+line_of step a = line step (answer_number a) (answer_value a)
 
 -- "prints a header": "step answer value" and a newline, in ASCII
 unfoldable pub header : List ℕ
@@ -54,10 +54,10 @@ unfolding tens
 line_short step number value h k =
     omega (arith, length_line step number value, further_below 19 3 step h, further_below 19 0 number k, further_most 19 value)
 
-done_small : (n : ℕ) → doneOrCompleted n < 10
+done_small : (n : ℕ) → done_or_completed n < 10
 done_small n = cond_keeps (λ (k : ℕ). k < 10) (eqb n 0) (λ _. omega arith) (λ _. omega arith)
 
-pub answer_small : (a : Answer) → answerNumber a < 10
+pub answer_small : (a : Answer) → answer_number a < 10
 answer_small Done = omega arith
 answer_small (Shown x) = omega arith
 answer_small AskFirst = omega arith
@@ -70,7 +70,7 @@ pub lines_short : (k : ℕ) (l : List Answer) → k + length l ≤ 10000 → len
 unfolding lines_from
 lines_short k [] h = omega arith
 lines_short k (a ∷ l) h =
-    omega (arith, length-append (line_of k a) (lines_from (k + 1) l), line_short k (answerNumber a) (answerValue a) (omega arith) (answer_small a), lines_short (k + 1) l (omega arith))
+    omega (arith, length-append (line_of k a) (lines_from (k + 1) l), line_short k (answer_number a) (answer_value a) (omega arith) (answer_small a), lines_short (k + 1) l (omega arith))
 
 pub length_header : length header ≡ 18
 unfolding header

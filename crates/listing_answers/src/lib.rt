@@ -2,13 +2,13 @@
 #![tactic(auto)]
 
 ghost use Rattle.std.specs.Prelude.{◌≡◌};
-ghost use Rattle.protocol.specs.Answers.{doneOrCompleted, answerNumber, answerValue};
+ghost use Rattle.protocol.specs.Answers.{done_or_completed, answer_number, answer_value};
 
 use protocol::step::Answer;
 
 // Returns 0 (done) if no write completed, else 3: "at least one write completed, in whichever step".
 fn done_or_completed(n: u32) -> u64
-    ensures { result ≡ doneOrCompleted n }
+    ensures { result ≡ done_or_completed n }
 {
     if n == 0 {
         return 0;
@@ -18,7 +18,7 @@ fn done_or_completed(n: u32) -> u64
 
 // Returns the answer's number: "0 done, 1 shown, 2 ask first, 3 at least one write completed, .. 4 refused".
 pub fn number_of(answer: Answer) -> u64
-    ensures { result ≡ answerNumber answer }
+    ensures { result ≡ answer_number answer }
 {
     match answer {
         Answer::Done => 0,
@@ -32,7 +32,7 @@ pub fn number_of(answer: Answer) -> u64
 
 // Returns the answer's value: "shown value, writes completed or refusal number, else 0".
 pub fn value_of(answer: Answer) -> u64
-    ensures { result ≡ answerValue answer }
+    ensures { result ≡ answer_value answer }
 {
     match answer {
         Answer::Done => 0,

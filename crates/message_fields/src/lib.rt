@@ -1,4 +1,6 @@
 // Converts a message to its fields as numbers, by its kind, and back.
+#![tactic(auto)]
+
 ghost use Rattle.std.specs.Prelude.{◌≤◌, ◌≡◌};
 ghost use Rattle.protocol.specs.declared.message.Kind.TheVariants.{Grant};
 ghost use Rattle.message_fields.specs.Fields.{row, kind_fields, fields_of, payload_in, set_kind_in, kind_in, message_in, sound};

@@ -11,7 +11,7 @@ use Rattle.protocol.specs.declared.message.Message.{Message}
 use Rattle.protocol.specs.Messages.{blank, message_at}
 use Rattle.message_fields.specs.declared.Fields.{Fields}
 use Rattle.message_fields.specs.Fields.{message_in, sound}
-use Rattle.state_words.specs.Fields.{word_lengths, value_lengths, LENGTH, MESSAGES, MESSAGE-VALUE}
+use Rattle.state_words.specs.Fields.{word_lengths, value_lengths, LENGTH, MESSAGES, MESSAGE_VALUE}
 use Rattle.state_words.specs.Rows.{fields_at, narrow_at, stray, message_of, message_from}
 use Rattle.state_words.specs.View.{tables_of}
 use Rattle.state_words.specs.LiveRows.{Live}
@@ -31,23 +31,23 @@ module _ (w x : List ℕ) (i : ℕ) where
   abbrev count : ℕ
   count = get_or (parts word_lengths w LENGTH) 0 0
 
-  found : i < 64 → message_from count (parts word_lengths w MESSAGES) (parts value_lengths x MESSAGE-VALUE) i ≡ message_at (tables_of w x).queue i
+  found : i < 64 → message_from count (parts word_lengths w MESSAGES) (parts value_lengths x MESSAGE_VALUE) i ≡ message_at (tables_of w x).queue i
   unfolding tables_of
-  found h = sym (tabulate_at (message_from count (parts word_lengths w MESSAGES) (parts value_lengths x MESSAGE-VALUE)) 64 i blank h)
+  found h = sym (tabulate_at (message_from count (parts word_lengths w MESSAGES) (parts value_lengths x MESSAGE_VALUE)) 64 i blank h)
 
-  pub at_place : (m : Message) → i < 64 → i < get_or w 1 0 → m ≡ message_of (parts word_lengths w MESSAGES) (parts value_lengths x MESSAGE-VALUE) i → m ≡ message_at (tables_of w x).queue i
+  pub at_place : (m : Message) → i < 64 → i < get_or w 1 0 → m ≡ message_of (parts word_lengths w MESSAGES) (parts value_lengths x MESSAGE_VALUE) i → m ≡ message_at (tables_of w x).queue i
   at_place m h k g = g ∙ sym (at_in count _ _ i (rw (← part_at word_lengths w LENGTH 0 (omega arith)) k)) ∙ found h
 
   pub past_last : (m : Message) → i < 64 → get_or w 1 0 ≤ i → m ≡ blank → m ≡ message_at (tables_of w x).queue i
   past_last m h k g =
-      g ∙ sym (at_past count (parts word_lengths w MESSAGES) (parts value_lengths x MESSAGE-VALUE) i (rw (← part_at word_lengths w LENGTH 0 (omega arith)) k)) ∙ found h
+      g ∙ sym (at_past count (parts word_lengths w MESSAGES) (parts value_lengths x MESSAGE_VALUE) i (rw (← part_at word_lengths w LENGTH 0 (omega arith)) k)) ∙ found h
 
   pub past_place : (m : Message) → 64 ≤ i → m ≡ blank → m ≡ message_at (tables_of w x).queue i
   unfolding tables_of
-  past_place m h g = g ∙ sym (tabulate_past (message_from count (parts word_lengths w MESSAGES) (parts value_lengths x MESSAGE-VALUE)) 0 64 i blank h)
+  past_place m h g = g ∙ sym (tabulate_past (message_from count (parts word_lengths w MESSAGES) (parts value_lengths x MESSAGE_VALUE)) 0 64 i blank h)
 
   pub live_place : (f : Fields) (m : Message)
-      → Live w x i → f ≡ fields_at (parts word_lengths w MESSAGES) (parts value_lengths x MESSAGE-VALUE) i
+      → Live w x i → f ≡ fields_at (parts word_lengths w MESSAGES) (parts value_lengths x MESSAGE_VALUE) i
       → m ≡ message_in f → m ≡ message_at (tables_of w x).queue i
   unfolding message_of
   live_place f m h e g = at_place m h.inside (rw (length_word w x) at h.below) (rw (h.message, ← e) g)

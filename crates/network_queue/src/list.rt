@@ -2,7 +2,7 @@ ghost use Rattle.std.specs.Prelude.{◌≡◌, ◌<◌};
 ghost use Rattle.laws.specs.Parts.{parts};
 ghost use Rattle.protocol.specs.declared.message.Kind.TheVariants.{Renew};
 ghost use Rattle.protocol.specs.Messages.{blank, message, message_at};
-ghost use Rattle.state_words.specs.Fields.{word_lengths, value_lengths, MESSAGES, MESSAGE-VALUE};
+ghost use Rattle.state_words.specs.Fields.{word_lengths, value_lengths, MESSAGES, MESSAGE_VALUE};
 ghost use Rattle.state_words.specs.LiveRows.{Live};
 ghost use Rattle.state_words.specs.Rows.{stray, message_of};
 ghost use Rattle.state_words.specs.View.{tables_of};
@@ -44,7 +44,7 @@ fn stray() -> Message
 // Returns the message in a row, or `stray` if the row does not encode one.
 fn message_of(words: &Words, values: &Values, place: usize) -> Message
     requires { place < PLACES }
-    ensures { result ≡ message_of (parts word_lengths words.now MESSAGES) (parts value_lengths values.now MESSAGE-VALUE) place }
+    ensures { result ≡ message_of (parts word_lengths words.now MESSAGES) (parts value_lengths values.now MESSAGE_VALUE) place }
 {
     let found = network_rows::row::load(words, values, place);
     if network_rows::row::narrow(words, place) & message_fields::sound(found) {

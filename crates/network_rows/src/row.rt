@@ -2,7 +2,7 @@
 ghost use Rattle.std.specs.Prelude.{◌≡◌, ℕ, ◌+◌, ◌*◌, ◌%◌, ◌<◌, get_or};
 ghost use Rattle.laws.specs.Parts.{parts};
 ghost use Rattle.laws.specs.Store.{store_each, always};
-ghost use Rattle.state_words.specs.Fields.{word_lengths, value_lengths, at, MESSAGES, MESSAGE-VALUE, ROW};
+ghost use Rattle.state_words.specs.Fields.{word_lengths, value_lengths, at, MESSAGES, MESSAGE_VALUE, ROW};
 ghost use Rattle.state_words.specs.Rows.{words_of, Narrow, fields_at, narrow_at};
 ghost use Rattle.setup.specs.Limits.{PLACES};
 
@@ -68,7 +68,7 @@ pub fn narrow(words: &Words, place: usize) -> bool
 // Returns the fields in a row, value included. Only the lowest byte of the first four words is read.
 pub fn load(words: &Words, values: &Values, place: usize) -> Fields
     requires { place < PLACES }
-    ensures { result ≡ fields_at (parts word_lengths words.now MESSAGES) (parts value_lengths values.now MESSAGE-VALUE) place }
+    ensures { result ≡ fields_at (parts word_lengths words.now MESSAGES) (parts value_lengths values.now MESSAGE_VALUE) place }
 {
     Fields {
         kind: low(word(words, place, 0)),

@@ -1,4 +1,6 @@
 // Sending a message: appending it to the message list, in place.
+#![tactic(auto)]
+
 ghost use Rattle.std.specs.Prelude.{◌≡◌};
 ghost use Rattle.protocol.specs.Server.{sent};
 ghost use Rattle.state_words.specs.View.{tables_of, records_of};

@@ -13,7 +13,7 @@ use Rattle.protocol.specs.Writes.{waits, latest_end, opened, awaited, notified, 
 use Rattle.protocol.specs.Server.{noted, offered, lowest_waited, volume_renewed, object_renewed, granted, must_drop, renewed_by, renewed, ack_taken, acked, ack_staged, drop_taken, disowned, dropped, drop_staged, server_restarted, notes_cleared, notes_dropped, clear_taken, batched}
 use Rattle.protocol.specs.Client.{showable, stands, forgotten, swept, swept_all}
 use Rattle.protocol.specs.Sound.{queue_sound, tables_sound, copies_sound, requests_sound, sound}
-use Rattle.protocol.specs.Answers.{answerNumber, answerValue}
+use Rattle.protocol.specs.Answers.{answer_number, answer_value}
 use Rattle.protocol.specs.Gate.{known, exists, timely, vacant, growable, refusal_of_step, refusal}
 use Rattle.protocol.specs.Decide.{grant_received, invalidate_received, offer_received, received, read_decided, ask_decided, deliver_decided, performed, decided, batch_received}
 use Rattle.protocol.specs.World.{target, decision, stepped}
@@ -27,9 +27,9 @@ use Rattle.laws.specs.Sets as sets
 use Rattle.laws.specs.Sets.{all_in, set_of, added, less, bit_at}
 use Rattle.promises.specs.SavedRun.{saved_there, branch_again}
 
-pub branch_abandoned : (map answerNumber (answers_to tiny (fresh_machine tiny) (saved_there ++ branch_again))
+pub branch_abandoned : (map answer_number (answers_to tiny (fresh_machine tiny) (saved_there ++ branch_again))
     ≡ 0 ∷ 0 ∷ 0 ∷ 0 ∷ 0 ∷ 0 ∷ 0 ∷ 1 ∷ 0 ∷ 0 ∷ 0 ∷ 0 ∷ 3 ∷ 0 ∷ 0 ∷ 0 ∷ 1 ∷ 0 ∷ 0 ∷ 1 ∷ 0 ∷ 4 ∷ 4 ∷ 0 ∷ 1 ∷ [])
-    × (map answerValue (answers_to tiny (fresh_machine tiny) (saved_there ++ branch_again))
+    × (map answer_value (answers_to tiny (fresh_machine tiny) (saved_there ++ branch_again))
     ≡ 0 ∷ 0 ∷ 0 ∷ 0 ∷ 0 ∷ 0 ∷ 0 ∷ 0 ∷ 0 ∷ 0 ∷ 0 ∷ 0 ∷ 1 ∷ 0 ∷ 0 ∷ 0 ∷ 7 ∷ 0 ∷ 0 ∷ 0 ∷ 0 ∷ 11 ∷ 11 ∷ 0 ∷ 7 ∷ [])
 unfolding saved_there branch_again save return answers_to answer_to moved refusal_in saved_sound known_kind named tiny step clock write told history_from events happening fold_from any_from all_from first_from remove_at store_each greatest in_range pushed removed fresh_tables server_alive client_alive client_clock guard_passed end_over waits latest_end opened awaited notified waited ready due deserted posted released completed settled settling written noted offered lowest_waited volume_renewed object_renewed granted must_drop renewed_by renewed ack_taken acked ack_staged drop_taken disowned dropped drop_staged server_restarted showable stands forgotten swept swept_all queue_sound tables_sound copies_sound requests_sound sound known exists timely vacant growable refusal_of_step refusal grant_received invalidate_received offer_received received read_decided ask_decided deliver_decided performed decided target decision stepped bit_at less added set_of all_in objects_in delays delayed aged aged_in clock_set batched clear_taken notes_dropped notes_cleared batch_received sets.removed
 branch_abandoned = (refl, refl)

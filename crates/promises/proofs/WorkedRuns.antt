@@ -16,7 +16,7 @@ use Rattle.protocol.specs.Writes.{waits, delays, delayed, latest_end, opened, aw
 use Rattle.protocol.specs.Server.{noted, offered, batched, lowest_waited, volume_renewed, object_renewed, granted, must_drop, renewed_by, renewed, ack_taken, acked, ack_staged, drop_taken, disowned, dropped, drop_staged, clear_taken, notes_dropped, notes_cleared, server_restarted}
 use Rattle.protocol.specs.Client.{showable, stands, forgotten, swept, swept_all}
 use Rattle.protocol.specs.Sound.{queue_sound, tables_sound, copies_sound, requests_sound, sound}
-use Rattle.protocol.specs.Answers.{answerNumber, answerValue}
+use Rattle.protocol.specs.Answers.{answer_number, answer_value}
 use Rattle.protocol.specs.Gate.{known, exists, timely, vacant, growable, refusal_of_step, refusal}
 use Rattle.protocol.specs.Decide.{grant_received, invalidate_received, offer_received, batch_received, received, read_decided, ask_decided, deliver_decided, restart_decided, performed, decided}
 use Rattle.protocol.specs.World.{fresh_world, target, decision, stepped, ran, answers}
@@ -29,8 +29,8 @@ use Rattle.promises.specs.WorkedRuns.{restart, steps, events_told, answer_number
 use Rattle.promises.specs.WorkedRuns.{parked, kept}
 
 pub worked_through : (history tiny steps ≡ events_told)
-    × (map answerNumber (answers tiny (fresh_world tiny) steps) ≡ answer_numbers)
-    × (map answerValue (answers tiny (fresh_world tiny) steps) ≡ answer_values)
+    × (map answer_number (answers tiny (fresh_world tiny) steps) ≡ answer_numbers)
+    × (map answer_value (answers tiny (fresh_world tiny) steps) ≡ answer_values)
 unfolding events_told answer_numbers answer_values answers tiny step clock lose restart write steps told history_from events happening fold_from any_from all_from first_from remove_at store_each greatest in_range objects_in bit_at set_of sets.removed added less all_in pushed removed fresh_tables server_alive client_alive client_clock guard_passed end_over waits delays delayed latest_end opened awaited notified waited ready due aged_in aged clock_set deserted posted released completed settled settling written noted offered batched lowest_waited volume_renewed object_renewed granted must_drop renewed_by renewed ack_taken acked ack_staged drop_taken disowned dropped drop_staged clear_taken notes_dropped notes_cleared server_restarted showable stands forgotten swept swept_all queue_sound tables_sound copies_sound requests_sound sound known exists timely vacant growable refusal_of_step refusal grant_received invalidate_received offer_received batch_received received read_decided ask_decided deliver_decided performed decided target decision stepped
 worked_through = (refl, refl, refl)
 

@@ -5,7 +5,7 @@ use Rattle.protocol.specs.declared.setup.Setup.{Setup}
 use Rattle.protocol.specs.declared.step.Step.{Step}
 use Rattle.protocol.specs.declared.tables.Tables.{Tables}
 use Rattle.protocol.specs.Tables.{value_at, standing_at, pending_at, end_at}
-use Rattle.protocol.specs.Answers.{answerValue, reported, isShown, is_refused}
+use Rattle.protocol.specs.Answers.{answer_value, reported, is_shown, is_refused}
 use Rattle.protocol.specs.Gate.{is_clock}
 use Rattle.protocol.specs.World.{World, fresh_world, stepped, answer_of}
 use Rattle.protocol.specs.Ledger.{Open, none, write, Ledger, open_count, Books, fresh_books, books_after}
@@ -17,7 +17,7 @@ standing_write t o = cond (standing_at t o) (write (pending_at t o) (end_at t o)
 -- step x on w, against the ledger l after it; n writes were reported completed before it
 pub record Agrees (s : Setup) (w : World) (n : ℕ) (x : Step) (l : Ledger) : Type 0 where
   -- "a read answered "shown" gave its object's posted value"
-  pub shows : isShown (answer_of s w x) ≡ true → answerValue (answer_of s w x) ≡ l.posted_value x.object
+  pub shows : is_shown (answer_of s w x) ≡ true → answer_value (answer_of s w x) ≡ l.posted_value x.object
   -- "each object's value in the server's tables is the posted one"
   pub values : (o : ℕ) → o < s.objects → value_at (stepped s w x).tables o ≡ l.posted_value o
   -- "it has a standing write exactly where the ledger has an open one, with the same value and latest end"

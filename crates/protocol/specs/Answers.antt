@@ -4,37 +4,37 @@ use Rattle.protocol.specs.declared.step.Answer.{Answer}
 use Rattle.protocol.specs.declared.step.Answer.TheVariants.{Done, Shown, AskFirst, Completed, Delivered, Refused}
 
 -- 0 done, or 3: "at least one write completed, in whichever step"
-abbrev pub doneOrCompleted : ℕ → ℕ
-doneOrCompleted n = cond (eqb n 0) 0 3
+abbrev pub done_or_completed : ℕ → ℕ
+done_or_completed n = cond (eqb n 0) 0 3
 
 -- "0 done, 1 shown, 2 ask first, 3 at least one write completed, 4 refused"
-abbrev pub answerNumber : Answer → ℕ
-answerNumber Done = 0
-answerNumber (Shown x) = 1
-answerNumber AskFirst = 2
-answerNumber (Completed n) = doneOrCompleted n
-answerNumber (Delivered m n) = doneOrCompleted n
-answerNumber (Refused k) = 4
+abbrev pub answer_number : Answer → ℕ
+answer_number Done = 0
+answer_number (Shown x) = 1
+answer_number AskFirst = 2
+answer_number (Completed n) = done_or_completed n
+answer_number (Delivered m n) = done_or_completed n
+answer_number (Refused k) = 4
 
 -- "shown value, writes completed or refusal number, else 0"
-abbrev pub answerValue : Answer → ℕ
-answerValue Done = 0
-answerValue (Shown x) = x
-answerValue AskFirst = 0
-answerValue (Completed n) = n
-answerValue (Delivered m n) = n
-answerValue (Refused k) = k
+abbrev pub answer_value : Answer → ℕ
+answer_value Done = 0
+answer_value (Shown x) = x
+answer_value AskFirst = 0
+answer_value (Completed n) = n
+answer_value (Delivered m n) = n
+answer_value (Refused k) = k
 
 -- the number of writes completed that an answer reports
 abbrev pub reported : Answer → ℕ
-reported a = cond (eqb (answerNumber a) 3) (answerValue a) 0
+reported a = cond (eqb (answer_number a) 3) (answer_value a) 0
 
-abbrev pub isShown : Answer → Bool
-isShown a = eqb (answerNumber a) 1
+abbrev pub is_shown : Answer → Bool
+is_shown a = eqb (answer_number a) 1
 
 abbrev pub is_refused : Answer → Bool
-is_refused a = eqb (answerNumber a) 4
+is_refused a = eqb (answer_number a) 4
 
 -- the answer of a clock step and of a write
-abbrev pub completedAnswer : ℕ → Answer
-completedAnswer n = cond (eqb n 0) Done (Completed n)
+abbrev pub completed_answer : ℕ → Answer
+completed_answer n = cond (eqb n 0) Done (Completed n)

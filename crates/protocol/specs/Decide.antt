@@ -25,7 +25,7 @@ use Rattle.protocol.specs.Tables.{with_views, with_queue}
 use Rattle.protocol.specs.Writes.{Counted, settled, write_staged, clock_staged}
 use Rattle.protocol.specs.Server.{sent, renewed, ack_staged, drop_staged, notes_cleared, server_restarted}
 use Rattle.protocol.specs.Client.{showable, renewal, stands, viewed, grant_stored, forgotten, client_restarted}
-use Rattle.protocol.specs.Answers.{completedAnswer}
+use Rattle.protocol.specs.Answers.{completed_answer}
 use Rattle.protocol.specs.Gate.{is_clock, is_read, is_ask, is_write, is_deliver, is_lose, is_double, is_restart_server, refusal}
 
 -- the client's records stay
@@ -88,7 +88,7 @@ answered g t a = record { change = g; outcome = record { answer = a; tables = t 
 
 -- Steps 1 and 4
 abbrev pub counting : Counted → Decision
-counting n = answered kept n.tables (completedAnswer n.count)
+counting n = answered kept n.tables (completed_answer n.count)
 
 -- Step 2: "shown with its value; else "ask first"" and no table changes
 unfoldable pub read_decided : Setup → Tables → Copy → ℕ → ℕ → Decision

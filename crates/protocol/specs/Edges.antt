@@ -10,7 +10,7 @@ use Rattle.protocol.specs.Messages.{message}
 use Rattle.protocol.specs.Tables.{value_at, standing_at, with_clock, with_volumes, with_objects, with_holders, with_queue, fresh_volumes, fresh_objects, fresh_holders, fresh_tables}
 use Rattle.protocol.specs.Updates.{with_volume_expiry, with_guard, set_write, set_waiting}
 use Rattle.protocol.specs.Leases.{server_alive, client_alive}
-use Rattle.protocol.specs.Answers.{answerNumber, answerValue}
+use Rattle.protocol.specs.Answers.{answer_number, answer_value}
 use Rattle.protocol.specs.World.{World, fresh_world, stepped, answer_of}
 
 -- one client, volume and object; tv 10, t 100, m 3, d 1
@@ -54,7 +54,7 @@ at_clock_5 = with_clock fresh_tables 5
 
 -- 01's number and value of what a step answers
 unfoldable pub answer : Tables → Step → ℕ × ℕ
-answer t x = (answerNumber (answer_of tiny (with_tables_law t) x), answerValue (answer_of tiny (with_tables_law t) x))
+answer t x = (answer_number (answer_of tiny (with_tables_law t) x), answer_value (answer_of tiny (with_tables_law t) x))
 
 unfoldable pub after : Tables → Step → Tables
 after t x = (stepped tiny (with_tables_law t) x).tables

@@ -10,7 +10,7 @@ use Rattle.protocol.specs.declared.step.Step.{Step}
 use Rattle.protocol.specs.declared.tables.Tables.{Tables}
 use Rattle.protocol.specs.Tables.{value_at}
 use Rattle.protocol.specs.Writes.{latest_end}
-use Rattle.protocol.specs.Answers.{answerValue, reported, isShown, is_refused}
+use Rattle.protocol.specs.Answers.{answer_value, reported, is_shown, is_refused}
 use Rattle.protocol.specs.Gate.{is_clock, is_write, is_restart_server}
 use Rattle.protocol.specs.World.{World, fresh_world, stepped}
 use Rattle.protocol.specs.Ledger.{Event, acceptance, completion, server_restart, showing, clock_step, events, Open, none, write, is_open}
@@ -117,7 +117,7 @@ step_tells s t x =
 
 -- what the answer to a step tells: nothing where it was refused, else what it was shown, else what it is by itself
 abbrev pub answer_tells : Setup → Tables → Step → Answer → List Event
-answer_tells s t x a = cond (is_refused a) [] (cond (isShown a) (showing x.client x.object (answerValue a) ∷ []) (step_tells s t x))
+answer_tells s t x a = cond (is_refused a) [] (cond (is_shown a) (showing x.client x.object (answer_value a) ∷ []) (step_tells s t x))
 
 -- what the answers to the steps of a run tell, in their order
 unfoldable pub answers_tell : Setup → World → List Step → List Answer → List Event

@@ -14,7 +14,7 @@ pub struct Step {
     pub value: u64,
 }
 
-// What a step answers. 01's number and value of each are `answerNumber` and `answerValue` of specs/Answers.antt.
+// What a step answers. 01's number and value of each are `answer_number` and `answer_value` of specs/Answers.antt.
 #[derive(Clone, Copy)]
 pub enum Answer {
     Done,

@@ -19,13 +19,13 @@ use Rattle.protocol.specs.declared.step.Step.{Step}
 use Rattle.protocol.specs.declared.step.Target.{Target}
 use Rattle.protocol.specs.Tables.{by_volume, no_copy, no_request}
 use Rattle.protocol.specs.Setup.{in_range}
-use Rattle.protocol.specs.Answers.{answerNumber}
+use Rattle.protocol.specs.Answers.{answer_number}
 use Rattle.protocol.specs.Gate.{is_read}
 use Rattle.protocol.specs.World.{World, target_at}
 use Rattle.protocol.specs.Saved.{Machine, answer_to, Called}
 use Rattle.protocol.specs.Line.{act_of}
 use Rattle.protocol.specs.Safety.View.{copy_at, request_at}
-use Rattle.state_words.specs.Fields.{word_lengths, VIEW-EXPIRY}
+use Rattle.state_words.specs.Fields.{word_lengths, VIEW_EXPIRY}
 use Rattle.state_words.specs.View.{tables_of, world_of}
 use Rattle.lease_tests.specs.Parts.{Placed}
 use Rattle.file_shape.specs.Places.{place_before, place_is, record_there}
@@ -58,7 +58,7 @@ module _ (view copy : ℕ) (g : Event) where
 pub view_is : (s : Setup) (w v : List ℕ) (x : Step) (m : ℕ) → x.client < s.clients → Placed s x.object m
     → get_or w (2058 + (x.client * 8 + m)) 0 ≡ view_until s (world_of s w v) x.client x.object
 unfolding tables_of
-view_is s w v x m h p = rw (← p.is) (part_at word_lengths w VIEW-EXPIRY (by_volume x.client m) (omega (arith, p.clients, p.volume)))
+view_is s w v x m h p = rw (← p.is) (part_at word_lengths w VIEW_EXPIRY (by_volume x.client m) (omega (arith, p.clients, p.volume)))
 
 -- the records that a read names
 module _ (s : Setup) (x : Step) (at : Target) (f : at ≡ target_at s x.client x.object) where
@@ -73,12 +73,12 @@ module _ (s : Setup) (x : Step) (at : Target) (f : at ≡ target_at s x.client x
   reasoned w k c view why p q h = rw (h, q, copy_read w.copies c p)
 
 -- ---- only a read answered "ask first" has a reason
-module _ (a : Answer) (r : Reason) (n : ℕ) (p : n ≡ answerNumber a) where
+module _ (a : Answer) (r : Reason) (n : ℕ) (p : n ≡ answer_number a) where
   pub is_asked : n ≡ 2 → r ≡ if_asked a r
   is_asked e = rw (eq-eqb _ 2 (sym p ∙ e))
 
   pub not_asked : (n ≡ 2 → ⊥) → (u : Reason) → u ≡ no_reason → u ≡ if_asked a r
-  not_asked h u f = f ∙ rw (ne_eqb (answerNumber a) 2 (λ e. h (p ∙ e)))
+  not_asked h u f = f ∙ rw (ne_eqb (answer_number a) 2 (λ e. h (p ∙ e)))
 
 -- ---- the chosen read of an accepted file
 module _ {l : List ℕ} {c : Contents} {k : ℕ} {x : Step} (p : Chosen l c k x) where

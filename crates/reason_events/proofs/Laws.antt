@@ -16,7 +16,7 @@ use Rattle.protocol.specs.declared.step.Answer.{Answer}
 use Rattle.protocol.specs.declared.step.Answer.TheVariants.{Done, Shown, AskFirst, Completed, Delivered, Refused}
 use Rattle.protocol.specs.declared.step.Step.{Step}
 use Rattle.protocol.specs.Client.{stands}
-use Rattle.protocol.specs.Answers.{answerNumber}
+use Rattle.protocol.specs.Answers.{answer_number}
 use Rattle.protocol.specs.Saved.{names, uses_name}
 use Rattle.protocol.specs.Line.{act_of}
 use Rattle.promises.specs.declared.reasons.Event.{Event}
@@ -111,11 +111,11 @@ module _ (l : Last) (n : ℕ) (g : Event) where
 
 -- ---- the last events of all states
 module _ (ls : Lasts) (l : Last) (x : Step) (a : Answer) where
-  pub refused_follow : (b : Bool) (n : ℕ) → b ≡ uses_name x → b ≡ true → n ≡ answerNumber a → n ≡ 4 → ls ≡ followed ls (act_of l x a)
+  pub refused_follow : (b : Bool) (n : ℕ) → b ≡ uses_name x → b ≡ true → n ≡ answer_number a → n ≡ 4 → ls ≡ followed ls (act_of l x a)
   refused_follow b n p h q e = rw (sym p ∙ h) (rw (eq-eqb _ 4 (sym q ∙ e)))
 
-  module _ (b : Bool) (n : ℕ) (p : b ≡ uses_name x) (h : b ≡ true) (q : n ≡ answerNumber a) (e : n ≡ 4 → ⊥) where
-    accepted : eqb (answerNumber a) 4 ≡ false
+  module _ (b : Bool) (n : ℕ) (p : b ≡ uses_name x) (h : b ≡ true) (q : n ≡ answer_number a) (e : n ≡ 4 → ⊥) where
+    accepted : eqb (answer_number a) 4 ≡ false
     accepted = ne_eqb _ 4 (λ f. e (q ∙ f))
 
     pub name_fits : NameKnown x a → x.place < names

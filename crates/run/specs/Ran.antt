@@ -9,7 +9,7 @@ use Rattle.protocol.specs.declared.setup.Setup.{Setup}
 use Rattle.protocol.specs.declared.step.Answer.{Answer}
 use Rattle.protocol.specs.declared.step.Step.{Step}
 use Rattle.protocol.specs.Setup.{in_range}
-use Rattle.protocol.specs.Answers.{answerValue}
+use Rattle.protocol.specs.Answers.{answer_value}
 use Rattle.protocol.specs.Saved.{Machine, fresh_machine, answers_to, Called}
 use Rattle.protocol.specs.SavedLaws.{SoundMachine}
 use Rattle.protocol.proofs.SavedLaws.{fresh_machine_sound, moved_sound}
@@ -71,6 +71,6 @@ module _ (s : Setup) (l out₀ : List ℕ) (start : ℕ) where
       unfolding lines_from answers_to
       run_again i place b x e a r f out' at' v = record {
         sound = rw f.moves (moved_sound s i q x g.sound);
-        room = omega (arith, g.room, v.next, line_short (k + 1) _ (answerValue a) (omega (arith, p.few)) (answer_small a));
+        room = omega (arith, g.room, v.next, line_short (k + 1) _ (answer_value a) (omega (arith, p.few)) (answer_small a));
         lines = written_rest out out' _ at at' _ (line_of (k + 1) a) _ (rw (f.answers, f.moves, e) (rw (left_next l place k b p (rw n at h)) at g.lines)) v;
       }

@@ -1,4 +1,6 @@
 // Saves the state under a name and restores it (02, A7).
+#![tactic(auto)]
+
 ghost use Rattle.std.specs.Prelude.{◌<◌, [], ◌≡◌, get_or, set};
 ghost use Rattle.protocol.specs.Saved.{names};
 ghost use Rattle.state_words.specs.Saved.{is_saved};

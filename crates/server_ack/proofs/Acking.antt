@@ -18,7 +18,7 @@ use Rattle.protocol.specs.Tables.{by_object, version_at, standing_at}
 use Rattle.protocol.specs.Writes.{Counted, settled}
 use Rattle.protocol.specs.Server.{acked, ack_taken, ack_staged}
 use Rattle.lease_tests.specs.Parts.{Placed}
-use Rattle.state_words.specs.Fields.{word_lengths, at, VOLUME-EPOCH, VERSION, STANDING, LEASE, WAITING}
+use Rattle.state_words.specs.Fields.{word_lengths, at, VOLUME_EPOCH, VERSION, STANDING, LEASE, WAITING}
 use Rattle.state_words.specs.View.{tables_of, numbers_of, records_of}
 use Rattle.server_due.specs.Triggers.{one_staged}
 
@@ -28,10 +28,10 @@ grows_numbers s w x g = record { below = g.below }
 
 module _ (s : Setup) (w : List ℕ) (o e z : ℕ) where
   pub ack_stands : (v : ℕ) → Placed s o v → (get_or w (at STANDING + o) 0 ≡ 0 → ⊥)
-      → (eqb e (get_or w (at VOLUME-EPOCH + v) 0) && eqb z (get_or w (at VERSION + o) 0 + 1)) ≡ ack_taken s (numbers_of w) o e z
+      → (eqb e (get_or w (at VOLUME_EPOCH + v) 0) && eqb z (get_or w (at VERSION + o) 0 + 1)) ≡ ack_taken s (numbers_of w) o e z
   unfolding ack_taken tables_of
   ack_stands v p h =
-      rw (flag_yes word_lengths w STANDING o p.object h, part_at word_lengths w VOLUME-EPOCH v p.volume, part_at word_lengths w VERSION o p.object, p.is)
+      rw (flag_yes word_lengths w STANDING o p.object h, part_at word_lengths w VOLUME_EPOCH v p.volume, part_at word_lengths w VERSION o p.object, p.is)
 
   pub ack_rests : o < 32 → get_or w (at STANDING + o) 0 ≡ 0 → false ≡ ack_taken s (numbers_of w) o e z
   unfolding ack_taken tables_of

@@ -1,4 +1,6 @@
 // ACK received at the server (01, "Messages received").
+#![tactic(auto)]
+
 ghost use Rattle.std.specs.Prelude.{◌≡◌, true, ◌<◌};
 ghost use Rattle.protocol.specs.Setup.{in_range};
 ghost use Rattle.protocol.specs.SoundLaws.{Growing};

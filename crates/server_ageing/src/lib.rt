@@ -1,4 +1,6 @@
 // Ageing of notes at a clock step (02, A6): a client whose notes have waited too long is marked.
+#![tactic(auto)]
+
 ghost use Rattle.std.specs.Prelude.{◌≡◌, true, ◌*◌, ◌≤◌, ◌<◌};
 ghost use Rattle.laws.specs.Loop.{all_from};
 ghost use Rattle.protocol.specs.Setup.{in_range};

@@ -12,13 +12,13 @@ use Rattle.laws.specs.Store.{store_each}
 use Rattle.protocol.specs.declared.setup.Setup.{Setup}
 use Rattle.protocol.specs.Tables.{by_volume, by_object}
 use Rattle.protocol.specs.Server.{clear_taken, notes_dropped, notes_cleared}
-use Rattle.state_words.specs.Fields.{word_lengths, at, VOLUME-EPOCH, LEASE, NOTES, BATCH}
+use Rattle.state_words.specs.Fields.{word_lengths, at, VOLUME_EPOCH, LEASE, NOTES, BATCH}
 use Rattle.state_words.specs.View.{tables_of, numbers_of, records_of}
 
 pub clear_takes : (w : List ℕ) (d v n e : ℕ) → d < 16 → v < 8
-    → (eqb e (get_or w (at VOLUME-EPOCH + v) 0) && (not (eqb n 0) && eqb n (get_or w (at BATCH + by_volume d v) 0))) ≡ clear_taken (numbers_of w) d v n e
+    → (eqb e (get_or w (at VOLUME_EPOCH + v) 0) && (not (eqb n 0) && eqb n (get_or w (at BATCH + by_volume d v) 0))) ≡ clear_taken (numbers_of w) d v n e
 unfolding clear_taken tables_of
-clear_takes w d v n e h l = rw (part_at word_lengths w VOLUME-EPOCH v l, part_at word_lengths w BATCH (by_volume d v) (omega arith))
+clear_takes w d v n e h l = rw (part_at word_lengths w VOLUME_EPOCH v l, part_at word_lengths w BATCH (by_volume d v) (omega arith))
 
 -- the test does not depend on the values
 clear_same : (w x : List ℕ) (d v n e : ℕ) → clear_taken (numbers_of w) d v n e ≡ clear_taken (tables_of w x) d v n e

@@ -1,4 +1,6 @@
 // CLEARED received at the server (02, A6).
+#![tactic(auto)]
+
 ghost use Rattle.std.specs.Prelude.{List, ◌≡◌, true, ℕ, ◌+◌, ◌≤◌, ◌<◌};
 ghost use Rattle.laws.specs.Sets.{bit_at};
 ghost use Rattle.laws.specs.Store.{store_each};

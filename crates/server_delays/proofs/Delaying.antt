@@ -14,7 +14,7 @@ use Rattle.protocol.specs.declared.tables.Tables.{Tables}
 use Rattle.protocol.specs.Tables.{by_volume, by_object}
 use Rattle.protocol.specs.Writes.{delays, put_off, delay_if}
 use Rattle.lease_tests.specs.Parts.{Placed, delays_by}
-use Rattle.state_words.specs.Fields.{word_lengths, at, CLOCK, SESSION-EXPIRY, UNREACHABLE, LEASE, NOTES, BATCH}
+use Rattle.state_words.specs.Fields.{word_lengths, at, CLOCK, SESSION_EXPIRY, UNREACHABLE, LEASE, NOTES, BATCH}
 use Rattle.state_words.specs.View.{tables_of, numbers_of, records_of}
 use Rattle.server_marks.specs.SessionWords.{sessions_of, OnlySessions}
 
@@ -38,7 +38,7 @@ module _ (w : List ℕ) (d v o m : ℕ) (g : d < 16) (l : v < 8) where
       rw (stored word_lengths _ BATCH (by_volume d v) 0 place, stored word_lengths w NOTES (by_volume d v) m place, e, part_at word_lengths w NOTES (by_volume d v) place)
 
 pub delays_here : (s : Setup) (w : List ℕ) (o v d : ℕ) (r : Bool) (y : Sessions) → Placed s o v → d < 16
-    → r ≡ delays_by (get_or w 0 0) (get_or w (at LEASE + by_object d o) 0) (flag (get_or w (at UNREACHABLE + by_volume d v) 0)) (get_or w (at SESSION-EXPIRY + by_volume d v) 0)
+    → r ≡ delays_by (get_or w 0 0) (get_or w (at LEASE + by_object d o) 0) (flag (get_or w (at UNREACHABLE + by_volume d v) 0)) (get_or w (at SESSION_EXPIRY + by_volume d v) 0)
     → y ≡ cond r (put_off (sessions_of w) d v o) (sessions_of w) → y ≡ delay_if s (numbers_of w) o (sessions_of w) d
 unfolding delays tables_of
 delays_here s w o v d r y p g e f =
@@ -49,7 +49,7 @@ delays_here s w o v d r y p g e f =
       part_at word_lengths w CLOCK 0 (omega arith),
       part_at word_lengths w LEASE (by_object d o) (omega arith),
       flag_at word_lengths w UNREACHABLE (by_volume d v) (omega arith),
-      part_at word_lengths w SESSION-EXPIRY (by_volume d v) (omega arith),
+      part_at word_lengths w SESSION_EXPIRY (by_volume d v) (omega arith),
       p.is,
     )
 

@@ -1,4 +1,6 @@
 // The notes that a write makes (02, A6): whose invalidation is put off instead of being waited for.
+#![tactic(auto)]
+
 ghost use Rattle.std.specs.Prelude.{◌≡◌, true, cond, ◌<◌};
 ghost use Rattle.protocol.specs.Setup.{in_range};
 ghost use Rattle.protocol.specs.Writes.{put_off, delay_if, delayed};

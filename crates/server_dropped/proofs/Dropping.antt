@@ -19,16 +19,16 @@ use Rattle.protocol.specs.SoundLaws.{Growing}
 use Rattle.protocol.specs.Tables.{by_volume, by_object}
 use Rattle.protocol.specs.Writes.{Counted, settled}
 use Rattle.protocol.specs.Server.{of_volume, disowned, dropped, drop_taken, drop_staged}
-use Rattle.state_words.specs.Fields.{word_lengths, at, VOLUME-EPOCH, SESSION-EXPIRY, UNREACHABLE, OFFER, LEASE, WAITING}
+use Rattle.state_words.specs.Fields.{word_lengths, at, VOLUME_EPOCH, SESSION_EXPIRY, UNREACHABLE, OFFER, LEASE, WAITING}
 use Rattle.state_words.specs.View.{tables_of, numbers_of, records_of}
 use Rattle.server_due.specs.declared.Trigger.TheVariants.{Volume}
 use Rattle.server_due.specs.Triggers.{triggered, trigger_staged}
 use Rattle.server_waiting.specs.Waiting.{awaited_in}
 
 pub drop_takes : (w : List ℕ) (d v n e : ℕ) → d < 16 → v < 8
-    → (eqb e (get_or w (at VOLUME-EPOCH + v) 0) && (not (eqb n 0) && eqb n (get_or w (at OFFER + by_volume d v) 0))) ≡ drop_taken (numbers_of w) d v n e
+    → (eqb e (get_or w (at VOLUME_EPOCH + v) 0) && (not (eqb n 0) && eqb n (get_or w (at OFFER + by_volume d v) 0))) ≡ drop_taken (numbers_of w) d v n e
 unfolding drop_taken tables_of
-drop_takes w d v n e h l = rw (part_at word_lengths w VOLUME-EPOCH v l, part_at word_lengths w OFFER (by_volume d v) (omega arith))
+drop_takes w d v n e h l = rw (part_at word_lengths w VOLUME_EPOCH v l, part_at word_lengths w OFFER (by_volume d v) (omega arith))
 
 -- the test does not depend on the values
 drop_same : (w x : List ℕ) (d v n e : ℕ) → drop_taken (numbers_of w) d v n e ≡ drop_taken (tables_of w x) d v n e
@@ -54,7 +54,7 @@ module _ (w₀ w u : List ℕ) (b : Bool) (o m : ℕ) (a : Above w₀ w (at WAIT
 -- after the stores to w in `unleased`, the two loops give a, then b
 module _ (s : Setup) (w x a b : List ℕ) (d v : ℕ) (i : d < 16) (l : v < 8) (k : s.objects ≤ 32) where
   abbrev unleased : List ℕ
-  unleased = set (set (set w (at SESSION-EXPIRY + by_volume d v) 0) (at UNREACHABLE + by_volume d v) 0) (at OFFER + by_volume d v) 0
+  unleased = set (set (set w (at SESSION_EXPIRY + by_volume d v) 0) (at UNREACHABLE + by_volume d v) 0) (at OFFER + by_volume d v) 0
 
   module _ (e : a ≡ store_each (of_volume s v) (λ (o : ℕ). at LEASE + by_object d o) (λ (o : ℕ). 0) unleased s.objects)
       (f : b ≡ store_each (of_volume s v) (λ (o : ℕ). at WAITING + o) (λ (o : ℕ). removed (awaited_in a o) d) a s.objects) where
@@ -78,7 +78,7 @@ module _ (s : Setup) (w x a b : List ℕ) (d v : ℕ) (i : d < 16) (l : v < 8) (
           stored_each word_lengths LEASE (of_volume s v) (by_object d) (λ (o : ℕ). 0) s.objects lease_place unleased,
           stored word_lengths _ OFFER (by_volume d v) 0 session_place,
           stored word_lengths _ UNREACHABLE (by_volume d v) 0 session_place,
-          stored word_lengths _ SESSION-EXPIRY (by_volume d v) 0 session_place,
+          stored word_lengths _ SESSION_EXPIRY (by_volume d v) 0 session_place,
           flags_set (parts word_lengths w UNREACHABLE) (by_volume d v) 0,
         )
 
@@ -93,7 +93,7 @@ module _ (s : Setup) (w x a b : List ℕ) (d v : ℕ) (i : d < 16) (l : v < 8) (
           stored_each word_lengths LEASE (of_volume s v) (by_object d) (λ (o : ℕ). 0) s.objects lease_place unleased,
           stored word_lengths _ OFFER (by_volume d v) 0 session_place,
           stored word_lengths _ UNREACHABLE (by_volume d v) 0 session_place,
-          stored word_lengths _ SESSION-EXPIRY (by_volume d v) 0 session_place,
+          stored word_lengths _ SESSION_EXPIRY (by_volume d v) 0 session_place,
         )
 
     pub drop_grows : Growing s (tables_of w x).objects → Growing s (tables_of b x).objects

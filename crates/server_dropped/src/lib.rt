@@ -1,4 +1,6 @@
 // DROPPED received at the server (01, "Messages received").
+#![tactic(auto)]
+
 ghost use Rattle.std.specs.Prelude.{◌≡◌, true, ℕ, ◌+◌, ◌<◌};
 ghost use Rattle.laws.specs.Sets.{removed};
 ghost use Rattle.laws.specs.Store.{store_each};

@@ -1,4 +1,6 @@
 // Finding the standing writes that may complete (01, "Steps" 1 and 4): those that are ready and, at a clock step, those past their latest end.
+#![tactic(auto)]
+
 ghost use Rattle.std.specs.Prelude.{◌≡◌, true, ◌≤◌, ◌<◌};
 ghost use Rattle.laws.specs.Skip.{Found};
 ghost use Rattle.protocol.specs.Setup.{in_range};

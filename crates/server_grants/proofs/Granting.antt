@@ -13,7 +13,7 @@ use Rattle.protocol.specs.Updates.{set_offer}
 use Rattle.protocol.specs.Writes.{marked}
 use Rattle.protocol.specs.Server.{sent, offered, offering, batched, batching, granting, granted, volume_renewed, object_renewed}
 use Rattle.lease_tests.specs.Parts.{Placed}
-use Rattle.state_words.specs.Fields.{word_lengths, at, CLOCK, VOLUME-EXPIRY, SESSION-EXPIRY, OFFER, OBJECT-EXPIRY, LEASE, BATCH}
+use Rattle.state_words.specs.Fields.{word_lengths, at, CLOCK, VOLUME_EXPIRY, SESSION_EXPIRY, OFFER, OBJECT_EXPIRY, LEASE, BATCH}
 use Rattle.state_words.specs.View.{tables_of, numbers_of, records_of}
 use Rattle.server_marks.specs.SessionWords.{sessions_of, OnlySessions, sessions_become}
 
@@ -79,7 +79,7 @@ module _ (w x u y : List ℕ) (m : Message) where
   module _ (s : Setup) (d o n held v : ℕ) (p : Placed s o v) (h : d < 16) where
     abbrev words_granted : List ℕ
     words_granted =
-        set (set (set (set w (at VOLUME-EXPIRY + v) (get_or w 0 0 + s.tv)) (at SESSION-EXPIRY + by_volume d v) (get_or w 0 0 + s.tv)) (at OBJECT-EXPIRY + o) (get_or w 0 0 + s.t))
+        set (set (set (set w (at VOLUME_EXPIRY + v) (get_or w 0 0 + s.tv)) (at SESSION_EXPIRY + by_volume d v) (get_or w 0 0 + s.tv)) (at OBJECT_EXPIRY + o) (get_or w 0 0 + s.t))
         (at LEASE + by_object d o) (get_or w 0 0 + s.t)
 
     session_place : by_volume d v < 128
@@ -94,9 +94,9 @@ module _ (w x u y : List ℕ) (m : Message) where
         rw (
           part_at word_lengths w CLOCK 0 (omega arith),
           stored word_lengths _ LEASE (by_object d o) _ lease_place,
-          stored word_lengths _ OBJECT-EXPIRY o _ p.object,
-          stored word_lengths _ SESSION-EXPIRY (by_volume d v) _ session_place,
-          stored word_lengths _ VOLUME-EXPIRY v _ p.volume,
+          stored word_lengths _ OBJECT_EXPIRY o _ p.object,
+          stored word_lengths _ SESSION_EXPIRY (by_volume d v) _ session_place,
+          stored word_lengths _ VOLUME_EXPIRY v _ p.volume,
           e,
           p.is,
         )
@@ -106,9 +106,9 @@ module _ (w x u y : List ℕ) (m : Message) where
     records_granted =
         rw (
           stored word_lengths _ LEASE (by_object d o) _ lease_place,
-          stored word_lengths _ OBJECT-EXPIRY o _ p.object,
-          stored word_lengths _ SESSION-EXPIRY (by_volume d v) _ session_place,
-          stored word_lengths _ VOLUME-EXPIRY v _ p.volume,
+          stored word_lengths _ OBJECT_EXPIRY o _ p.object,
+          stored word_lengths _ SESSION_EXPIRY (by_volume d v) _ session_place,
+          stored word_lengths _ VOLUME_EXPIRY v _ p.volume,
         )
 
     pub grants : m ≡ granting s (tables_of w x) d o n held → (tables_of u y ≡ sent (tables_of words_granted x) m) × (records_of u y ≡ records_of words_granted x)

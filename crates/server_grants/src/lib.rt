@@ -1,4 +1,6 @@
 // Answering a RENEW with a GRANT, an OFFER (01, "Messages received") or a BATCH (02, A6): each updates the tables and sends its message.
+#![tactic(auto)]
+
 ghost use Rattle.std.specs.Prelude.{◌≡◌, true, ◌≤◌, ◌<◌};
 ghost use Rattle.protocol.specs.Setup.{in_range};
 ghost use Rattle.protocol.specs.Server.{sent, offered, offering, batched, batching, granted};

@@ -1,4 +1,6 @@
 // Marking a client unreachable in a volume, for every rule that does.
+#![tactic(auto)]
+
 ghost use Rattle.std.specs.Prelude.{◌≡◌, cond, ◌<◌};
 ghost use Rattle.protocol.specs.Writes.{marked};
 ghost use Rattle.server_marks.specs.SessionWords.{sessions_of, OnlySessions};

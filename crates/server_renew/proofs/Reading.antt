@@ -17,13 +17,13 @@ use Rattle.protocol.specs.SoundLaws.{Growing}
 use Rattle.protocol.specs.Tables.{by_volume, version_at, standing_at, waiting_at}
 use Rattle.protocol.specs.Writes.{invalidation}
 use Rattle.protocol.specs.Server.{of_volume, has_notes, waited_in, lowest_waited, must_drop}
-use Rattle.state_words.specs.Fields.{word_lengths, at, VOLUME-EPOCH, UNREACHABLE, STANDING, NOTES}
+use Rattle.state_words.specs.Fields.{word_lengths, at, VOLUME_EPOCH, UNREACHABLE, STANDING, NOTES}
 use Rattle.state_words.specs.View.{tables_of, numbers_of}
 
 module _ (w : List ℕ) where
-  pub drops : (d v e : ℕ) → d < 16 → v < 8 → (not (eqb e (get_or w (at VOLUME-EPOCH + v) 0)) || flag (get_or w (at UNREACHABLE + by_volume d v) 0)) ≡ must_drop (numbers_of w) d v e
+  pub drops : (d v e : ℕ) → d < 16 → v < 8 → (not (eqb e (get_or w (at VOLUME_EPOCH + v) 0)) || flag (get_or w (at UNREACHABLE + by_volume d v) 0)) ≡ must_drop (numbers_of w) d v e
   unfolding must_drop tables_of
-  drops d v e h l = rw (part_at word_lengths w VOLUME-EPOCH v l, flag_at word_lengths w UNREACHABLE (by_volume d v) (omega arith))
+  drops d v e h l = rw (part_at word_lengths w VOLUME_EPOCH v l, flag_at word_lengths w UNREACHABLE (by_volume d v) (omega arith))
 
 module _ (w x : List ℕ) where
   pub stands : (o : ℕ) → o < 32 → (get_or w (at STANDING + o) 0 ≡ 0 → ⊥) → standing_at (tables_of w x) o ≡ true

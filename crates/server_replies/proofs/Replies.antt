@@ -19,7 +19,7 @@ use Rattle.protocol.specs.Tables.{by_volume, version_at}
 use Rattle.protocol.specs.Writes.{invalidation}
 use Rattle.protocol.specs.Server.{offering, batching, waited_in, payload_for, granting}
 use Rattle.lease_tests.specs.Parts.{Placed}
-use Rattle.state_words.specs.Fields.{word_lengths, value_lengths, at, at_value, CLOCK, VOLUME-EPOCH, VERSION, STANDING, WAITING, NOTES, VALUE}
+use Rattle.state_words.specs.Fields.{word_lengths, value_lengths, at, at_value, CLOCK, VOLUME_EPOCH, VERSION, STANDING, WAITING, NOTES, VALUE}
 use Rattle.state_words.specs.View.{tables_of, numbers_of}
 
 module _ (w : List ℕ) where
@@ -38,21 +38,21 @@ module _ (w x : List ℕ) where
   pays_value o held l n = rw (ne_eqb (version_at (tables_of w x) o) held (λ e. n (part_at word_lengths w VERSION o l ∙ e)), part_at value_lengths x VALUE o l)
 
   pub sends_grant : (s : Setup) (d o n held v : ℕ) (y : Payload) → Placed s o v → y ≡ payload_for (tables_of w x) o held
-      → message d (Grant o n (get_or w 0 0 + s.tv) (get_or w (at VOLUME-EPOCH + v) 0) (get_or w (at VERSION + o) 0) (get_or w 0 0 + s.t) y) ≡ granting s (tables_of w x) d o n held
+      → message d (Grant o n (get_or w 0 0 + s.tv) (get_or w (at VOLUME_EPOCH + v) 0) (get_or w (at VERSION + o) 0) (get_or w 0 0 + s.t) y) ≡ granting s (tables_of w x) d o n held
   unfolding tables_of
   sends_grant s d o n held v y p e =
-      rw (part_at word_lengths w CLOCK 0 (omega arith), part_at word_lengths w VOLUME-EPOCH v p.volume, part_at word_lengths w VERSION o p.object, e, p.is)
+      rw (part_at word_lengths w CLOCK 0 (omega arith), part_at word_lengths w VOLUME_EPOCH v p.volume, part_at word_lengths w VERSION o p.object, e, p.is)
 
-pub sends_offer : (w : List ℕ) (d v n : ℕ) → v < 8 → message d (Offer v n (get_or w (at VOLUME-EPOCH + v) 0)) ≡ offering (numbers_of w) d v n
+pub sends_offer : (w : List ℕ) (d v n : ℕ) → v < 8 → message d (Offer v n (get_or w (at VOLUME_EPOCH + v) 0)) ≡ offering (numbers_of w) d v n
 unfolding tables_of
-sends_offer w d v n h = rw (part_at word_lengths w VOLUME-EPOCH v h)
+sends_offer w d v n h = rw (part_at word_lengths w VOLUME_EPOCH v h)
 
 pub sends_batch : (w : List ℕ) (d v n : ℕ) → d < 16 → v < 8
-    → message d (Batch v n (get_or w (at VOLUME-EPOCH + v) 0) (get_or w (at NOTES + by_volume d v) 0)) ≡ batching (numbers_of w) d v n
+    → message d (Batch v n (get_or w (at VOLUME_EPOCH + v) 0) (get_or w (at NOTES + by_volume d v) 0)) ≡ batching (numbers_of w) d v n
 unfolding tables_of
-sends_batch w d v n g h = rw (part_at word_lengths w VOLUME-EPOCH v h, part_at word_lengths w NOTES (by_volume d v) (omega arith))
+sends_batch w d v n g h = rw (part_at word_lengths w VOLUME_EPOCH v h, part_at word_lengths w NOTES (by_volume d v) (omega arith))
 
 pub resends : (s : Setup) (w : List ℕ) (d o v : ℕ) → Placed s o v
-    → message d (Invalidate o (get_or w (at VOLUME-EPOCH + v) 0) (get_or w (at VERSION + o) 0 + 1)) ≡ invalidation s (numbers_of w) o d
+    → message d (Invalidate o (get_or w (at VOLUME_EPOCH + v) 0) (get_or w (at VERSION + o) 0 + 1)) ≡ invalidation s (numbers_of w) o d
 unfolding tables_of
-resends s w d o v p = rw (part_at word_lengths w VOLUME-EPOCH v p.volume, part_at word_lengths w VERSION o p.object, p.is)
+resends s w d o v p = rw (part_at word_lengths w VOLUME_EPOCH v p.volume, part_at word_lengths w VERSION o p.object, p.is)

@@ -1,4 +1,6 @@
 // Building the replies to a RENEW (01, "Messages received"), and finding the object whose INVALIDATE is resent.
+#![tactic(auto)]
+
 pub mod lowest;
 
 ghost use Rattle.std.specs.Prelude.{◌≡◌, true, ◌≤◌, ◌<◌};

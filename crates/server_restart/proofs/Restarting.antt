@@ -12,8 +12,8 @@ use Rattle.laws.specs.Shift.{Above}
 use Rattle.laws.specs.Store.{store_at, store_each, always, length_store}
 use Rattle.protocol.specs.declared.setup.Setup.{Setup}
 use Rattle.protocol.specs.Server.{server_restarted}
-use Rattle.state_words.specs.Fields.{word_lengths, value_lengths, at, at_value, WORDS, VALUES, VOLUME-EPOCH, VOLUME-EXPIRY, GUARD, SEEN}
-use Rattle.state_words.specs.Fields.{SESSION-EXPIRY, UNREACHABLE, OFFER, OBJECT-EXPIRY, STANDING, END, LEASE, WAITING, NOTES, BATCH, PENDING}
+use Rattle.state_words.specs.Fields.{word_lengths, value_lengths, at, at_value, WORDS, VALUES, VOLUME_EPOCH, VOLUME_EXPIRY, GUARD, SEEN}
+use Rattle.state_words.specs.Fields.{SESSION_EXPIRY, UNREACHABLE, OFFER, OBJECT_EXPIRY, STANDING, END, LEASE, WAITING, NOTES, BATCH, PENDING}
 use Rattle.state_words.specs.View.{tables_of, numbers_of, records_of}
 use Rattle.server_restart.specs.Restart.{EpochsGrow, sessions_cleared, objects_cleared, holders_cleared}
 
@@ -23,32 +23,32 @@ pub epochs_numbers : (n : ℕ) (w x : List ℕ) → EpochsGrow n (tables_of w x)
 unfolding tables_of
 epochs_numbers n w x g = record { below = g.below }
 
-pub epoch_grows : (n : ℕ) (w : List ℕ) (v : ℕ) → EpochsGrow n (numbers_of w) → v < n → v < 8 → get_or w (at VOLUME-EPOCH + v) 0 < 4294967295
+pub epoch_grows : (n : ℕ) (w : List ℕ) (v : ℕ) → EpochsGrow n (numbers_of w) → v < n → v < 8 → get_or w (at VOLUME_EPOCH + v) 0 < 4294967295
 unfolding tables_of
-epoch_grows n w v g h k = rw (part_at word_lengths w VOLUME-EPOCH v k) (g.below v h)
+epoch_grows n w v g h k = rw (part_at word_lengths w VOLUME_EPOCH v k) (g.below v h)
 
 -- ---- one iteration of each loop
 
-pub grow_keeps : (w₀ w : List ℕ) (v y : ℕ) → Above w₀ w (at VOLUME-EPOCH + v) → Above w₀ (set w (at VOLUME-EPOCH + v) y) (at VOLUME-EPOCH + (v + 1))
-grow_keeps w₀ w v y a = record { same = λ q k. get_or-set_other w (at VOLUME-EPOCH + v) q y 0 (λ e. omega arith) ∙ a.same q (omega arith) }
+pub grow_keeps : (w₀ w : List ℕ) (v y : ℕ) → Above w₀ w (at VOLUME_EPOCH + v) → Above w₀ (set w (at VOLUME_EPOCH + v) y) (at VOLUME_EPOCH + (v + 1))
+grow_keeps w₀ w v y a = record { same = λ q k. get_or-set_other w (at VOLUME_EPOCH + v) q y 0 (λ e. omega arith) ∙ a.same q (omega arith) }
 
 module _ (w₀ w : List ℕ) (v n : ℕ) (i : n ≤ 8) (h : v < n) where
-  pub grow_again : (A : List ℕ) → Above w₀ w (at VOLUME-EPOCH + v)
-      → fold_from (store_at always (λ (v : ℕ). at VOLUME-EPOCH + v) (λ (v : ℕ). get_or (parts word_lengths w₀ VOLUME-EPOCH) v 0 + 1)) w v (n - v) ≡ A
+  pub grow_again : (A : List ℕ) → Above w₀ w (at VOLUME_EPOCH + v)
+      → fold_from (store_at always (λ (v : ℕ). at VOLUME_EPOCH + v) (λ (v : ℕ). get_or (parts word_lengths w₀ VOLUME_EPOCH) v 0 + 1)) w v (n - v) ≡ A
       → fold_from
-      (store_at always (λ (v : ℕ). at VOLUME-EPOCH + v) (λ (v : ℕ). get_or (parts word_lengths w₀ VOLUME-EPOCH) v 0 + 1))
-      (set w (at VOLUME-EPOCH + v) (get_or w (at VOLUME-EPOCH + v) 0 + 1)) (v + 1) (n - (v + 1)) ≡ A
+      (store_at always (λ (v : ℕ). at VOLUME_EPOCH + v) (λ (v : ℕ). get_or (parts word_lengths w₀ VOLUME_EPOCH) v 0 + 1))
+      (set w (at VOLUME_EPOCH + v) (get_or w (at VOLUME_EPOCH + v) 0 + 1)) (v + 1) (n - (v + 1)) ≡ A
   grow_again A a f =
-      fold_again (store_at always (λ (v : ℕ). at VOLUME-EPOCH + v) (λ (v : ℕ). get_or (parts word_lengths w₀ VOLUME-EPOCH) v 0 + 1)) n v w _ A h
-      (rw (a.same (at VOLUME-EPOCH + v) (omega arith), part_at word_lengths w₀ VOLUME-EPOCH v (omega arith))) f
+      fold_again (store_at always (λ (v : ℕ). at VOLUME_EPOCH + v) (λ (v : ℕ). get_or (parts word_lengths w₀ VOLUME_EPOCH) v 0 + 1)) n v w _ A h
+      (rw (a.same (at VOLUME_EPOCH + v) (omega arith), part_at word_lengths w₀ VOLUME_EPOCH v (omega arith))) f
 
   pub guard_again : (A : List ℕ) → Only word_lengths GUARD w₀ w
-      → fold_from (store_at always (λ (v : ℕ). at GUARD + v) (λ (v : ℕ). get_or (parts word_lengths w₀ VOLUME-EXPIRY) v 0)) w v (n - v) ≡ A
-      → fold_from (store_at always (λ (v : ℕ). at GUARD + v) (λ (v : ℕ). get_or (parts word_lengths w₀ VOLUME-EXPIRY) v 0))
-      (set w (at GUARD + v) (get_or w (at VOLUME-EXPIRY + v) 0)) (v + 1) (n - (v + 1)) ≡ A
+      → fold_from (store_at always (λ (v : ℕ). at GUARD + v) (λ (v : ℕ). get_or (parts word_lengths w₀ VOLUME_EXPIRY) v 0)) w v (n - v) ≡ A
+      → fold_from (store_at always (λ (v : ℕ). at GUARD + v) (λ (v : ℕ). get_or (parts word_lengths w₀ VOLUME_EXPIRY) v 0))
+      (set w (at GUARD + v) (get_or w (at VOLUME_EXPIRY + v) 0)) (v + 1) (n - (v + 1)) ≡ A
   guard_again A o f =
-      fold_again (store_at always (λ (v : ℕ). at GUARD + v) (λ (v : ℕ). get_or (parts word_lengths w₀ VOLUME-EXPIRY) v 0)) n v w _ A h
-      (rw (part_at word_lengths w VOLUME-EXPIRY v (omega arith), o.others VOLUME-EXPIRY (λ e. omega arith))) f
+      fold_again (store_at always (λ (v : ℕ). at GUARD + v) (λ (v : ℕ). get_or (parts word_lengths w₀ VOLUME_EXPIRY) v 0)) n v w _ A h
+      (rw (part_at word_lengths w VOLUME_EXPIRY v (omega arith), o.others VOLUME_EXPIRY (λ e. omega arith))) f
 
 -- ---- clearing fields
 
@@ -62,7 +62,7 @@ module _ (w u : List ℕ) (h : length w ≡ WORDS) where
   seen = filling (at SEEN) 16 0 w
 
   abbrev expiries : List ℕ
-  expiries = filling (at SESSION-EXPIRY) 128 0 seen
+  expiries = filling (at SESSION_EXPIRY) 128 0 seen
 
   abbrev marks : List ℕ
   marks = filling (at UNREACHABLE) 128 0 expiries
@@ -74,7 +74,7 @@ module _ (w u : List ℕ) (h : length w ≡ WORDS) where
   noted = filling (at NOTES) 128 0 offers
 
   abbrev leases : List ℕ
-  leases = filling (at OBJECT-EXPIRY) 32 0 w
+  leases = filling (at OBJECT_EXPIRY) 32 0 w
 
   abbrev standing : List ℕ
   standing = filling (at STANDING) 32 0 leases
@@ -85,14 +85,14 @@ module _ (w u : List ℕ) (h : length w ≡ WORDS) where
   pub sessions_length : u ≡ sessions_cleared w → length u ≡ WORDS
   sessions_length e =
       ap length e ∙ cleared BATCH 128 noted (cleared NOTES 128 offers (cleared OFFER 128 marks
-      (cleared UNREACHABLE 128 expiries (cleared SESSION-EXPIRY 128 seen (cleared SEEN 16 w h)))))
+      (cleared UNREACHABLE 128 expiries (cleared SESSION_EXPIRY 128 seen (cleared SEEN 16 w h)))))
 
   pub sessions_fields : u ≡ sessions_cleared w
       → parts word_lengths u ≡ with_part (with_part (with_part (with_part (with_part (with_part (parts word_lengths w) SEEN (replicate 16 0))
-      SESSION-EXPIRY (replicate 128 0)) UNREACHABLE (replicate 128 0)) OFFER (replicate 128 0)) NOTES (replicate 128 0)) BATCH (replicate 128 0)
+      SESSION_EXPIRY (replicate 128 0)) UNREACHABLE (replicate 128 0)) OFFER (replicate 128 0)) NOTES (replicate 128 0)) BATCH (replicate 128 0)
   sessions_fields e =
       let a = cleared SEEN 16 w h in
-      let b = cleared SESSION-EXPIRY 128 seen a in
+      let b = cleared SESSION_EXPIRY 128 seen a in
       let c = cleared UNREACHABLE 128 expiries b in
       let f = cleared OFFER 128 marks c in
       let g = cleared NOTES 128 offers f in
@@ -101,22 +101,22 @@ module _ (w u : List ℕ) (h : length w ≡ WORDS) where
         filled_field word_lengths offers noted NOTES 0 (omega (arith, f)) refl,
         filled_field word_lengths marks offers OFFER 0 (omega (arith, c)) refl,
         filled_field word_lengths expiries marks UNREACHABLE 0 (omega (arith, b)) refl,
-        filled_field word_lengths seen expiries SESSION-EXPIRY 0 (omega (arith, a)) refl,
+        filled_field word_lengths seen expiries SESSION_EXPIRY 0 (omega (arith, a)) refl,
         filled_field word_lengths w seen SEEN 0 (omega (arith, h)) refl,
       )
 
   pub objects_length : u ≡ objects_cleared w → length u ≡ WORDS
-  objects_length e = ap length e ∙ cleared END 32 standing (cleared STANDING 32 leases (cleared OBJECT-EXPIRY 32 w h))
+  objects_length e = ap length e ∙ cleared END 32 standing (cleared STANDING 32 leases (cleared OBJECT_EXPIRY 32 w h))
 
   pub objects_fields : u ≡ objects_cleared w
-      → parts word_lengths u ≡ with_part (with_part (with_part (parts word_lengths w) OBJECT-EXPIRY (replicate 32 0)) STANDING (replicate 32 0)) END (replicate 32 0)
+      → parts word_lengths u ≡ with_part (with_part (with_part (parts word_lengths w) OBJECT_EXPIRY (replicate 32 0)) STANDING (replicate 32 0)) END (replicate 32 0)
   objects_fields e =
-      let a = cleared OBJECT-EXPIRY 32 w h in
+      let a = cleared OBJECT_EXPIRY 32 w h in
       let b = cleared STANDING 32 leases a in
       rw (
         filled_field word_lengths standing u END 0 (omega (arith, b)) e,
         filled_field word_lengths leases standing STANDING 0 (omega (arith, a)) refl,
-        filled_field word_lengths w leases OBJECT-EXPIRY 0 (omega (arith, h)) refl,
+        filled_field word_lengths w leases OBJECT_EXPIRY 0 (omega (arith, h)) refl,
       )
 
   pub holders_fields : u ≡ holders_cleared w → parts word_lengths u ≡ with_part (with_part (parts word_lengths w) LEASE (replicate 512 0)) WAITING (replicate 32 0)
@@ -127,21 +127,21 @@ module _ (w u : List ℕ) (h : length w ≡ WORDS) where
 -- ---- the whole restart: the words go from w through a, b, c and d to u, the values from x to y
 
 module _ (s : Setup) (w a b c d u x y : List ℕ) (n : ℕ) (h : length w ≡ WORDS) (l : length x ≡ VALUES) (i : n ≡ s.volumes) (j : n ≤ 8)
-    (e₁ : a ≡ store_each always (λ (v : ℕ). at VOLUME-EPOCH + v) (λ (v : ℕ). get_or (parts word_lengths w VOLUME-EPOCH) v 0 + 1) w n)
-    (e₂ : b ≡ store_each always (λ (v : ℕ). at GUARD + v) (λ (v : ℕ). get_or (parts word_lengths a VOLUME-EXPIRY) v 0) a 8)
+    (e₁ : a ≡ store_each always (λ (v : ℕ). at VOLUME_EPOCH + v) (λ (v : ℕ). get_or (parts word_lengths w VOLUME_EPOCH) v 0 + 1) w n)
+    (e₂ : b ≡ store_each always (λ (v : ℕ). at GUARD + v) (λ (v : ℕ). get_or (parts word_lengths a VOLUME_EXPIRY) v 0) a 8)
     (e₃ : c ≡ sessions_cleared b) (e₄ : d ≡ objects_cleared c) (e₅ : u ≡ holders_cleared d) (f : y ≡ filling (at_value PENDING) 32 0 x) where
   long : length b ≡ WORDS
   long =
-      ap length e₂ ∙ length_store always (λ (v : ℕ). at GUARD + v) (λ (v : ℕ). get_or (parts word_lengths a VOLUME-EXPIRY) v 0) a 8
-      ∙ ap length e₁ ∙ length_store always (λ (v : ℕ). at VOLUME-EPOCH + v) (λ (v : ℕ). get_or (parts word_lengths w VOLUME-EPOCH) v 0 + 1) w n ∙ h
+      ap length e₂ ∙ length_store always (λ (v : ℕ). at GUARD + v) (λ (v : ℕ). get_or (parts word_lengths a VOLUME_EXPIRY) v 0) a 8
+      ∙ ap length e₁ ∙ length_store always (λ (v : ℕ). at VOLUME_EPOCH + v) (λ (v : ℕ). get_or (parts word_lengths w VOLUME_EPOCH) v 0 + 1) w n ∙ h
 
-  guards : parts word_lengths b ≡ with_part (parts word_lengths a) GUARD (store_each always (λ (v : ℕ). v) (λ (v : ℕ). get_or (parts word_lengths a VOLUME-EXPIRY) v 0)
+  guards : parts word_lengths b ≡ with_part (parts word_lengths a) GUARD (store_each always (λ (v : ℕ). v) (λ (v : ℕ). get_or (parts word_lengths a VOLUME_EXPIRY) v 0)
       (parts word_lengths a GUARD) 8)
-  guards = ap (parts word_lengths) e₂ ∙ stored_each word_lengths GUARD always (λ (v : ℕ). v) (λ (v : ℕ). get_or (parts word_lengths a VOLUME-EXPIRY) v 0) 8 (λ d l. l) a
+  guards = ap (parts word_lengths) e₂ ∙ stored_each word_lengths GUARD always (λ (v : ℕ). v) (λ (v : ℕ). get_or (parts word_lengths a VOLUME_EXPIRY) v 0) 8 (λ d l. l) a
 
-  epochs : parts word_lengths a ≡ with_part (parts word_lengths w) VOLUME-EPOCH (store_each always (λ (v : ℕ).
-      v) (λ (v : ℕ). get_or (parts word_lengths w VOLUME-EPOCH) v 0 + 1) (parts word_lengths w VOLUME-EPOCH) n)
-  epochs = ap (parts word_lengths) e₁ ∙ stored_each word_lengths VOLUME-EPOCH always (λ (v : ℕ). v) (λ (v : ℕ). get_or (parts word_lengths w VOLUME-EPOCH) v 0 + 1) n (λ d l. omega arith) w
+  epochs : parts word_lengths a ≡ with_part (parts word_lengths w) VOLUME_EPOCH (store_each always (λ (v : ℕ).
+      v) (λ (v : ℕ). get_or (parts word_lengths w VOLUME_EPOCH) v 0 + 1) (parts word_lengths w VOLUME_EPOCH) n)
+  epochs = ap (parts word_lengths) e₁ ∙ stored_each word_lengths VOLUME_EPOCH always (λ (v : ℕ). v) (λ (v : ℕ). get_or (parts word_lengths w VOLUME_EPOCH) v 0 + 1) n (λ d l. omega arith) w
 
   tables_restarted : tables_of u y ≡ server_restarted s (tables_of w x)
   unfolding server_restarted tables_of
@@ -154,8 +154,8 @@ module _ (s : Setup) (w a b c d u x y : List ℕ) (n : ℕ) (h : length w ≡ WO
         guards,
         epochs,
         copied (parts word_lengths w GUARD)
-            (parts word_lengths w VOLUME-EXPIRY) 8 (part_length word_lengths w GUARD (omega (arith, h)))
-            (part_length word_lengths w VOLUME-EXPIRY (omega (arith, h))),
+            (parts word_lengths w VOLUME_EXPIRY) 8 (part_length word_lengths w GUARD (omega (arith, h)))
+            (part_length word_lengths w VOLUME_EXPIRY (omega (arith, h))),
         filled_field value_lengths x y PENDING 0 (omega (arith, l)) f,
         flags_zero 128,
         flags_zero 32,

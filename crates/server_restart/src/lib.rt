@@ -1,10 +1,12 @@
 // Restarting the server (01, "Steps" 8).
+#![tactic(auto)]
+
 ghost use Rattle.std.specs.Prelude.{◌≡◌, true, ℕ, ◌+◌, ◌≤◌, ◌<◌, get_or};
 ghost use Rattle.laws.specs.Parts.{parts};
 ghost use Rattle.laws.specs.Store.{store_each, always};
 ghost use Rattle.protocol.specs.Setup.{in_range};
 ghost use Rattle.protocol.specs.Server.{server_restarted};
-ghost use Rattle.state_words.specs.Fields.{word_lengths, at, VOLUME-EPOCH, VOLUME-EXPIRY, GUARD};
+ghost use Rattle.state_words.specs.Fields.{word_lengths, at, VOLUME_EPOCH, VOLUME_EXPIRY, GUARD};
 ghost use Rattle.state_words.specs.View.{tables_of, numbers_of, records_of};
 ghost use Rattle.server_restart.specs.Restart.{EpochsGrow, sessions_cleared, objects_cleared, holders_cleared};
 ghost use Rattle.setup.specs.Limits.{VOLUMES};
@@ -17,7 +19,7 @@ use state_words::{CLIENT_OBJECTS, CLIENT_VOLUMES, Values, Words, pass, server};
 fn grow_epochs(words: &mut Words, n: usize)
     requires n_bound { n ≤ VOLUMES }
     requires epochs_grow { EpochsGrow n (numbers_of words.old) }
-    ensures { words.new ≡ store_each always (λ (v : ℕ). at VOLUME-EPOCH + v) (λ (v : ℕ). get_or (parts word_lengths words.old VOLUME-EPOCH) v 0 + 1) words.old n }
+    ensures { words.new ≡ store_each always (λ (v : ℕ). at VOLUME_EPOCH + v) (λ (v : ℕ). get_or (parts word_lengths words.old VOLUME_EPOCH) v 0 + 1) words.old n }
 {
     let mut volume = 0;
     while volume < n {
@@ -28,7 +30,7 @@ fn grow_epochs(words: &mut Words, n: usize)
 
 // Sets every guard: "guard becomes VE". So no write completes while a volume lease from before the restart may be alive.
 fn guard_expiries(words: &mut Words)
-    ensures { words.new ≡ store_each always (λ (v : ℕ). at GUARD + v) (λ (v : ℕ). get_or (parts word_lengths words.old VOLUME-EXPIRY) v 0) words.old VOLUMES }
+    ensures { words.new ≡ store_each always (λ (v : ℕ). at GUARD + v) (λ (v : ℕ). get_or (parts word_lengths words.old VOLUME_EXPIRY) v 0) words.old VOLUMES }
 {
     let mut volume = 0;
     while volume < VOLUMES {

@@ -6,7 +6,7 @@ use Rattle.protocol.specs.declared.tables.Sessions.{Sessions}
 use Rattle.protocol.specs.Tables.{by_volume, by_object}
 use Rattle.protocol.specs.Writes.{marked}
 use Rattle.lease_tests.specs.Parts.{waits_by}
-use Rattle.state_words.specs.Fields.{word_lengths, CLOCK, SESSION-EXPIRY, LEASE, WAITING}
+use Rattle.state_words.specs.Fields.{word_lengths, CLOCK, SESSION_EXPIRY, LEASE, WAITING}
 
 -- `awaited_at`, read from the words: the clients that the write of object o waits for
 abbrev pub awaited_in : List ℕ → ℕ → ℕ
@@ -20,8 +20,8 @@ mark_if_in m v x d = cond (bit_at m d) (marked x d v) x
 abbrev pub waits_in : List ℕ → ℕ → ℕ → ℕ → Bool
 waits_in words v o d =
     waits_by (get_or (parts word_lengths words CLOCK) 0 0) (get_or (parts word_lengths words LEASE) (by_object d o) 0)
-    (get_or (parts word_lengths words SESSION-EXPIRY) (by_volume d v) 0)
+    (get_or (parts word_lengths words SESSION_EXPIRY) (by_volume d v) 0)
 
 -- `leased_until`, read from the words: until when client d may show its copy of object o, in volume v
 abbrev pub leased_in : List ℕ → ℕ → ℕ → ℕ → ℕ
-leased_in words v o d = min (get_or (parts word_lengths words SESSION-EXPIRY) (by_volume d v) 0) (get_or (parts word_lengths words LEASE) (by_object d o) 0)
+leased_in words v o d = min (get_or (parts word_lengths words SESSION_EXPIRY) (by_volume d v) 0) (get_or (parts word_lengths words LEASE) (by_object d o) 0)

@@ -17,7 +17,7 @@ use Rattle.protocol.specs.Tables.{with_queue}
 use Rattle.protocol.specs.Writes.{notified}
 use Rattle.protocol.specs.Server.{sent}
 use Rattle.lease_tests.specs.Parts.{Placed}
-use Rattle.state_words.specs.Fields.{word_lengths, at, VOLUME-EPOCH, VERSION, WAITING}
+use Rattle.state_words.specs.Fields.{word_lengths, at, VOLUME_EPOCH, VERSION, WAITING}
 use Rattle.state_words.specs.View.{tables_of, records_of}
 use Rattle.server_write.specs.Invalidates.{notify_one, invalidated}
 
@@ -58,8 +58,8 @@ module _ (w₀ x₀ w x : List ℕ) (m o e z N from d : ℕ) (A : Queue) (s : Se
 
 -- the loop, with the set, the epoch and the new version read from the words, sends what `notified` says
 pub notifies : (s : Setup) (w x : List ℕ) (o v : ℕ) (t : Tables) → Placed s o v
-    → t ≡ invalidated (tables_of w x) (get_or w (at WAITING + o) 0) o (get_or w (at VOLUME-EPOCH + v) 0)
+    → t ≡ invalidated (tables_of w x) (get_or w (at WAITING + o) 0) o (get_or w (at VOLUME_EPOCH + v) 0)
     (get_or w (at VERSION + o) 0 + 1) s.clients → t ≡ with_queue (tables_of w x) (notified s (tables_of w x) o)
 unfolding notified tables_of
 notifies s w x o v t p e =
-    e ∙ rw (part_at word_lengths w VOLUME-EPOCH v p.volume, part_at word_lengths w VERSION o p.object, part_at word_lengths w WAITING o p.object, p.is)
+    e ∙ rw (part_at word_lengths w VOLUME_EPOCH v p.volume, part_at word_lengths w VERSION o p.object, part_at word_lengths w WAITING o p.object, p.is)

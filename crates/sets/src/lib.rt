@@ -1,4 +1,6 @@
 // Sets of numbers below 32 as the bits of a word: bit k says whether k is a member.
+#![tactic(auto)]
+
 ghost use Rattle.std.specs.Prelude.{cond, ◌≡◌, ◌≤◌, ◌<◌};
 ghost use Rattle.laws.specs.Sets.{bit_at, added, removed, less, within};
 ghost use Rattle.laws.specs.Skip.{Found};

@@ -1,4 +1,6 @@
 // Checks that a setup is in range, and makes fresh records (01, "Tables").
+#![tactic(auto)]
+
 pub mod fresh;
 pub mod limits;
 

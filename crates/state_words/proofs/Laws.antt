@@ -15,10 +15,10 @@ use Rattle.protocol.specs.declared.setup.Setup.{Setup}
 use Rattle.protocol.specs.Setup.{in_range}
 use Rattle.protocol.specs.Messages.{blank}
 use Rattle.protocol.specs.Tables.{fresh_tables, no_copy, fresh_request}
-use Rattle.state_words.specs.Fields.{word_lengths, value_lengths, at, WORDS, VALUES, CLOCK, LENGTH, VOLUME-EPOCH, VOLUME-EXPIRY, GUARD}
-use Rattle.state_words.specs.Fields.{SEEN, SESSION-EXPIRY, UNREACHABLE, OFFER, VERSION, OBJECT-EXPIRY, STANDING, END, LEASE, WAITING, NOTES, BATCH}
-use Rattle.state_words.specs.Fields.{VIEW-EPOCH, VIEW-EXPIRY, COPY-VERSION, COPY-EXPIRY, REQUEST-NEXT, REQUEST-STANDING}
-use Rattle.state_words.specs.Fields.{REQUEST-NUMBER, REQUEST-OBJECT, VALUE, PENDING, COPY-VALUE}
+use Rattle.state_words.specs.Fields.{word_lengths, value_lengths, at, WORDS, VALUES, CLOCK, LENGTH, VOLUME_EPOCH, VOLUME_EXPIRY, GUARD}
+use Rattle.state_words.specs.Fields.{SEEN, SESSION_EXPIRY, UNREACHABLE, OFFER, VERSION, OBJECT_EXPIRY, STANDING, END, LEASE, WAITING, NOTES, BATCH}
+use Rattle.state_words.specs.Fields.{VIEW_EPOCH, VIEW_EXPIRY, COPY_VERSION, COPY_EXPIRY, REQUEST_NEXT, REQUEST_STANDING}
+use Rattle.state_words.specs.Fields.{REQUEST_NUMBER, REQUEST_OBJECT, VALUE, PENDING, COPY_VALUE}
 use Rattle.state_words.specs.Rows.{message_from}
 use Rattle.state_words.specs.View.{tables_of, copy_at, request_at, records_of, fresh_records}
 
@@ -38,33 +38,33 @@ no_requests n =
 module _ (w x a b c : List ℕ) (l : length w ≡ WORDS)
     (none : (k : ℕ) → start word_lengths k + size word_lengths k ≤ WORDS → parts word_lengths w k ≡ replicate (size word_lengths k) 0)
     (empty : (k : ℕ) → start value_lengths k + size value_lengths k ≤ VALUES → parts value_lengths x k ≡ replicate (size value_lengths k) 0)
-    (e : a ≡ filling (at VOLUME-EPOCH) 8 1 w) (f : b ≡ filling (at VERSION) 32 1 a) (g : c ≡ filling (at REQUEST-NEXT) 16 1 b) where
+    (e : a ≡ filling (at VOLUME_EPOCH) 8 1 w) (f : b ≡ filling (at VERSION) 32 1 a) (g : c ≡ filling (at REQUEST_NEXT) 16 1 b) where
   tables_filled : tables_of c x ≡ fresh_tables
   unfolding tables_of fresh_tables
   tables_filled =
-      let i = length_filled (at VOLUME-EPOCH) 8 1 w a e in
+      let i = length_filled (at VOLUME_EPOCH) 8 1 w a e in
       let j = length_filled (at VERSION) 32 1 a b f in
       rw (
-        filled_field word_lengths b c REQUEST-NEXT 1 (omega arith) g,
+        filled_field word_lengths b c REQUEST_NEXT 1 (omega arith) g,
         filled_field word_lengths a b VERSION 1 (omega arith) f,
-        filled_field word_lengths w a VOLUME-EPOCH 1 (omega arith) e,
+        filled_field word_lengths w a VOLUME_EPOCH 1 (omega arith) e,
         none CLOCK (omega arith),
         none LENGTH (omega arith),
-        none VOLUME-EXPIRY (omega arith),
+        none VOLUME_EXPIRY (omega arith),
         none GUARD (omega arith),
         none SEEN (omega arith),
-        none SESSION-EXPIRY (omega arith),
+        none SESSION_EXPIRY (omega arith),
         none UNREACHABLE (omega arith),
         none OFFER (omega arith),
-        none OBJECT-EXPIRY (omega arith),
+        none OBJECT_EXPIRY (omega arith),
         none STANDING (omega arith),
         none END (omega arith),
         none LEASE (omega arith),
         none WAITING (omega arith),
         none NOTES (omega arith),
         none BATCH (omega arith),
-        none VIEW-EPOCH (omega arith),
-        none VIEW-EXPIRY (omega arith),
+        none VIEW_EPOCH (omega arith),
+        none VIEW_EXPIRY (omega arith),
         empty VALUE (omega arith),
         empty PENDING (omega arith),
         no_messages _ _ 64,
@@ -75,23 +75,23 @@ module _ (w x a b c : List ℕ) (l : length w ≡ WORDS)
   records_filled : records_of c x ≡ fresh_records
   unfolding records_of
   records_filled =
-      let i = length_filled (at VOLUME-EPOCH) 8 1 w a e in
+      let i = length_filled (at VOLUME_EPOCH) 8 1 w a e in
       let j = length_filled (at VERSION) 32 1 a b f in
       rw (
-        filled_field word_lengths b c REQUEST-NEXT 1 (omega arith) g,
+        filled_field word_lengths b c REQUEST_NEXT 1 (omega arith) g,
         filled_field word_lengths a b VERSION 1 (omega arith) f,
-        filled_field word_lengths w a VOLUME-EPOCH 1 (omega arith) e,
-        none COPY-VERSION (omega arith),
-        none COPY-EXPIRY (omega arith),
-        none REQUEST-STANDING (omega arith),
-        none REQUEST-NUMBER (omega arith),
-        none REQUEST-OBJECT (omega arith),
-        empty COPY-VALUE (omega arith),
+        filled_field word_lengths w a VOLUME_EPOCH 1 (omega arith) e,
+        none COPY_VERSION (omega arith),
+        none COPY_EXPIRY (omega arith),
+        none REQUEST_STANDING (omega arith),
+        none REQUEST_NUMBER (omega arith),
+        none REQUEST_OBJECT (omega arith),
+        empty COPY_VALUE (omega arith),
         no_copies 512,
         no_requests 16,
       )
 
-pub fresh_filled : (a b c : List ℕ) → a ≡ filling (at VOLUME-EPOCH) 8 1 (replicate WORDS 0) → b ≡ filling (at VERSION) 32 1 a → c ≡ filling (at REQUEST-NEXT) 16 1 b
+pub fresh_filled : (a b c : List ℕ) → a ≡ filling (at VOLUME_EPOCH) 8 1 (replicate WORDS 0) → b ≡ filling (at VERSION) 32 1 a → c ≡ filling (at REQUEST_NEXT) 16 1 b
     → (tables_of c (replicate VALUES 0) ≡ fresh_tables) × (records_of c (replicate VALUES 0) ≡ fresh_records)
 fresh_filled a b c e f g = (
   tables_filled (replicate WORDS 0) (replicate VALUES 0) a b c (length-replicate {A = ℕ} WORDS 0)

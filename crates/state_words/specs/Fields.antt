@@ -24,11 +24,11 @@ abbrev pub MESSAGES : ℕ
 MESSAGES = 2
 
 -- the server's words
-abbrev pub VOLUME-EPOCH : ℕ
-VOLUME-EPOCH = 3
+abbrev pub VOLUME_EPOCH : ℕ
+VOLUME_EPOCH = 3
 
-abbrev pub VOLUME-EXPIRY : ℕ
-VOLUME-EXPIRY = 4
+abbrev pub VOLUME_EXPIRY : ℕ
+VOLUME_EXPIRY = 4
 
 abbrev pub GUARD : ℕ
 GUARD = 5
@@ -36,8 +36,8 @@ GUARD = 5
 abbrev pub SEEN : ℕ
 SEEN = 6
 
-abbrev pub SESSION-EXPIRY : ℕ
-SESSION-EXPIRY = 7
+abbrev pub SESSION_EXPIRY : ℕ
+SESSION_EXPIRY = 7
 
 abbrev pub UNREACHABLE : ℕ
 UNREACHABLE = 8
@@ -48,8 +48,8 @@ OFFER = 9
 abbrev pub VERSION : ℕ
 VERSION = 10
 
-abbrev pub OBJECT-EXPIRY : ℕ
-OBJECT-EXPIRY = 11
+abbrev pub OBJECT_EXPIRY : ℕ
+OBJECT_EXPIRY = 11
 
 abbrev pub STANDING : ℕ
 STANDING = 12
@@ -70,37 +70,37 @@ abbrev pub BATCH : ℕ
 BATCH = 17
 
 -- the clients' words
-abbrev pub VIEW-EPOCH : ℕ
-VIEW-EPOCH = 18
+abbrev pub VIEW_EPOCH : ℕ
+VIEW_EPOCH = 18
 
-abbrev pub VIEW-EXPIRY : ℕ
-VIEW-EXPIRY = 19
+abbrev pub VIEW_EXPIRY : ℕ
+VIEW_EXPIRY = 19
 
-abbrev pub COPY-VERSION : ℕ
-COPY-VERSION = 20
+abbrev pub COPY_VERSION : ℕ
+COPY_VERSION = 20
 
-abbrev pub COPY-EXPIRY : ℕ
-COPY-EXPIRY = 21
+abbrev pub COPY_EXPIRY : ℕ
+COPY_EXPIRY = 21
 
-abbrev pub REQUEST-NEXT : ℕ
-REQUEST-NEXT = 22
+abbrev pub REQUEST_NEXT : ℕ
+REQUEST_NEXT = 22
 
-abbrev pub REQUEST-STANDING : ℕ
-REQUEST-STANDING = 23
+abbrev pub REQUEST_STANDING : ℕ
+REQUEST_STANDING = 23
 
-abbrev pub REQUEST-NUMBER : ℕ
-REQUEST-NUMBER = 24
+abbrev pub REQUEST_NUMBER : ℕ
+REQUEST_NUMBER = 24
 
-abbrev pub REQUEST-OBJECT : ℕ
-REQUEST-OBJECT = 25
+abbrev pub REQUEST_OBJECT : ℕ
+REQUEST_OBJECT = 25
 
 -- whether these words are a saved state (02, A7)
 abbrev pub SAVED : ℕ
 SAVED = 26
 
 -- the values: the network's, the server's two, the clients'
-abbrev pub MESSAGE-VALUE : ℕ
-MESSAGE-VALUE = 0
+abbrev pub MESSAGE_VALUE : ℕ
+MESSAGE_VALUE = 0
 
 abbrev pub VALUE : ℕ
 VALUE = 1
@@ -108,8 +108,8 @@ VALUE = 1
 abbrev pub PENDING : ℕ
 PENDING = 2
 
-abbrev pub COPY-VALUE : ℕ
-COPY-VALUE = 3
+abbrev pub COPY_VALUE : ℕ
+COPY_VALUE = 3
 
 -- the number of words, and of values
 abbrev pub WORDS : ℕ
@@ -119,8 +119,8 @@ abbrev pub VALUES : ℕ
 VALUES = 640
 
 -- the length of a field with one word for each client and object
-abbrev pub CLIENT-OBJECTS : ℕ
-CLIENT-OBJECTS = 512
+abbrev pub CLIENT_OBJECTS : ℕ
+CLIENT_OBJECTS = 512
 
 -- the words of a row of the message list
 abbrev pub ROW : ℕ

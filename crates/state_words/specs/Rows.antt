@@ -1,4 +1,4 @@
--- The message list: `LENGTH` holds the number of messages, row i of `MESSAGES` the nine words of message i, and entry i of `MESSAGE-VALUE` its value.
+-- The message list: `LENGTH` holds the number of messages, row i of `MESSAGES` the nine words of message i, and entry i of `MESSAGE_VALUE` its value.
 use Rattle.std.specs.Prelude.{ℕ, ◌+◌, ◌*◌, ◌%◌, ◌<◌, Bool, cond, ◌&&◌, List, [], ◌∷◌, ltb, get_or}
 use Rattle.laws.specs.Tabulate.{tabulate}
 use Rattle.protocol.specs.declared.message.Message.{Message}
@@ -7,7 +7,7 @@ use Rattle.protocol.specs.declared.message.Queue.{Queue}
 use Rattle.protocol.specs.Messages.{blank, message}
 use Rattle.message_fields.specs.declared.Fields.{Fields}
 use Rattle.message_fields.specs.Fields.{row, message_in, sound}
-use Rattle.state_words.specs.Fields.{LENGTH, MESSAGES, MESSAGE-VALUE}
+use Rattle.state_words.specs.Fields.{LENGTH, MESSAGES, MESSAGE_VALUE}
 
 -- the nine words of a message with these fields, in the frame's order
 abbrev pub words_of : Fields → List ℕ
@@ -47,6 +47,6 @@ message_from n rows values i = cond (ltb i n) (message_of rows values i) blank
 -- the message list in these fields
 abbrev pub queue_in : (ℕ → List ℕ) → (ℕ → List ℕ) → Queue
 queue_in words values = record {
-  items = tabulate (message_from (get_or (words LENGTH) 0 0) (words MESSAGES) (values MESSAGE-VALUE)) 0 64;
+  items = tabulate (message_from (get_or (words LENGTH) 0 0) (words MESSAGES) (values MESSAGE_VALUE)) 0 64;
   len = get_or (words LENGTH) 0 0;
 }

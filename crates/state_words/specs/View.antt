@@ -9,20 +9,20 @@ use Rattle.protocol.specs.declared.setup.Setup.{Setup}
 use Rattle.protocol.specs.declared.tables.Tables.{Tables}
 use Rattle.protocol.specs.Tables.{no_copy, fresh_request}
 use Rattle.protocol.specs.World.{World}
-use Rattle.state_words.specs.Fields.{word_lengths, value_lengths, CLOCK, VOLUME-EPOCH, VOLUME-EXPIRY, GUARD, SEEN, SESSION-EXPIRY}
-use Rattle.state_words.specs.Fields.{UNREACHABLE, OFFER, VERSION, OBJECT-EXPIRY, STANDING, END, LEASE, WAITING, NOTES, BATCH, VIEW-EPOCH}
-use Rattle.state_words.specs.Fields.{VIEW-EXPIRY, COPY-VERSION, COPY-EXPIRY, REQUEST-NEXT, REQUEST-STANDING, REQUEST-NUMBER}
-use Rattle.state_words.specs.Fields.{REQUEST-OBJECT, VALUE, PENDING, COPY-VALUE}
+use Rattle.state_words.specs.Fields.{word_lengths, value_lengths, CLOCK, VOLUME_EPOCH, VOLUME_EXPIRY, GUARD, SEEN, SESSION_EXPIRY}
+use Rattle.state_words.specs.Fields.{UNREACHABLE, OFFER, VERSION, OBJECT_EXPIRY, STANDING, END, LEASE, WAITING, NOTES, BATCH, VIEW_EPOCH}
+use Rattle.state_words.specs.Fields.{VIEW_EXPIRY, COPY_VERSION, COPY_EXPIRY, REQUEST_NEXT, REQUEST_STANDING, REQUEST_NUMBER}
+use Rattle.state_words.specs.Fields.{REQUEST_OBJECT, VALUE, PENDING, COPY_VALUE}
 use Rattle.state_words.specs.Rows.{queue_in}
 
 -- the tables in these fields
 abbrev pub tables_in : (ℕ → List ℕ) → (ℕ → List ℕ) → Tables
 tables_in words values = record {
   clock = get_or (words CLOCK) 0 0;
-  volumes = record { epoch = words VOLUME-EPOCH; expiry = words VOLUME-EXPIRY; guard = words GUARD };
+  volumes = record { epoch = words VOLUME_EPOCH; expiry = words VOLUME_EXPIRY; guard = words GUARD };
   sessions = record {
     seen = words SEEN;
-    expiry = words SESSION-EXPIRY;
+    expiry = words SESSION_EXPIRY;
     unreachable = flags (words UNREACHABLE);
     offer = words OFFER;
     notes = words NOTES;
@@ -31,13 +31,13 @@ tables_in words values = record {
   objects = record {
     value = values VALUE;
     version = words VERSION;
-    expiry = words OBJECT-EXPIRY;
+    expiry = words OBJECT_EXPIRY;
     standing = flags (words STANDING);
     pending = values PENDING;
     end = words END;
   };
   holders = record { lease = words LEASE; waiting = words WAITING };
-  views = record { epoch = words VIEW-EPOCH; expiry = words VIEW-EXPIRY };
+  views = record { epoch = words VIEW_EPOCH; expiry = words VIEW_EXPIRY };
   queue = queue_in words values;
 }
 
@@ -68,8 +68,8 @@ pub record Records : Type 0 where
 
 abbrev pub records_in : (ℕ → List ℕ) → (ℕ → List ℕ) → Records
 records_in words values = record {
-  copies = tabulate (copy_at (words COPY-VERSION) (values COPY-VALUE) (words COPY-EXPIRY)) 0 512;
-  requests = tabulate (request_at (words REQUEST-NEXT) (words REQUEST-STANDING) (words REQUEST-NUMBER) (words REQUEST-OBJECT)) 0 16;
+  copies = tabulate (copy_at (words COPY_VERSION) (values COPY_VALUE) (words COPY_EXPIRY)) 0 512;
+  requests = tabulate (request_at (words REQUEST_NEXT) (words REQUEST_STANDING) (words REQUEST_NUMBER) (words REQUEST_OBJECT)) 0 16;
 }
 
 unfoldable pub records_of : List ℕ → List ℕ → Records

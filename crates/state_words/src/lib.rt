@@ -1,4 +1,6 @@
 // Lays out the whole state in two lent arrays of numbers: the offset of each field, and stores into one field.
+#![tactic(auto)]
+
 pub mod client;
 pub mod fresh;
 pub mod network;

@@ -25,7 +25,7 @@ use Rattle.protocol.specs.Setup.{in_range}
 use Rattle.protocol.proofs.Ranges.{ranges}
 use Rattle.protocol.specs.Sound.{copies_sound, requests_sound, records_sound, tables_sound, sound}
 use Rattle.protocol.specs.Tables.{no_copy, no_request}
-use Rattle.protocol.specs.Answers.{answerNumber, is_refused}
+use Rattle.protocol.specs.Answers.{answer_number, is_refused}
 use Rattle.protocol.specs.Gate.{known, or_refuse, refusal, refusal_of_step}
 use Rattle.protocol.specs.Ledger.{accepts}
 use Rattle.protocol.specs.World.{World, stepped, answer_of}
@@ -67,7 +67,7 @@ pub record Left (s : Setup) (w x : List ℕ) (l : List Copy) (k : List Request) 
   pub x₂ : List ℕ
   pub w₃ : List ℕ
   pub steps : world w₁ x₁ l₁ k₁ ≡ stepped s (world w x l k) (asked s ws xs y)
-  pub refuses : answerNumber (answered s (world w x l k) ws xs y) ≡ 4 → (w₁ ≡ w) × ((x₁ ≡ x) × ((l₁ ≡ l) × (k₁ ≡ k)))
+  pub refuses : answer_number (answered s (world w x l k) ws xs y) ≡ 4 → (w₁ ≡ w) × ((x₁ ≡ x) × ((l₁ ≡ l) × (k₁ ≡ k)))
   pub keeps : records_of w₁ x₁ ≡ records_of w x
   pub copies_tables : tables_of w₂ x₂ ≡ tables_of w₁ x₁
   pub copies_records : records_of w₂ x₂
@@ -165,7 +165,7 @@ module _ (s : Setup) (w x : List ℕ) (l : List Copy) (k : List Request) (ws xs 
   -- what the step's contract says
   pub record Met (w₄ x₄ : List ℕ) (l₄ : List Copy) (k₄ : List Request) (ws₄ xs₄ : List (List ℕ)) : Type 0 where
     pub calls : Called s q y p.answer (machine s w₄ x₄ l₄ k₄ ws₄ xs₄)
-    pub refuses : answerNumber p.answer ≡ 4 → Unchanged w x l k ws xs w₄ x₄ l₄ k₄ ws₄ xs₄
+    pub refuses : answer_number p.answer ≡ 4 → Unchanged w x l k ws xs w₄ x₄ l₄ k₄ ws₄ xs₄
     pub keeps : uses_name y ≡ false → records_of w₄ x₄ ≡ records_of w x
 
   module _ (w₄ x₄ : List ℕ) (l₄ : List Copy) (k₄ : List Request) (ws₄ xs₄ : List (List ℕ)) (h : Left s w x l k ws xs y w₄ x₄ l₄ k₄ ws₄ xs₄) where
@@ -185,7 +185,7 @@ module _ (s : Setup) (w x : List ℕ) (l : List Copy) (k : List Request) (ws xs 
         }
 
     -- .. and so nothing changes where that was refused
-    module _ (b : Answer) (e : p ≡ staying b) (r : answerNumber a ≡ 4) where
+    module _ (b : Answer) (e : p ≡ staying b) (r : answer_number a ≡ 4) where
       unchanged : Unchanged w x l k ws xs w₄ x₄ l₄ k₄ ws₄ xs₄
       unchanged = record {
         words = (stays b e).words ∙ (h.refuses r).0;
@@ -204,7 +204,7 @@ module _ (s : Setup) (w x : List ℕ) (l : List Copy) (k : List Request) (ws xs 
     same_records e = rw (e.words, e.values)
 
     -- ---- a refused step
-    refused_met : (n : ℕ) → p ≡ staying (Refused n) → answerNumber a ≡ 4 → Refused n ≡ answer_to s q y → Met w₄ x₄ l₄ k₄ ws₄ xs₄
+    refused_met : (n : ℕ) → p ≡ staying (Refused n) → answer_number a ≡ 4 → Refused n ≡ answer_to s q y → Met w₄ x₄ l₄ k₄ ws₄ xs₄
     refused_met n e r t = record {
       calls = record {
         answers = ap (λ (g : Plan). g.answer) e ∙ t;
@@ -222,7 +222,7 @@ module _ (s : Setup) (w x : List ℕ) (l : List Copy) (k : List Request) (ws xs 
         plan : p ≡ staying (Refused 1)
         plan = rw f
 
-        four : answerNumber a ≡ 4
+        four : answer_number a ≡ 4
         four = rw f (rw (refused_answer s q.now idle (idle_refused s q.now)))
 
         one : Refused 1 ≡ answer_to s q y
@@ -243,7 +243,7 @@ module _ (s : Setup) (w x : List ℕ) (l : List Copy) (k : List Request) (ws xs 
           answers = answer ∙ a_is ∙ sym (ordinary_answer s q y u sound_q);
           moves = same_machine (stays a plan) ∙ ap (λ (z : World). record { now = z; saved = saved_of s ws xs }) moves ∙ sym (ordinary_move s q y u sound_q);
         };
-        refuses = λ r. unchanged a plan (sym (ap answerNumber answer) ∙ r);
+        refuses = λ r. unchanged a plan (sym (ap answer_number answer) ∙ r);
         keeps = λ _. same_records (stays a plan) ∙ h.keeps;
       }
         where
@@ -261,8 +261,8 @@ module _ (s : Setup) (w x : List ℕ) (l : List Copy) (k : List Request) (ws xs 
         a_told : a ≡ Refused (or_refuse (world_sound s q.now) 1 2)
         a_told = a_is ∙ name_answered s q y u
 
-        four : answerNumber a ≡ 4
-        four = ap answerNumber a_told
+        four : answer_number a ≡ 4
+        four = ap answer_number a_told
 
         now_unsound_met : world_sound s q.now ≡ false → Met w₄ x₄ l₄ k₄ ws₄ xs₄
         unfolding plan_of
@@ -319,7 +319,7 @@ module _ (s : Setup) (w x : List ℕ) (l : List Copy) (k : List Request) (ws xs 
                 answers = answer ∙ sym (answered_by true yes);
                 moves = kept_same now after ∙ sym (moved_by_law yes ∙ rw i);
               };
-              refuses = λ r. done_refuses (sym (ap answerNumber answer) ∙ r);
+              refuses = λ r. done_refuses (sym (ap answer_number answer) ∙ r);
               keeps = λ n. not_both u n;
             }
               where
@@ -381,7 +381,7 @@ module _ (s : Setup) (w x : List ℕ) (l : List Copy) (k : List Request) (ws xs 
                   answers = answer ∙ sym (answered_by true yes);
                   moves = kept_same now after ∙ sym (moved_by_law yes ∙ rw (i, there));
                 };
-                refuses = λ r. done_refuses (sym (ap answerNumber answer) ∙ r);
+                refuses = λ r. done_refuses (sym (ap answer_number answer) ∙ r);
                 keeps = λ n. not_both u n;
               }
                 where
@@ -452,7 +452,7 @@ module _ (s : Setup) (w x : List ℕ) (l : List Copy) (k : List Request) (ws xs 
   plan_is = h ∙ ap (λ (z : Bool). plan_of s z b ws y) e ∙ ap (λ (z : Answer). plan_of s (all_sound s ws xs) z ws y) answer_is
 
   module _ (w₁ x₁ : List ℕ) (l₁ : List Copy) (k₁ : List Request) (w₂ x₂ w₃ w₄ x₄ : List ℕ) (l₄ : List Copy) (k₄ : List Request) (ws₄ xs₄ : List (List ℕ)) where
-    pub leaves : world w₁ x₁ l₁ k₁ ≡ stepped s (world w x l k) i → (answerNumber b ≡ 4 → (w₁ ≡ w) × ((x₁ ≡ x) × ((l₁ ≡ l) × (k₁ ≡ k))))
+    pub leaves : world w₁ x₁ l₁ k₁ ≡ stepped s (world w x l k) i → (answer_number b ≡ 4 → (w₁ ≡ w) × ((x₁ ≡ x) × ((l₁ ≡ l) × (k₁ ≡ k))))
         → records_of w₁ x₁ ≡ records_of w x → tables_of w₂ x₂ ≡ tables_of w₁ x₁
         → records_of w₂ x₂ ≡ with_copies (records_of w₁ x₁) (overlay no_copy (records_of w₁ x₁).copies l₁ p.copies_saved)
         → (p.copies_saved ≡ 0 → (w₂ ≡ w₁) × (x₂ ≡ x₁)) → ((z : List ℕ) → tables_of w₃ z ≡ tables_of w₂ z)
@@ -469,7 +469,7 @@ module _ (s : Setup) (w x : List ℕ) (l : List Copy) (k : List Request) (ws xs 
       x₂ = x₂;
       w₃ = w₃;
       steps = b₀ ∙ ap (stepped s (world w x l k)) inner_is;
-      refuses = λ r. b₁ (ap answerNumber answer_is ∙ r);
+      refuses = λ r. b₁ (ap answer_number answer_is ∙ r);
       keeps = b₂;
       copies_tables = b₃;
       copies_records = rw (← plan_is) b₄;

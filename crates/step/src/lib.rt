@@ -3,7 +3,7 @@
 #![tactic(auto)]
 
 ghost use Rattle.std.specs.Prelude.{false, ◌≡◌};
-ghost use Rattle.protocol.specs.Answers.{answerNumber, answerValue};
+ghost use Rattle.protocol.specs.Answers.{answer_number, answer_value};
 ghost use Rattle.protocol.specs.Saved.{uses_name, Called};
 ghost use Rattle.state_words.specs.View.{records_of};
 ghost use Rattle.step_numbers.specs.Numbers.{number_of, value_of};
@@ -32,9 +32,9 @@ pub fn step(
     step: Step,
 ) -> Answer
     ensures calls { Called setup (machine setup words.old values.old copies.old requests.old saved.old saved_values.old) step result (machine setup words.new values.new copies.new requests.new saved.new saved_values.new) }
-    ensures numbers { answerNumber result ≡ number_of setup (machine setup words.old values.old copies.old requests.old saved.old saved_values.old) step }
-    ensures values { answerValue result ≡ value_of setup (machine setup words.old values.old copies.old requests.old saved.old saved_values.old) step }
-    ensures refuses { answerNumber result ≡ 4 → Unchanged words.old values.old copies.old requests.old saved.old saved_values.old words.new values.new copies.new requests.new saved.new saved_values.new }
+    ensures numbers { answer_number result ≡ number_of setup (machine setup words.old values.old copies.old requests.old saved.old saved_values.old) step }
+    ensures values { answer_value result ≡ value_of setup (machine setup words.old values.old copies.old requests.old saved.old saved_values.old) step }
+    ensures refuses { answer_number result ≡ 4 → Unchanged words.old values.old copies.old requests.old saved.old saved_values.old words.new values.new copies.new requests.new saved.new saved_values.new }
     ensures keeps { uses_name step ≡ false → records_of words.new values.new ≡ records_of words.old values.old }
 {
     let kept = sound::all(setup, &*saved, &*saved_values);

@@ -15,7 +15,7 @@ use Rattle.protocol.specs.declared.step.Step.{Step}
 use Rattle.protocol.specs.declared.tables.Tables.{Tables}
 use Rattle.protocol.specs.Setup.{in_range}
 use Rattle.protocol.specs.Sound.{tables_sound}
-use Rattle.protocol.specs.Answers.{answerNumber, is_refused}
+use Rattle.protocol.specs.Answers.{answer_number, is_refused}
 use Rattle.protocol.specs.Gate.{refusal_of_step, refusal}
 use Rattle.protocol.specs.Decide.{kept, answered, performed, decided}
 use Rattle.protocol.proofs.Soundness.StepCases.{step_passes, accepted_all, setup_in_range, tables_sound_law}
@@ -33,9 +33,9 @@ module _ (s : Setup) (t : Tables) (records : Bool) (r : Request) (x : Step) (k :
   accepts c g u a h e = rw (← p, h) e
 
   -- the answer to an accepted step is not a refusal
-  pub not_refused : {A : Type 0} (c : Copy) (g : Change) (u : Tables) (a : Answer) → k ≡ 0 → answered g u a ≡ performed s t c r x → answerNumber a ≡ 4 → A
+  pub not_refused : {A : Type 0} (c : Copy) (g : Change) (u : Tables) (a : Answer) → k ≡ 0 → answered g u a ≡ performed s t c r x → answer_number a ≡ 4 → A
   not_refused c g u a h e n =
-      not_both (eq-eqb (answerNumber a) 4 n)
+      not_both (eq-eqb (answer_number a) 4 n)
       (ap (λ (d : Decision). is_refused d.outcome.answer) e ∙ performed_not_refused s t c r records x (accepted_all s t records r x (sym p ∙ h)))
 
   pub refuses : (c : Copy) (v : Verdict) → (k ≡ 0 → ⊥) → v ≡ record { change = kept; answer = Refused k } → answered v.change t v.answer ≡ decided s t records c r x

@@ -1,6 +1,8 @@
 // Decides one step (01, "Steps"): asks the questions, then performs the step by its kind, on the words and the one copy and request that it can touch.
+#![tactic(auto)]
+
 ghost use Rattle.std.specs.Prelude.{◌≡◌};
-ghost use Rattle.protocol.specs.Answers.{answerNumber};
+ghost use Rattle.protocol.specs.Answers.{answer_number};
 ghost use Rattle.protocol.specs.Decide.{answered, decided};
 ghost use Rattle.state_words.specs.View.{tables_of, records_of};
 
@@ -22,7 +24,7 @@ pub fn decide(
     step: Step,
 ) -> Verdict
     ensures answer_after { answered result.change (tables_of words.new values.new) result.answer ≡ decided setup (tables_of words.old values.old) records c r step }
-    ensures words_unchanged { answerNumber result.answer ≡ 4 → (words.new ≡ words.old) × (values.new ≡ values.old) }
+    ensures words_unchanged { answer_number result.answer ≡ 4 → (words.new ≡ words.old) × (values.new ≡ values.old) }
     ensures values_unchanged { records_of words.new values.new ≡ records_of words.old values.old }
 {
     let no = gate::refusal(setup, &*words, &*values, records, r, step);

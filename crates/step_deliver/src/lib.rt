@@ -1,4 +1,6 @@
 // Delivering a message (01, "Steps" 5). Server and client each handle the kinds that are sent to them and ignore the others.
+#![tactic(auto)]
+
 ghost use Rattle.std.specs.Prelude.{true, ◌≡◌, ◌≤◌, ◌<◌};
 ghost use Rattle.protocol.specs.Setup.{in_range};
 ghost use Rattle.protocol.specs.Sound.{clock_limit, kind_sound, tables_sound};

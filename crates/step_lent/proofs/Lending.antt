@@ -9,7 +9,7 @@ use Rattle.protocol.specs.declared.setup.Setup.{Setup}
 use Rattle.protocol.specs.declared.step.Decision.{Decision}
 use Rattle.protocol.specs.declared.step.Step.{Step}
 use Rattle.protocol.specs.declared.step.Target.{Target}
-use Rattle.protocol.specs.Answers.{answerNumber}
+use Rattle.protocol.specs.Answers.{answer_number}
 use Rattle.protocol.specs.Client.{CanTurn, changed, turned, swept_all}
 use Rattle.protocol.specs.Decide.{decided}
 use Rattle.protocol.specs.Sound.{copies_sound, requests_sound}
@@ -38,8 +38,8 @@ module _ (s : Setup) (w x : List ℕ) (l : List Copy) (k : List Request) (y : St
       unfolding stepped
       moves = rw (t, i, g, f, h) (ap (world_after s (world w x l k) (target s (tables_of w x) y)) e)
 
-      pub keeps : answerNumber d.outcome.answer ≡ 4 → (n ≡ l) × (j ≡ k)
+      pub keeps : answer_number d.outcome.answer ≡ 4 → (n ≡ l) × (j ≡ k)
       keeps r = (ap (λ (z : World). z.copies) same, ap (λ (z : World). z.requests) same)
         where
           same : world v u n j ≡ world w x l k
-          same = moves ∙ refused_same s (world w x l k) y (sym (ap (λ (z : Decision). answerNumber z.outcome.answer) e) ∙ r)
+          same = moves ∙ refused_same s (world w x l k) y (sym (ap (λ (z : Decision). answer_number z.outcome.answer) e) ∙ r)

@@ -7,7 +7,7 @@ use Rattle.protocol.specs.declared.records.Request.{Request}
 use Rattle.protocol.specs.declared.setup.Setup.{Setup}
 use Rattle.protocol.specs.declared.step.Answer.TheVariants.{Refused}
 use Rattle.protocol.specs.declared.step.Step.{Step}
-use Rattle.protocol.specs.Answers.{answerNumber}
+use Rattle.protocol.specs.Answers.{answer_number}
 use Rattle.protocol.specs.World.{World, stepped, answer_of}
 use Rattle.protocol.specs.Ledger.{accepts}
 use Rattle.protocol.specs.Sound.{records_sound}
@@ -20,7 +20,7 @@ use Rattle.state_words.proofs.LiveRows.{no_message_refused}
 use Rattle.step_lent.specs.Lent.{world}
 
 -- a step whose answer has the number 4 changes neither the tables nor the lent records
-pub refused_same : (s : Setup) (w : World) (x : Step) → answerNumber (answer_of s w x) ≡ 4 → stepped s w x ≡ w
+pub refused_same : (s : Setup) (w : World) (x : Step) → answer_number (answer_of s w x) ≡ 4 → stepped s w x ≡ w
 refused_same s w x e = ⊎_elim (λ a. not_both (eq-eqb _ 4 e) (accepted_not_refused s w x a)) (refused_keeps s w x) (true_or_false (accepts s w x))
 
 -- if a row below the list's length is not a message, every step is refused with 1

@@ -3,7 +3,7 @@
 #![tactic(auto)]
 
 ghost use Rattle.std.specs.Prelude.{◌≡◌};
-ghost use Rattle.protocol.specs.Answers.{answerNumber};
+ghost use Rattle.protocol.specs.Answers.{answer_number};
 ghost use Rattle.protocol.specs.World.{answer_of, stepped};
 ghost use Rattle.step_lent.specs.Lent.{world};
 ghost use Rattle.state_words.specs.View.{records_of};
@@ -31,7 +31,7 @@ pub fn step(
 ) -> Answer
     ensures answers { result ≡ answer_of setup (world words.old values.old copies.old requests.old) step }
     ensures moves { world words.new values.new copies.new requests.new ≡ stepped setup (world words.old values.old copies.old requests.old) step }
-    ensures refuses { answerNumber result ≡ 4 → (words.new ≡ words.old) × ((values.new ≡ values.old) × ((copies.new ≡ copies.old) × (requests.new ≡ requests.old))) }
+    ensures refuses { answer_number result ≡ 4 → (words.new ≡ words.old) × ((values.new ≡ values.old) × ((copies.new ≡ copies.old) × (requests.new ≡ requests.old))) }
     ensures keeps { records_of words.new values.new ≡ records_of words.old values.old }
 {
     let held = copies::sound(&*copies, setup);

@@ -13,7 +13,7 @@ use Rattle.protocol.specs.declared.step.Step.{Step}
 use Rattle.protocol.specs.declared.tables.Tables.{Tables}
 use Rattle.protocol.specs.Writes.{settled, write_staged, clock_staged}
 use Rattle.protocol.specs.Client.{showable}
-use Rattle.protocol.specs.Answers.{doneOrCompleted, answerNumber, answerValue, completedAnswer}
+use Rattle.protocol.specs.Answers.{done_or_completed, answer_number, answer_value, completed_answer}
 use Rattle.protocol.specs.Gate.{known}
 use Rattle.protocol.proofs.Gate.{asked}
 use Rattle.protocol.specs.Decide.{read_decided, ask_decided, deliver_decided, restart_decided, performed}
@@ -29,9 +29,9 @@ use Rattle.step_numbers.specs.Numbers.{completed_in, accepted_number, accepted_v
 
 -- ---- both agree with the answer
 abbrev Says : Answer → ℕ → ℕ → Type 0
-Says a number value = (answerNumber a ≡ number) × (answerValue a ≡ value)
+Says a number value = (answer_number a ≡ number) × (answer_value a ≡ value)
 
-completed_says : (n : ℕ) → Says (completedAnswer n) (doneOrCompleted n) n
+completed_says : (n : ℕ) → Says (completed_answer n) (done_or_completed n) n
 completed_says zero = (refl, refl)
 completed_says (suc n) = (rw (eqb-suc-zero n, eqb-suc-zero n), rw (eqb-suc-zero n))
 
@@ -75,8 +75,8 @@ module _ (s : Setup) (q : Machine) (x : Step) where
   unfolding number_of value_of answer_to
   says = chosen_says (eqb (refusal_in s q x) 0) (uses_name x) _ _ _ _ (λ e u. accepted_says s q.now x (now_accepts e u))
 
-  pub number_is : answerNumber (answer_to s q x) ≡ number_of s q x
+  pub number_is : answer_number (answer_to s q x) ≡ number_of s q x
   number_is = says.0
 
-  pub value_is : answerValue (answer_to s q x) ≡ value_of s q x
+  pub value_is : answer_value (answer_to s q x) ≡ value_of s q x
   value_is = says.1

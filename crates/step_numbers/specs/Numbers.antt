@@ -9,7 +9,7 @@ use Rattle.protocol.specs.declared.tables.Tables.{Tables}
 use Rattle.protocol.specs.Messages.{message_at}
 use Rattle.protocol.specs.Writes.{settled, write_staged, clock_staged}
 use Rattle.protocol.specs.Client.{showable}
-use Rattle.protocol.specs.Answers.{doneOrCompleted}
+use Rattle.protocol.specs.Answers.{done_or_completed}
 use Rattle.protocol.specs.Gate.{is_clock, is_read, is_write, is_deliver}
 use Rattle.protocol.specs.Decide.{received, taken}
 use Rattle.protocol.specs.Saved.{Machine, uses_name, refusal_in}
@@ -24,7 +24,7 @@ completed_in s t c r x =
 
 -- the number of an accepted step's answer: "0 done, 1 shown, 2 ask first, 3 at least one write completed, in whichever step"
 unfoldable pub accepted_number : Setup → Tables → Copy → Request → Step → ℕ
-accepted_number s t c r x = cond (is_read x) (cond (showable s t c x.client x.object) 1 2) (doneOrCompleted (completed_in s t c r x))
+accepted_number s t c r x = cond (is_read x) (cond (showable s t c x.client x.object) 1 2) (done_or_completed (completed_in s t c r x))
 
 -- the value of an accepted step's answer: "shown value, writes completed .. else 0"
 unfoldable pub accepted_value : Setup → Tables → Copy → Request → Step → ℕ

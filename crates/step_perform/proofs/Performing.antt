@@ -14,7 +14,7 @@ use Rattle.protocol.specs.declared.step.Change.{Change}
 use Rattle.protocol.specs.declared.step.Step.{Step}
 use Rattle.protocol.specs.declared.tables.Tables.{Tables}
 use Rattle.protocol.specs.Client.{showable}
-use Rattle.protocol.specs.Answers.{completedAnswer}
+use Rattle.protocol.specs.Answers.{completed_answer}
 use Rattle.protocol.specs.Gate.{is_ask, uses_client, growable, refusal_of_step}
 use Rattle.protocol.specs.Decide.{kept, answered, counting, read_decided, deliver_decided, performed}
 use Rattle.protocol.proofs.Soundness.StepCases.{read_performed, deliver_performed}
@@ -56,7 +56,7 @@ module _ (s : Setup) (c : Copy) (r : Request) (x : Step) where
 
     -- ---- a step that is not a client's
 
-    pub by_count : (v : Verdict) (n : ℕ) → v ≡ record { change = kept; answer = completedAnswer n } → counting (record { count = n; tables = u }) ≡ performed s t c r x
+    pub by_count : (v : Verdict) (n : ℕ) → v ≡ record { change = kept; answer = completed_answer n } → counting (record { count = n; tables = u }) ≡ performed s t c r x
         → answered v.change u v.answer ≡ performed s t c r x
     by_count v n f e = rw f e
 

@@ -1,4 +1,6 @@
 // Performs an accepted step in place, by its kind. Each part returns as little as it can.
+#![tactic(auto)]
+
 pub mod client_step;
 pub mod other_step;
 

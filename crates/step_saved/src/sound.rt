@@ -5,7 +5,7 @@ ghost use Rattle.protocol.specs.Saved.{world_sound, sound_under};
 ghost use Rattle.protocol.specs.Sound.{time_fits, request_sound};
 ghost use Rattle.protocol.specs.Tables.{no_copy, no_request};
 ghost use Rattle.setup.specs.Limits.{CLIENTS};
-ghost use Rattle.state_words.specs.Fields.{CLIENT-OBJECTS};
+ghost use Rattle.state_words.specs.Fields.{CLIENT_OBJECTS};
 ghost use Rattle.state_words.specs.Saved.{saved_in};
 ghost use Rattle.state_words.specs.View.{records_of, requests_of, world_of};
 ghost use Rattle.step_saved.specs.Sound.{all_sound};
@@ -22,7 +22,7 @@ use state_words::{Values, Words};
 
 // Returns whether the expiries of the first n copies are in range.
 fn copies_fit<'a>(words: &'a Words, values: &'a Values, n: usize) -> bool
-    requires { n ≤ CLIENT-OBJECTS }
+    requires { n ≤ CLIENT_OBJECTS }
     ensures { result ≡ all_from (λ (k : ℕ). time_fits (get_or (records_of words.now values.now).copies k no_copy).expiry) 0 n }
 {
     let mut ok = true;

@@ -1,4 +1,6 @@
 // Finds the client records that a step can touch.
+#![tactic(auto)]
+
 ghost use Rattle.std.specs.Prelude.{◌≡◌};
 ghost use Rattle.protocol.specs.Messages.{object_of};
 ghost use Rattle.protocol.specs.World.{target_at, target};

@@ -1,6 +1,8 @@
 // The verdict on a step: the change to the client's records, and the answer.
+#![tactic(auto)]
+
 ghost use Rattle.std.specs.Prelude.{◌≡◌};
-ghost use Rattle.protocol.specs.Answers.{completedAnswer};
+ghost use Rattle.protocol.specs.Answers.{completed_answer};
 ghost use Rattle.protocol.specs.Decide.{kept};
 
 use protocol::step::{Answer, Change};
@@ -23,7 +25,7 @@ pub fn keeping(answer: Answer) -> Verdict
 
 // Returns the verdict after n writes completed: no record changes.
 pub fn counting(n: u32) -> Verdict
-    ensures { result ≡ record { change = kept; answer = completedAnswer n } }
+    ensures { result ≡ record { change = kept; answer = completed_answer n } }
 {
     if n == 0 {
         return keeping(Answer::Done);

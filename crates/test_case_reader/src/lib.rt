@@ -6,7 +6,7 @@ pub mod text;
 
 ghost use Rattle.std.specs.Prelude.{◌≤◌};
 ghost use Rattle.setup.specs.Limits.{CLIENTS};
-ghost use Rattle.state_words.specs.Fields.{CLIENT-OBJECTS};
+ghost use Rattle.state_words.specs.Fields.{CLIENT_OBJECTS};
 
 use protocol::setup::Setup;
 use setup::limits::CLIENTS;
@@ -31,7 +31,7 @@ fn at_most(most: usize, number: usize) -> usize
 
 // Returns the number of copies that the case lends, at most all that the words hold.
 pub fn copies_lent(case: Case) -> usize
-    ensures { result ≤ CLIENT-OBJECTS }
+    ensures { result ≤ CLIENT_OBJECTS }
 {
     at_most(CLIENT_OBJECTS, case.copies)
 }

@@ -13,7 +13,7 @@ use Rattle.protocol.specs.declared.step.Answer.{Answer}
 use Rattle.protocol.specs.declared.step.Answer.TheVariants.{Delivered}
 use Rattle.protocol.specs.declared.step.Decision.{Decision}
 use Rattle.protocol.specs.declared.step.Step.{Step}
-use Rattle.protocol.specs.Answers.{completedAnswer}
+use Rattle.protocol.specs.Answers.{completed_answer}
 use Rattle.protocol.specs.Writes.{settled, write_staged, clock_staged}
 use Rattle.protocol.specs.Client.{showable}
 use Rattle.protocol.specs.Gate.{is_deliver, is_restart_client}
@@ -55,7 +55,7 @@ module _ (s : Setup) (w : World) (x : Step) where
       unfolding grants
       other n h = rw (a, ne_eqb x.kind 5 n, h)
 
-      counted : (n : ℕ) → granted_by r d o (completedAnswer n) ≡ false
+      counted : (n : ℕ) → granted_by r d o (completed_answer n) ≡ false
       counted n = cond_keeps (λ (b : Answer). granted_by r d o b ≡ false) (eqb n 0) (λ _. refl) (λ _. refl)
 
       accepted_told : GrantTold d o

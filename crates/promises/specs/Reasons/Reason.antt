@@ -8,7 +8,7 @@ use Rattle.protocol.specs.declared.step.Step.{Step}
 use Rattle.protocol.specs.Setup.{volume_of}
 use Rattle.protocol.specs.Tables.{view_expiry_at}
 use Rattle.protocol.specs.Leases.{client_alive, client_clock}
-use Rattle.protocol.specs.Answers.{answerNumber}
+use Rattle.protocol.specs.Answers.{answer_number}
 use Rattle.protocol.specs.Gate.{is_read}
 use Rattle.protocol.specs.World.{World, fresh_world, stepped}
 use Rattle.protocol.specs.Safety.View.{copy_at}
@@ -40,7 +40,7 @@ abbrev pub line_before : Setup → List Step → ℕ → List Entry
 line_before s xs n = present_line s (earlier xs n)
 
 abbrev pub is_ask_first : Answer → Bool
-is_ask_first a = eqb (answerNumber a) 2
+is_ask_first a = eqb (answer_number a) 2
 
 -- "a read answered "ask first"", in the run
 unfoldable pub asks_first : Setup → List Step → ℕ → Bool

@@ -16,7 +16,7 @@ use Rattle.protocol.specs.Tables.{value_at, standing_at, pending_at, end_at}
 use Rattle.protocol.proofs.Leases.{not_over}
 use Rattle.protocol.specs.Writes.{settled, clock_staged}
 use Rattle.protocol.specs.Client.{showable}
-use Rattle.protocol.specs.Answers.{answerValue, reported, isShown, is_refused}
+use Rattle.protocol.specs.Answers.{answer_value, reported, is_shown, is_refused}
 use Rattle.protocol.specs.Gate.{is_clock}
 use Rattle.protocol.specs.Decide.{read_decided}
 use Rattle.protocol.specs.World.{World, fresh_world, stepped, answer_of}
@@ -79,7 +79,7 @@ module _ (s : Setup) (w : World) (x : Step) (l : Ledger) where
       ∙ read_tables s w.tables (copy_of s w x) x.client x.object
 
   step_shows : SoundWorld s w → Booked s w.tables l → ReadsCurrent s w
-      → isShown (answer_of s w x) ≡ true → answerValue (answer_of s w x) ≡ (book_all s l (events s w x)).posted_value x.object
+      → is_shown (answer_of s w x) ≡ true → answer_value (answer_of s w x) ≡ (book_all s l (events s w x)).posted_value x.object
   step_shows k h f e =
       let q = shown_read s w x e in
       q.value
@@ -129,7 +129,7 @@ module _ (s : Setup) (i : in_range s ≡ false) where
       let b = refused_step s w x l h a in
       let f = refused_is_refused s w x a in
       record {
-        shows = λ i. not_both i (ap isShown (refused_answer s w x a));
+        shows = λ i. not_both i (ap is_shown (refused_answer s w x a));
         values = b.keeps.values;
         writes = b.keeps.writes;
         ends = λ i j o y u p q. not_both f j;

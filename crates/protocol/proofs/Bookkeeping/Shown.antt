@@ -16,7 +16,7 @@ use Rattle.protocol.specs.declared.tables.Tables.{Tables}
 use Rattle.protocol.specs.Messages.{message_at}
 use Rattle.protocol.specs.Writes.{settled, write_staged, clock_staged}
 use Rattle.protocol.specs.Client.{showable}
-use Rattle.protocol.specs.Answers.{answerValue, doneOrCompleted, isShown, completedAnswer}
+use Rattle.protocol.specs.Answers.{answer_value, done_or_completed, is_shown, completed_answer}
 use Rattle.protocol.specs.Decide.{received, taken, performed, read_decided, ask_decided, deliver_decided, restart_decided}
 use Rattle.protocol.specs.World.{World, target, answer_of}
 use Rattle.protocol.specs.Ledger.{accepts}
@@ -26,29 +26,29 @@ use Rattle.protocol.specs.Safety.View.{copy_at}
 use Rattle.protocol.specs.Bookkeeping.Shown.{ReadShown}
 
 -- a number of completed writes is not shown
-not_one : (n : ℕ) → eqb (doneOrCompleted n) 1 ≡ false
+not_one : (n : ℕ) → eqb (done_or_completed n) 1 ≡ false
 not_one n = cond_keeps (λ (k : ℕ). eqb k 1 ≡ false) (eqb n 0) (λ e. refl) (λ e. refl)
 
-completed_unshown : (n : ℕ) → isShown (completedAnswer n) ≡ false
-completed_unshown n = cond_keeps (λ (a : Answer). isShown a ≡ false) (eqb n 0) (λ e. refl) (λ e. not_one n)
+completed_unshown : (n : ℕ) → is_shown (completed_answer n) ≡ false
+completed_unshown n = cond_keeps (λ (a : Answer). is_shown a ≡ false) (eqb n 0) (λ e. refl) (λ e. not_one n)
 
 module _ (s : Setup) (t : Tables) (c : Copy) (r : Request) where
-  ask_unshown : (d o : ℕ) → isShown (ask_decided s t c r d o).outcome.answer ≡ false
+  ask_unshown : (d o : ℕ) → is_shown (ask_decided s t c r d o).outcome.answer ≡ false
   unfolding ask_decided
   ask_unshown d o = refl
 
-  deliver_unshown : (i : ℕ) → isShown (deliver_decided s t c r i).outcome.answer ≡ false
+  deliver_unshown : (i : ℕ) → is_shown (deliver_decided s t c r i).outcome.answer ≡ false
   unfolding deliver_decided
   deliver_unshown i = not_one (received s (taken t i) c r (message_at t.queue i).client (message_at t.queue i).kind).counted.count
 
-  restart_unshown : (d : ℕ) → isShown (restart_decided s t d).outcome.answer ≡ false
+  restart_unshown : (d : ℕ) → is_shown (restart_decided s t d).outcome.answer ≡ false
   unfolding restart_decided
   restart_unshown d = refl
 
   -- only a read is answered "shown"
-  pub unread_unshown : (b : Bool) (x : Step) → Accepted s t b r x → (x.kind ≡ 2 → ⊥) → isShown (performed s t c r x).outcome.answer ≡ false
+  pub unread_unshown : (b : Bool) (x : Step) → Accepted s t b r x → (x.kind ≡ 2 → ⊥) → is_shown (performed s t c r x).outcome.answer ≡ false
   unread_unshown b x a f =
-      by_kind (isShown (performed s t c r x).outcome.answer ≡ false) x a.passes.knows
+      by_kind (is_shown (performed s t c r x).outcome.answer ≡ false) x a.passes.knows
       (λ e. rw (clock_performed s t c r x e) (completed_unshown (settled s (clock_staged s t x.clock)).count))
       (λ e. absurd (f e))
       (λ e. rw (ask_performed s t c r x e) (ask_unshown x.client x.object))
@@ -59,11 +59,11 @@ module _ (s : Setup) (t : Tables) (c : Copy) (r : Request) where
       (λ e. rw (server_performed s t c r x e))
       (λ e. rw (client_performed s t c r x e) (restart_unshown x.client))
 
-  read_shows : (d o : ℕ) → isShown (read_decided s t c d o).outcome.answer ≡ true
-      → (showable s t c d o ≡ true) × (answerValue (read_decided s t c d o).outcome.answer ≡ c.value)
+  read_shows : (d o : ℕ) → is_shown (read_decided s t c d o).outcome.answer ≡ true
+      → (showable s t c d o ≡ true) × (answer_value (read_decided s t c d o).outcome.answer ≡ c.value)
   unfolding read_decided
   read_shows d o =
-      cond_keeps (λ (g : Decision). isShown g.outcome.answer ≡ true → (showable s t c d o ≡ true) × (answerValue g.outcome.answer ≡ c.value))
+      cond_keeps (λ (g : Decision). is_shown g.outcome.answer ≡ true → (showable s t c d o ≡ true) × (answer_value g.outcome.answer ≡ c.value))
       (showable s t c d o) (λ e f. (e, refl)) (λ e f. not_both f refl)
 
 pub copy_read : (s : Setup) (w : World) (x : Step) → x.kind ≡ 2 → copy_of s w x ≡ copy_at s w.copies x.client x.object
@@ -71,8 +71,8 @@ unfolding target
 copy_read s w x e = rw e
 
 module _ (s : Setup) (w : World) (x : Step) where
-  pub shown_read : isShown (answer_of s w x) ≡ true → ReadShown s w x
-  shown_read h = ⊎_elim taken_read (λ e. not_both h (ap isShown (refused_answer s w x e))) (true_or_false (accepts s w x))
+  pub shown_read : is_shown (answer_of s w x) ≡ true → ReadShown s w x
+  shown_read h = ⊎_elim taken_read (λ e. not_both h (ap is_shown (refused_answer s w x e))) (true_or_false (accepts s w x))
     where
       c : Copy
       c = copy_of s w x
@@ -85,9 +85,9 @@ module _ (s : Setup) (w : World) (x : Step) where
           let a = accepted s w x e in
           let p = accepted_answer_law s w x e in
           let k : x.kind ≡ 2 =
-          ⊎_elim (λ f. f) (λ f. not_both h (ap isShown p ∙ unread_unshown s w.tables c r _ x a f)) (same? x.kind 2) in
+          ⊎_elim (λ f. f) (λ f. not_both h (ap is_shown p ∙ unread_unshown s w.tables c r _ x a f)) (same? x.kind 2) in
           let v = p ∙ ap (λ (g : Decision). g.outcome.answer) (read_performed s w.tables c r x k) in
-          let q = read_shows s w.tables c r x.client x.object (sym (ap isShown v) ∙ h) in
+          let q = read_shows s w.tables c r x.client x.object (sym (ap is_shown v) ∙ h) in
           let y = copy_read s w x k in
           record {
             takes = e;
@@ -95,5 +95,5 @@ module _ (s : Setup) (w : World) (x : Step) where
             client = client_exists a.passes (rw k);
             object = object_exists a.passes (rw k);
             shows = sym (ap (λ (z : Copy). showable s w.tables z x.client x.object) y) ∙ q.0;
-            value = ap answerValue v ∙ q.1 ∙ ap (λ (z : Copy). z.value) y;
+            value = ap answer_value v ∙ q.1 ∙ ap (λ (z : Copy). z.value) y;
           }

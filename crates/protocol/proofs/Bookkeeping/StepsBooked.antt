@@ -28,7 +28,7 @@ use Rattle.protocol.specs.Server.{noted, offered, volume_renewed, object_renewed
 use Rattle.protocol.specs.Client.{showable, stands}
 use Rattle.protocol.specs.Sound.{kind_sound}
 use Rattle.protocol.proofs.SoundLaws.{named}
-use Rattle.protocol.specs.Answers.{reported, completedAnswer}
+use Rattle.protocol.specs.Answers.{reported, completed_answer}
 use Rattle.protocol.specs.Decide.{Received, uncounted, kept, answered, counting, received, grant_received, invalidate_received, offer_received, batch_received, taken, performed, read_decided, ask_decided, deliver_decided, restart_decided}
 use Rattle.protocol.specs.Ledger.{Event, acceptance, server_restart, settling_of, completions, receipt_staged, delivery_staged, read_events, clock_events, write_events, happening, Ledger, book, book_all}
 use Rattle.protocol.specs.Soundness.StepCases.{Accepted}
@@ -47,7 +47,7 @@ use Rattle.protocol.proofs.Soundness.ShapeKept.{written_shape, clock_set_shape, 
 use Rattle.protocol.specs.Bookkeeping.StepsBooked.{Recorded}
 
 -- ---- what an answer reports
-reported_completed : (n : ℕ) → reported (completedAnswer n) ≡ n
+reported_completed : (n : ℕ) → reported (completed_answer n) ≡ n
 reported_completed zero = refl
 reported_completed (suc n) = rw (eqb-suc-zero n, eqb-suc-zero n)
 

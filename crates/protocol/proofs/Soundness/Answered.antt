@@ -13,7 +13,7 @@ use Rattle.protocol.specs.declared.tables.Tables.{Tables}
 use Rattle.protocol.specs.Messages.{message_at}
 use Rattle.protocol.specs.Writes.{settled, write_staged, clock_staged}
 use Rattle.protocol.specs.Client.{showable}
-use Rattle.protocol.specs.Answers.{doneOrCompleted, is_refused, completedAnswer}
+use Rattle.protocol.specs.Answers.{done_or_completed, is_refused, completed_answer}
 use Rattle.protocol.specs.Decide.{received, taken, performed, read_decided, ask_decided, deliver_decided, restart_decided}
 use Rattle.protocol.specs.World.{World, answer_of}
 use Rattle.protocol.specs.Ledger.{accepts}
@@ -21,10 +21,10 @@ use Rattle.protocol.specs.Soundness.StepCases.{Accepted, copy_of, request_of}
 use Rattle.protocol.proofs.Soundness.StepCases.{accepted, accepted_answer_law, refused_answer, by_kind, clock_performed, read_performed, ask_performed, write_performed, deliver_performed, lose_performed, double_performed, server_performed, client_performed}
 
 -- a number of completed writes is no refusal
-not_four : (n : ℕ) → eqb (doneOrCompleted n) 4 ≡ false
+not_four : (n : ℕ) → eqb (done_or_completed n) 4 ≡ false
 not_four n = cond_keeps (λ (k : ℕ). eqb k 4 ≡ false) (eqb n 0) (λ e. refl) (λ e. refl)
 
-completed_not_refused : (n : ℕ) → is_refused (completedAnswer n) ≡ false
+completed_not_refused : (n : ℕ) → is_refused (completed_answer n) ≡ false
 completed_not_refused n = cond_keeps (λ (a : Answer). is_refused a ≡ false) (eqb n 0) (λ e. refl) (λ e. not_four n)
 
 module _ (s : Setup) (t : Tables) (c : Copy) (r : Request) where

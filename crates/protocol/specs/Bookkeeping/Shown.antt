@@ -6,7 +6,7 @@ use Rattle.std.proofs.Math.Bool.{true}
 use Rattle.protocol.specs.declared.setup.Setup.{Setup}
 use Rattle.protocol.specs.declared.step.Step.{Step}
 use Rattle.protocol.specs.Client.{showable}
-use Rattle.protocol.specs.Answers.{answerValue}
+use Rattle.protocol.specs.Answers.{answer_value}
 use Rattle.protocol.specs.World.{World, answer_of}
 use Rattle.protocol.specs.Ledger.{accepts}
 use Rattle.protocol.specs.Safety.View.{copy_at}
@@ -17,4 +17,4 @@ pub record ReadShown (s : Setup) (w : World) (x : Step) : Type 0 where
   pub client : x.client < s.clients
   pub object : x.object < s.objects
   pub shows : showable s w.tables (copy_at s w.copies x.client x.object) x.client x.object ≡ true
-  pub value : answerValue (answer_of s w x) ≡ (copy_at s w.copies x.client x.object).value
+  pub value : answer_value (answer_of s w x) ≡ (copy_at s w.copies x.client x.object).value

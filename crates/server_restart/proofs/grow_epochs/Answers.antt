@@ -4,7 +4,7 @@ use Prim.Native.Nat.{◌+◌}
 use native.Mathlib.Nat.{sub-zero}
 use Rattle.laws.specs.Loop.{fold_end}
 use Rattle.laws.specs.Store.{store_each}
-use Rattle.state_words.specs.Fields.{at, VOLUME-EPOCH}
+use Rattle.state_words.specs.Fields.{at, VOLUME_EPOCH}
 use Rattle.server_restart.proofs.Restarting.{epoch_grows, grow_keeps, grow_again}
 use borrow.Author.Rules.{rules}
 use Rattle.server_restart.proofs.grow_epochs.Goals as goal
@@ -17,7 +17,7 @@ overflow_add-words-in-loop-volume c =
     let l = c.loop-volume in
     omega (
       arith,
-      l.invariant.1.0.same (at VOLUME-EPOCH + l.volume) (omega arith),
+      l.invariant.1.0.same (at VOLUME_EPOCH + l.volume) (omega arith),
       epoch_grows c.args.n c.args.words.now l.volume c.requires.epochs_grow (search rules) (search rules),
     )
 

@@ -1,5 +1,5 @@
 use Rattle.std.proofs.Common.{◌∙◌, ap}
-use Rattle.protocol.specs.Answers.{answerNumber, answerValue}
+use Rattle.protocol.specs.Answers.{answer_number, answer_value}
 use Rattle.step_saved.specs.Applied.{plan_fits}
 use Rattle.step_numbers.proofs.Numbers.{number_is, value_is}
 use Rattle.step.specs.Lent.{machine}
@@ -24,8 +24,8 @@ returns c =
     c.to_words-2.ensures.words_unchanged c.apply.ensures c.from_words.ensures c.from_words-2.ensures) in
     record {
       calls = rw e h.calls;
-      numbers = rw e (ap answerNumber h.calls.answers ∙ number_is a.setup q a.step);
-      values = rw e (ap answerValue h.calls.answers ∙ value_is a.setup q a.step);
+      numbers = rw e (ap answer_number h.calls.answers ∙ number_is a.setup q a.step);
+      values = rw e (ap answer_value h.calls.answers ∙ value_is a.setup q a.step);
       refuses = rw e h.refuses;
       keeps = h.keeps;
     }
