@@ -1,7 +1,7 @@
 -- A walk lends a row of elements that it holds (of an opened `&mut [T]` or of a local array) to a callee for a lifetime κ', and gets it back.
 --     lend_mut, back_mut     as a `&κ' mut [T]`: the row comes back with the list that the callee's contract states
 --     lies_in, lies_out      turn a local's cell and what its value owns into the form in memory that `lends_ref` of `Denote/Lend.antt` lends, and back
---     back_shr               after it was lent as a `&κ' [T]` (`lends_shr_slice` of that file): the row comes back unchanged
+--     lend_shr, back_shr     as a `&κ' [T]`: the row comes back unchanged
 -- n is the length that the machine holds; the lent list has the same length.
 -- Assumes `Logic`.
 use Rattle.std.specs.Prelude.{◌≡◌, refl, ℕ, List, [], ◌∷◌, ◌++◌, length}
@@ -11,16 +11,18 @@ use base.Fraction.{full_share}
 use mir.Syntax.{Lifetime}
 use mir.Val.{Val}
 use base.Logic.{SProp, ent, sep, ex, via, id⊢}
-use base.Fml.{Lft, GName, Fml, fsep, fdead, flent}
-use types.Logic.{Logic, sem}
-use types.Kit.{‵, later, ◌$◌, ◌∵◌, !, qed, by, use1, use2, use3, split, join, ◌⊛◌, drop, fsplit, fjoin, fpack, feq_i, await, updating, now as at_once, done}
+use base.Fml.{Lft, GName, Fml, fsep, fdead, flent, Incl}
+use types.Logic.{Logic, sem, lfts}
+use ghost.Rules.{Toks, span}
+use types.Kit.{‵, raw, later, ◌$◌, ◌∵◌, !, qed, by, use1, use2, use3, split, join, ◌⊛◌, drop, fsplit, fjoin, fpack, feq_i, await, updating, now as at_once, done}
 use types.Tokens.{lent_back}
 use types.SemTy.{cells, Arr}
 use types.Share.{arr_parts}
 use Rattle.std.specs.Borrow.{RattleType, MutBor}
-use denote.Memory.{mem, shares, cell_at, part_of}
-use denote.Slice.{slice_val, MutSlice, Room, finally}
-use denote.Lend.{Held, lends_slice, slice_back}
+use denote.Memory.{mem, shares, shared_of, cell_at, part_of}
+use denote.Slice.{slice_val, MutSlice, ShrSlice, Room, finally}
+use denote.Lend.{Held, lends_slice, slice_back, lends_shr_slice}
+use denote.Shares.{SharesAsFrom}
 use denote.Index.{row, whole_out, whole_in}
 use borrow.Table.Elements.{at, cut_app, join_app}
 
@@ -68,6 +70,23 @@ module _ {M : Type 1} {𝓤 : Ura M} (𝓛 : Logic 𝓤) (R : RattleType) (ℓ :
 
   abbrev pub Part : List R.Denot → Fml
   Part ys = (arr_parts (shares R) (length ys)).part full_share ys b o
+
+  abbrev LentShrs : ℕ → List R.Denot → SProp 𝓤
+  LentShrs n ys = sep 𝓤 (sem 𝓛 ((ShrSlice ℓ κ' R).own_val (record { ref_ptr = (b, o); now = ys }) (vals n))) (A.lent κ' (Part ys))
+
+  -- with tokens ts whose lifetimes' meet is within l, for which R is shared out, and within κ'
+  pub lend_shr : (ys : List R.Denot) → Room R (length ys) → (l : Lft) → SharesAsFrom 𝓛 full_share R (shared_of R) l → (ts : Toks) → Incl (span ts) l
+      → Incl (span ts) κ' → ent 𝓤 (sep 𝓤 (sem 𝓛 (row R full_share ys b o)) (lfts 𝓛 ts)) (H.⇛ (sep 𝓤 (LentShrs (length ys) ys) (lfts 𝓛 ts)))
+  lend_shr ys g l s ts inc sp =
+      qed 𝓛 (‵ (row R full_share ys b o) ∷ raw (lfts 𝓛 ts) ∷ []) ∵ feq_i ! ℕ (length ys) (length ys) refl $ fjoin ! $ join ! $
+      by ! (lends_shr_slice 𝓛 R ℓ κ' full_share ys b o g l s ts inc sp)
+
+  -- the same, where n is the length that the machine holds
+  pub lend_shr_at : (n : ℕ) (ys : List R.Denot) → length ys ≡ n → Room R n → (l : Lft) → SharesAsFrom 𝓛 full_share R (shared_of R) l → (ts : Toks)
+      → Incl (span ts) l → Incl (span ts) κ' → ent 𝓤 (sep 𝓤 (sem 𝓛 (row R full_share ys b o)) (lfts 𝓛 ts)) (H.⇛ (sep 𝓤 (LentShrs n ys) (lfts 𝓛 ts)))
+  lend_shr_at n ys e h l s ts inc sp =
+      subst (λ (m : ℕ). Room R m → ent 𝓤 (sep 𝓤 (sem 𝓛 (row R full_share ys b o)) (lfts 𝓛 ts)) (H.⇛ (sep 𝓤 (LentShrs m ys) (lfts 𝓛 ts))))
+      e (λ g. lend_shr ys g l s ts inc sp) h
 
   pub back_shr : (ys : List R.Denot) → ent 𝓤 (sep 𝓤 (A.dead κ') (sem 𝓛 (flent κ' (Part ys)))) (H.⇛ (sem 𝓛 (row R full_share ys b o)))
   back_shr ys = qed 𝓛 (‵ (fdead κ') ∷ ‵ (flent κ' (Part ys)) ∷ []) ∵ updating ! $ lent_back ! tt $ fsplit ! $ drop ! $ at_once ! $ done !

@@ -5,9 +5,9 @@ use borrow.Rule.Slice.PartMut.{put_mid, post_of}
 use lib.Seq.{take-add, take-append-le}
 
 -- what stands in a file up to n, and the m bytes that were then put after it, are the first n + m bytes
-pub take-put_mid_more : (n k m : ℕ) (file part : List ℕ) → n ≤ length file → m ≤ length part
+pub take_put_mid_more : (n k m : ℕ) (file part : List ℕ) → n ≤ length file → m ≤ length part
     → take n file ++ take m part ≡ take (n + m) (put_mid n k file part)
-take-put_mid_more n k m file part within fits =
+take_put_mid_more n k m file part within fits =
     let new = put_mid n k file part in
     let front : take n new ≡ take n file = take-put_mid_below _ _ _ _ _ (le_refl _) within in
     let after : take m (drop n new) ≡ take m part =

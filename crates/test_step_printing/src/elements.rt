@@ -4,6 +4,7 @@ ghost use Rattle.std.specs.Prelude.{◌+◌, ◌≤◌, ◌<◌};
 ghost use Rattle.setup.specs.Limits.{SLOTS};
 ghost use Rattle.state_words.specs.Fields.{WORDS, VALUES};
 
+use crate::lines::{end, number, spaced, text};
 use setup::limits;
 use state_words::{CLIENT_OBJECTS, Values, Words, pass};
 use std::io;
@@ -18,16 +19,22 @@ pub enum Row {
 
 fn place(rt: &impl Print, row: Row, i: usize) -> io::Result<()> {
     match row {
-        Row::One => print!(rt; " {i}"),
-        Row::Volumes => print!(rt; " {} {}", i / limits::VOLUMES, i % limits::VOLUMES),
-        Row::Objects => print!(rt; " {} {}", i / limits::SLOTS, i % limits::SLOTS),
+        Row::One => spaced(rt, i as u64),
+        Row::Volumes => {
+            spaced(rt, (i / limits::VOLUMES) as u64)?;
+            spaced(rt, (i % limits::VOLUMES) as u64)
+        }
+        Row::Objects => {
+            spaced(rt, (i / limits::SLOTS) as u64)?;
+            spaced(rt, (i % limits::SLOTS) as u64)
+        }
     }
 }
 
 fn element(
     rt: &impl Print,
-    prefix: &str,
-    name: &str,
+    prefix: &[u8],
+    name: &[u8],
     row: Row,
     i: usize,
     before: u64,
@@ -36,15 +43,17 @@ fn element(
     if before == after {
         return Ok(());
     }
-    print!(rt; "{prefix}{name}")?;
+    text(rt, prefix)?;
+    text(rt, name)?;
     place(rt, row, i)?;
-    println!(rt; ": {after}")
+    number(rt, b": ", after)?;
+    end(rt)
 }
 
 fn word(
     rt: &impl Print,
-    prefix: &str,
-    name: &str,
+    prefix: &[u8],
+    name: &[u8],
     row: Row,
     i: usize,
     before: u32,
@@ -56,8 +65,8 @@ fn word(
 // Prints the changes among `count` words from `from` on.
 pub fn words(
     rt: &impl Print,
-    prefix: &str,
-    name: &str,
+    prefix: &[u8],
+    name: &[u8],
     row: Row,
     from: usize,
     count: usize,
@@ -81,8 +90,8 @@ fn member(set: u32, client: usize) -> u32
 // Prints the changes among the clients in the sets from `from` on, one per object.
 pub fn members(
     rt: &impl Print,
-    prefix: &str,
-    name: &str,
+    prefix: &[u8],
+    name: &[u8],
     from: usize,
     before: &Words,
     after: &Words,
@@ -108,8 +117,8 @@ pub fn members(
 // Prints the changes among the values from `from` on, one per object.
 pub fn values(
     rt: &impl Print,
-    prefix: &str,
-    name: &str,
+    prefix: &[u8],
+    name: &[u8],
     from: usize,
     before: &Values,
     after: &Values,

@@ -16,17 +16,17 @@ use std::io;
 // Prints what changed in a state, each line after the prefix; of a saved one first whether it is there.
 fn state<'a, 'b>(
     rt: &impl Print,
-    prefix: &str,
+    prefix: &[u8],
     before: &'a Words,
     values_before: &'a Values,
     after: &'b Words,
     values_after: &'b Values,
 ) -> io::Result<()> {
-    one(rt, prefix, "there: ", before[SAVED], after[SAVED])?;
+    one(rt, prefix, b"there: ", before[SAVED], after[SAVED])?;
     one(
         rt,
         prefix,
-        "clock: ",
+        b"clock: ",
         before[network::CLOCK],
         after[network::CLOCK],
     )?;
@@ -36,7 +36,7 @@ fn state<'a, 'b>(
     one(
         rt,
         prefix,
-        "messages: ",
+        b"messages: ",
         before[network::LENGTH],
         after[network::LENGTH],
     )?;
@@ -53,7 +53,7 @@ pub fn show<'a, 'b>(
     after: &'b Words,
     values_after: &'b Values,
 ) -> io::Result<()> {
-    state(rt, "  ", before, values_before, after, values_after)
+    state(rt, b"  ", before, values_before, after, values_after)
 }
 
 // Prints what changed in the saved states.
@@ -66,7 +66,7 @@ pub fn show_saved<'a, 'b>(
 ) -> io::Result<()> {
     state(
         rt,
-        "  saved 0 ",
+        b"  saved 0 ",
         &before[0],
         &values_before[0],
         &after[0],
@@ -74,7 +74,7 @@ pub fn show_saved<'a, 'b>(
     )?;
     state(
         rt,
-        "  saved 1 ",
+        b"  saved 1 ",
         &before[1],
         &values_before[1],
         &after[1],
@@ -82,7 +82,7 @@ pub fn show_saved<'a, 'b>(
     )?;
     state(
         rt,
-        "  saved 2 ",
+        b"  saved 2 ",
         &before[2],
         &values_before[2],
         &after[2],
@@ -90,7 +90,7 @@ pub fn show_saved<'a, 'b>(
     )?;
     state(
         rt,
-        "  saved 3 ",
+        b"  saved 3 ",
         &before[3],
         &values_before[3],
         &after[3],

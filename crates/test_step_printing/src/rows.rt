@@ -1,5 +1,5 @@
 // Prints a line for each message and each client record, lent or not, that a step changed.
-use crate::lines::fields;
+use crate::lines::{fields, text};
 use message_fields::Fields;
 use protocol::message::Message;
 use protocol::records::{Copy, Request};
@@ -24,7 +24,7 @@ fn same_fields(before: Fields, after: Fields) -> bool {
 
 fn message(
     rt: &impl Print,
-    prefix: &str,
+    prefix: &[u8],
     i: usize,
     before: Message,
     after: Message,
@@ -34,13 +34,14 @@ fn message(
     if same_fields(fields_before, fields_after) {
         return Ok(());
     }
-    print!(rt; "{prefix}message {i}:")?;
+    text(rt, prefix)?;
+    print!(rt; "message {i}:")?;
     fields(rt, fields_after)
 }
 
 pub fn messages(
     rt: &impl Print,
-    prefix: &str,
+    prefix: &[u8],
     before: &Words,
     values_before: &Values,
     after: &Words,
@@ -60,19 +61,20 @@ fn same_copy(before: Copy, after: Copy) -> bool {
         & (before.expiry == after.expiry)
 }
 
-fn copy(rt: &impl Print, prefix: &str, i: usize, before: Copy, after: Copy) -> io::Result<()> {
+fn copy(rt: &impl Print, prefix: &[u8], i: usize, before: Copy, after: Copy) -> io::Result<()> {
     if same_copy(before, after) {
         return Ok(());
     }
+    text(rt, prefix)?;
     println!(rt;
-        "{prefix}copy {i}: version {}, value {}, expiry {}",
+        "copy {i}: version {}, value {}, expiry {}",
         after.version, after.value, after.expiry
     )
 }
 
 pub fn copies<'a, 'b>(
     rt: &impl Print,
-    prefix: &str,
+    prefix: &[u8],
     before: &'a Words,
     values_before: &'a Values,
     after: &'b Words,
@@ -104,7 +106,7 @@ fn stands(standing: bool) -> &'static str {
 
 fn request(
     rt: &impl Print,
-    prefix: &str,
+    prefix: &[u8],
     i: usize,
     before: Request,
     after: Request,
@@ -112,8 +114,9 @@ fn request(
     if same_request(before, after) {
         return Ok(());
     }
+    text(rt, prefix)?;
     println!(rt;
-        "{prefix}request {i}: next {}, {}, number {}, object {}",
+        "request {i}: next {}, {}, number {}, object {}",
         after.next,
         stands(after.standing),
         after.number,
@@ -121,7 +124,7 @@ fn request(
     )
 }
 
-pub fn requests(rt: &impl Print, prefix: &str, before: &Words, after: &Words) -> io::Result<()> {
+pub fn requests(rt: &impl Print, prefix: &[u8], before: &Words, after: &Words) -> io::Result<()> {
     for i in 0..CLIENTS {
         let request_before = client_records::requests::request_at(before, i);
         let request_after = client_records::requests::request_at(after, i);

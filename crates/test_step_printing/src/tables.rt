@@ -1,22 +1,25 @@
 // Prints a line for each element of the tables that a step changed.
 use crate::elements::{Row, members, values, words};
+use crate::lines::{end, number, text};
 use setup::limits::{CLIENTS, SLOTS, VOLUMES};
 use state_words::{CLIENT_OBJECTS, CLIENT_VOLUMES, Values, Words, client, server};
 use std::io;
 
 // Prints a single number if it changed.
-pub fn one(rt: &impl Print, prefix: &str, name: &str, before: u32, after: u32) -> io::Result<()> {
+pub fn one(rt: &impl Print, prefix: &[u8], name: &[u8], before: u32, after: u32) -> io::Result<()> {
     if before == after {
         return Ok(());
     }
-    println!(rt; "{prefix}{name}{after}")
+    text(rt, prefix)?;
+    number(rt, name, after as u64)?;
+    end(rt)
 }
 
-pub fn volumes(rt: &impl Print, prefix: &str, before: &Words, after: &Words) -> io::Result<()> {
+pub fn volumes(rt: &impl Print, prefix: &[u8], before: &Words, after: &Words) -> io::Result<()> {
     words(
         rt,
         prefix,
-        "epoch",
+        b"epoch",
         Row::One,
         server::VOLUME_EPOCH,
         VOLUMES,
@@ -26,7 +29,7 @@ pub fn volumes(rt: &impl Print, prefix: &str, before: &Words, after: &Words) -> 
     words(
         rt,
         prefix,
-        "VE",
+        b"VE",
         Row::One,
         server::VOLUME_EXPIRY,
         VOLUMES,
@@ -36,7 +39,7 @@ pub fn volumes(rt: &impl Print, prefix: &str, before: &Words, after: &Words) -> 
     words(
         rt,
         prefix,
-        "guard",
+        b"guard",
         Row::One,
         server::GUARD,
         VOLUMES,
@@ -46,7 +49,7 @@ pub fn volumes(rt: &impl Print, prefix: &str, before: &Words, after: &Words) -> 
     words(
         rt,
         prefix,
-        "seen",
+        b"seen",
         Row::One,
         server::SEEN,
         CLIENTS,
@@ -56,7 +59,7 @@ pub fn volumes(rt: &impl Print, prefix: &str, before: &Words, after: &Words) -> 
     words(
         rt,
         prefix,
-        "volume lease",
+        b"volume lease",
         Row::Volumes,
         server::SESSION_EXPIRY,
         CLIENT_VOLUMES,
@@ -66,7 +69,7 @@ pub fn volumes(rt: &impl Print, prefix: &str, before: &Words, after: &Words) -> 
     words(
         rt,
         prefix,
-        "unreachable",
+        b"unreachable",
         Row::Volumes,
         server::UNREACHABLE,
         CLIENT_VOLUMES,
@@ -76,7 +79,7 @@ pub fn volumes(rt: &impl Print, prefix: &str, before: &Words, after: &Words) -> 
     words(
         rt,
         prefix,
-        "offer",
+        b"offer",
         Row::Volumes,
         server::OFFER,
         CLIENT_VOLUMES,
@@ -86,7 +89,7 @@ pub fn volumes(rt: &impl Print, prefix: &str, before: &Words, after: &Words) -> 
     words(
         rt,
         prefix,
-        "notes",
+        b"notes",
         Row::Volumes,
         server::NOTES,
         CLIENT_VOLUMES,
@@ -96,7 +99,7 @@ pub fn volumes(rt: &impl Print, prefix: &str, before: &Words, after: &Words) -> 
     words(
         rt,
         prefix,
-        "batch",
+        b"batch",
         Row::Volumes,
         server::BATCH,
         CLIENT_VOLUMES,
@@ -107,7 +110,7 @@ pub fn volumes(rt: &impl Print, prefix: &str, before: &Words, after: &Words) -> 
 
 pub fn objects(
     rt: &impl Print,
-    prefix: &str,
+    prefix: &[u8],
     before: &Words,
     values_before: &Values,
     after: &Words,
@@ -116,7 +119,7 @@ pub fn objects(
     values(
         rt,
         prefix,
-        "value",
+        b"value",
         server::VALUE,
         values_before,
         values_after,
@@ -124,7 +127,7 @@ pub fn objects(
     words(
         rt,
         prefix,
-        "version",
+        b"version",
         Row::One,
         server::VERSION,
         SLOTS,
@@ -134,7 +137,7 @@ pub fn objects(
     words(
         rt,
         prefix,
-        "OE",
+        b"OE",
         Row::One,
         server::OBJECT_EXPIRY,
         SLOTS,
@@ -144,7 +147,7 @@ pub fn objects(
     words(
         rt,
         prefix,
-        "standing",
+        b"standing",
         Row::One,
         server::STANDING,
         SLOTS,
@@ -154,7 +157,7 @@ pub fn objects(
     values(
         rt,
         prefix,
-        "pending",
+        b"pending",
         server::PENDING,
         values_before,
         values_after,
@@ -162,7 +165,7 @@ pub fn objects(
     words(
         rt,
         prefix,
-        "end",
+        b"end",
         Row::One,
         server::END,
         SLOTS,
@@ -172,21 +175,21 @@ pub fn objects(
     words(
         rt,
         prefix,
-        "object lease",
+        b"object lease",
         Row::Objects,
         server::LEASE,
         CLIENT_OBJECTS,
         before,
         after,
     )?;
-    members(rt, prefix, "waiting", server::WAITING, before, after)
+    members(rt, prefix, b"waiting", server::WAITING, before, after)
 }
 
-pub fn views(rt: &impl Print, prefix: &str, before: &Words, after: &Words) -> io::Result<()> {
+pub fn views(rt: &impl Print, prefix: &[u8], before: &Words, after: &Words) -> io::Result<()> {
     words(
         rt,
         prefix,
-        "known epoch",
+        b"known epoch",
         Row::Volumes,
         client::VIEW_EPOCH,
         CLIENT_VOLUMES,
@@ -196,7 +199,7 @@ pub fn views(rt: &impl Print, prefix: &str, before: &Words, after: &Words) -> io
     words(
         rt,
         prefix,
-        "known expiry",
+        b"known expiry",
         Row::Volumes,
         client::VIEW_EXPIRY,
         CLIENT_VOLUMES,
