@@ -16,6 +16,9 @@ import re
 import subprocess
 import sys
 
+sys.dont_write_bytecode = True
+from respell import files
+
 CRATES = ("protocol", "promises", "any_network", "bytes_layout", "frame_places", "message_fields", "state_words", "step_numbers")
 # A plain declaration is a definition if its value is of one of these, or of a type of src/.
 VALUES = {"ℕ", "Bool", "List", "Type", "World", "Machine", "Event", "Fleet", "Move"}
@@ -471,14 +474,6 @@ def append(path, top, mods, uses, body):
 
 
 # ---- who names them
-
-
-def files(ends):
-    for folder, dirs, names in os.walk("crates"):
-        dirs[:] = sorted(d for d in dirs if d != "out")
-        for name in sorted(names):
-            if name.endswith(ends):
-                yield os.path.join(folder, name)
 
 
 def declared():

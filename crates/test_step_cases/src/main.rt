@@ -80,25 +80,36 @@ fn performed(
     )
 }
 
-// Performs steps, whose number was read, each on what the one before it left.
+// Reads the number of steps of a case, whose own number was read: it stands after the changes.
+fn steps_of(bytes: &[u8], id: Found) -> Found {
+    let changes = test_case_reader::text::number(bytes, id.next);
+    let at = test_case_reader::text::after(
+        bytes,
+        changes.next,
+        test_case_reader::text::threefold(changes.value),
+    );
+    test_case_reader::text::number(bytes, at)
+}
+
+// Performs the steps of a case, each on what the one before it left.
 fn taken(
     rt: &impl Print,
     bytes: &[u8],
-    steps: Found,
-    id: u64,
+    id: Found,
     case: Case,
     words: &mut Words,
     values: &mut Values,
     saved: &mut SavedWords,
     saved_values: &mut SavedValues,
 ) -> io::Result<()> {
+    let steps = steps_of(bytes, id);
     let mut at = steps.next;
     for _ in 0..steps.value {
         let step = test_case_reader::text::step(bytes, at);
         performed(
             rt,
             step,
-            id,
+            id.value,
             case,
             &mut *words,
             &mut *values,
@@ -122,12 +133,6 @@ fn case(
     saved_values: &SavedValues,
 ) -> io::Result<usize> {
     let changes = test_case_reader::text::number(bytes, id.next);
-    let steps_at = test_case_reader::text::after(
-        bytes,
-        changes.next,
-        test_case_reader::text::threefold(changes.value),
-    );
-    let steps = test_case_reader::text::number(bytes, steps_at);
     let mut words = *words;
     let mut values = *values;
     let mut saved = *saved;
@@ -144,14 +149,14 @@ fn case(
     taken(
         rt,
         bytes,
-        steps,
-        id.value,
+        id,
         case,
         &mut words,
         &mut values,
         &mut saved,
         &mut saved_values,
     )?;
+    let steps = steps_of(bytes, id);
     let half = test_case_reader::text::threefold(steps.value);
     let halfway = test_case_reader::text::after(bytes, steps.next, half);
     Ok(test_case_reader::text::after(bytes, halfway, half))
