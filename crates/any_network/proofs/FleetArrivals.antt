@@ -1,12 +1,11 @@
 -- A message arrives: in the net by 01's step 5, in the fleet at the half that it is for. The fleet still represents the net.
 -- Letters: those of Represents; d is the client, k a message's kind, a the set of a BATCH.
-use Rattle.std.specs.Prelude.{ℕ, ◌+◌, ◌*◌, ◌<◌, Bool, true, false, cond, [], ◌∷◌, ◌≡◌, refl, ltb, set}
+use Rattle.std.specs.Prelude.{ℕ, ◌+◌, ◌*◌, ◌<◌, Bool, true, false, cond, [], ◌∷◌, ◌≡◌, refl, ltb, set, Option}
 use Rattle.std.proofs.Common.{ap, ◌∙◌}
 use Rattle.std.proofs.lemmas.List.{set-get_or}
 use Rattle.laws.specs.Choice.{cond_keeps}
 use Rattle.laws.specs.Lists.{remove_at}
 use Rattle.protocol.specs.declared.message.Message.{Message}
-use Rattle.protocol.specs.declared.message.Payload.{Payload}
 use Rattle.protocol.specs.declared.message.Kind.{Kind}
 use Rattle.protocol.specs.declared.message.Kind.TheVariants.{Renew, Grant, Invalidate, Ack, Offer, Dropped, Batch, Cleared}
 use Rattle.protocol.specs.declared.records.Copy.{Copy}
@@ -113,7 +112,7 @@ module _ (s : Setup) (i : in_range s ≡ true) (n : Net) (f : Fleet) (r : Repres
   same_stands : (m : ℕ) → stands asking m ≡ stands c.request m
   same_stands m = ap (λ (q : Request). stands q m) (r.clients d hd).request
 
-  grant_arrives : (o m x e v y : ℕ) (p : Payload) → o < s.objects → (b : Bool)
+  grant_arrives : (o m x e v y : ℕ) (p : Option ℕ) → o < s.objects → (b : Bool)
       → Arrives (Grant o m x e v y p) (cond b (takes (grant_stored (copy_at s w.copies d o) v y p) (with_views t (viewed t.views d (volume_of s o) e x))) (takes kept t))
       (by_client f d (cond b (quietly (client_granted s c o x e (filled (copy_in c o) v y p))) (quietly c)))
   grant_arrives o m x e v y p ho true =

@@ -1,7 +1,7 @@
 -- 02, A4: "in every run from fresh tables, a matching GRANT without a value always meets a dash that holds its version". So 01's test of it changes no run.
 -- Letters: s setup, w world, x a step, xs steps, t tables, c copy, d client, o object, k a kind of message; of a GRANT n is the number, e the epoch, ver the
 -- version, p and q the volume and object expiry.
-use Rattle.std.specs.Prelude.{ℕ, true, List, [], ◌∷◌, ◌≡◌}
+use Rattle.std.specs.Prelude.{ℕ, true, List, [], ◌∷◌, ◌≡◌, None, Some}
 use Rattle.std.proofs.Math.Logic.{⊎_elim}
 use Rattle.std.proofs.Math.Path.{refl}
 use Rattle.std.proofs.Common.{sym, ap}
@@ -10,7 +10,6 @@ use Rattle.laws.specs.Choice.{cond_keeps, true_or_false, not_both, and-true}
 use Rattle.laws.specs.Line.{OfEach}
 use Rattle.protocol.specs.declared.message.Kind.{Kind}
 use Rattle.protocol.specs.declared.message.Kind.TheVariants.{Renew, Grant, Invalidate, Ack, Offer, Dropped, Batch, Cleared}
-use Rattle.protocol.specs.declared.message.Payload.TheVariants.{Same, Value}
 use Rattle.protocol.specs.declared.setup.Setup.{Setup}
 use Rattle.protocol.specs.declared.step.Answer.{Answer}
 use Rattle.protocol.specs.declared.step.Decision.{Decision}
@@ -46,9 +45,9 @@ module _ (s : Setup) (w : World) (inv : Inv s w) where
       → by_client kept t ≡ received s t (copy_at s w.copies d (object_of k)) (request_at w.requests d) d k
   unfolding received grant_received
   nothing_received t d (Renew o n e ver) z a = not_both a refl
-  nothing_received t d (Grant o n p e ver q Same) z a =
+  nothing_received t d (Grant o n p e ver q None) z a =
       ⊎_elim (λ b. not_both (eq-eqb _ ver (grants_meet d o n p e ver q z b).0) (not-true _ a)) (λ b. rw b) (true_or_false (stands (request_at w.requests d) n))
-  nothing_received t d (Grant o n p e ver q (Value y)) z a = not_both a refl
+  nothing_received t d (Grant o n p e ver q (Some y)) z a = not_both a refl
   nothing_received t d (Invalidate o e ver) z a = not_both a refl
   nothing_received t d (Ack o e ver) z a = not_both a refl
   nothing_received t d (Offer v n e) z a = not_both a refl

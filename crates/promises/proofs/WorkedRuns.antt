@@ -1,5 +1,5 @@
 -- Four runs worked through by computation. Every message is delivered, and lost, from place 0.
-use Rattle.std.specs.Prelude.{true, false, [], ◌∷◌, ◌++◌, map, ◌≡◌, refl}
+use Rattle.std.specs.Prelude.{true, false, [], ◌∷◌, ◌++◌, map, ◌≡◌, refl, None}
 use Rattle.laws.specs.Loop.{fold_from, any_from, all_from, first_from, count_from}
 use Rattle.laws.specs.Lists.{remove_at}
 use Rattle.laws.specs.Store.{store_each}
@@ -7,7 +7,6 @@ use Rattle.laws.specs.Greatest.{greatest}
 use Rattle.laws.specs.Sets.{bit_at, set_of, added, less, all_in}
 use Rattle.laws.specs.Sets as sets
 use Rattle.protocol.specs.declared.message.Kind.TheVariants.{Grant, Batch, Cleared}
-use Rattle.protocol.specs.declared.message.Payload.TheVariants.{Same}
 use Rattle.protocol.specs.Setup.{in_range, objects_in}
 use Rattle.protocol.specs.Messages.{message, pushed, removed}
 use Rattle.protocol.specs.Tables.{fresh_tables}
@@ -53,8 +52,8 @@ never_held = (refl, refl, refl)
 -- ---- 02, A4: "a matching GRANT without a value"
 
 -- the GRANT meets the version that it names; once the client has restarted, its number stands no more and no copy is there
-pub asked_again_law : (met (ran tiny (fresh_world tiny) asked_again) ≡ (1, message 0 (Grant 0 3 10 1 1 100 Same), 1, true))
-    × (met (ran tiny (fresh_world tiny) (asked_again ++ (step 9 0 0 0 ∷ []))) ≡ (1, message 0 (Grant 0 3 10 1 1 100 Same), 0, false))
+pub asked_again_law : (met (ran tiny (fresh_world tiny) asked_again) ≡ (1, message 0 (Grant 0 3 10 1 1 100 None), 1, true))
+    × (met (ran tiny (fresh_world tiny) (asked_again ++ (step 9 0 0 0 ∷ []))) ≡ (1, message 0 (Grant 0 3 10 1 1 100 None), 0, false))
 unfolding asked_again tiny ran step fold_from all_from first_from remove_at store_each in_range objects_in bit_at set_of sets.removed added less all_in pushed removed fresh_tables ready settled noted offered batched lowest_waited volume_renewed object_renewed granted must_drop renewed_by renewed drop_taken disowned dropped drop_staged stands swept swept_all queue_sound tables_sound copies_sound requests_sound sound known exists timely vacant growable refusal_of_step refusal grant_received offer_received received ask_decided deliver_decided restart_decided performed decided target decision stepped
 asked_again_law = (refl, refl)
 

@@ -1,10 +1,9 @@
 -- 02, A4: "in every run from fresh tables, a matching GRANT without a value always meets a dash that holds its version". So 01's test of it changes no run.
 -- Letters: s setup, w world, x a step, xs steps, t tables, c copy, d client, o object, k a kind of message; of a GRANT n is the number, e the epoch, ver the
 -- version, p and q the volume and object expiry.
-use Rattle.std.specs.Prelude.{ℕ, ◌≤◌, Bool, true, false, cond, not, ◌&&◌, List, [], ◌∷◌, ◌≡◌, eqb}
+use Rattle.std.specs.Prelude.{ℕ, ◌≤◌, Bool, true, false, cond, not, ◌&&◌, List, [], ◌∷◌, ◌≡◌, eqb, None, Some}
 use Rattle.protocol.specs.declared.message.Kind.{Kind}
 use Rattle.protocol.specs.declared.message.Kind.TheVariants.{Renew, Grant, Invalidate, Ack, Offer, Dropped, Batch, Cleared}
-use Rattle.protocol.specs.declared.message.Payload.TheVariants.{Same, Value}
 use Rattle.protocol.specs.declared.records.Copy.{Copy}
 use Rattle.protocol.specs.declared.setup.Setup.{Setup}
 use Rattle.protocol.specs.declared.step.Answer.{Answer}
@@ -23,7 +22,7 @@ use Rattle.protocol.specs.Safety.Invariant.{Sent, from}
 -- "a matching GRANT without a value always meets a dash that holds its version": in the list, its number standing; version 0 is no copy
 abbrev pub GrantsMeet : Setup → World → Type 0
 GrantsMeet s w =
-    (d o n p e ver q : ℕ) → Sent w.tables.queue (from d (Grant o n p e ver q Same)) → stands (request_at w.requests d) n ≡ true
+    (d o n p e ver q : ℕ) → Sent w.tables.queue (from d (Grant o n p e ver q None)) → stands (request_at w.requests d) n ≡ true
     → ((copy_at s w.copies d o).version ≡ ver) × (1 ≤ ver)
 
 -- ---- the old rule
@@ -31,8 +30,8 @@ GrantsMeet s w =
 -- 01, GRANT: "Without a value and with another version held: nothing."
 abbrev pub formerly_ignored : Copy → Kind → Bool
 formerly_ignored c (Renew o n e ver) = false
-formerly_ignored c (Grant o n p e ver q Same) = not (eqb c.version ver)
-formerly_ignored c (Grant o n p e ver q (Value a)) = false
+formerly_ignored c (Grant o n p e ver q None) = not (eqb c.version ver)
+formerly_ignored c (Grant o n p e ver q (Some a)) = false
 formerly_ignored c (Invalidate o e ver) = false
 formerly_ignored c (Ack o e ver) = false
 formerly_ignored c (Offer v n e) = false

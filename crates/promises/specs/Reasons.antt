@@ -1,4 +1,5 @@
 -- 02, A8: why a read is answered "ask first".
+pub mod Numbers
 pub mod Events
 pub mod Reason
 pub mod Worth

@@ -1,13 +1,11 @@
 -- 01, "Steps" and "Messages received" of a client, and its restart.
 -- c is a copy, r the request and u the views of the client d; in a message n is the number, e the epoch, w the version, x the volume expiry, y the
 -- object expiry, p the payload and m the set.
-use Rattle.std.specs.Prelude.{ℕ, ◌+◌, ◌-◌, ◌<◌, Bool, true, false, cond, not, ◌&&◌, List, eqb, get_or, set}
+use Rattle.std.specs.Prelude.{ℕ, ◌+◌, ◌-◌, ◌<◌, Bool, true, false, cond, not, ◌&&◌, List, eqb, get_or, set, Option, None, Some}
 use Rattle.laws.specs.Loop.{fold_from}
 use Rattle.laws.specs.Sets.{bit_at}
 use Rattle.laws.specs.Store.{store_each, always}
 use Rattle.protocol.specs.declared.message.Message.{Message}
-use Rattle.protocol.specs.declared.message.Payload.{Payload}
-use Rattle.protocol.specs.declared.message.Payload.TheVariants.{Same, Value}
 use Rattle.protocol.specs.declared.message.Kind.TheVariants.{Renew}
 use Rattle.protocol.specs.declared.records.Copy.{Copy}
 use Rattle.protocol.specs.declared.records.Request.{Request}
@@ -74,16 +72,16 @@ viewed u d v e x = set_view_expiry (set_view_epoch u d v e) d v x
 -- ---- GRANT
 
 -- 02, A4: "A GRANT without a value .. keeps the value held."
-abbrev pub payload_or : ℕ → Payload → ℕ
-payload_or held Same = held
-payload_or held (Value a) = a
+abbrev pub payload_or : ℕ → Option ℕ → ℕ
+payload_or held None = held
+payload_or held (Some a) = a
 
 -- "store its fields": version w and object expiry y
-abbrev pub filled : Copy → ℕ → ℕ → Payload → Copy
+abbrev pub filled : Copy → ℕ → ℕ → Option ℕ → Copy
 filled c w y p = record { version = w; value = payload_or c.value p; expiry = y }
 
 -- what becomes of the client's records: "store its fields .. and end the request". 02, A4: "A GRANT without a value now always stores its other fields"
-abbrev pub grant_stored : Copy → ℕ → ℕ → Payload → Change
+abbrev pub grant_stored : Copy → ℕ → ℕ → Option ℕ → Change
 grant_stored c w y p = record { copy = copy.Fill (filled c w y p); request = request.End; sweep = Keep }
 
 -- ---- INVALIDATE: "forget a standing request for that object"

@@ -2,9 +2,8 @@
 -- Letters: s setup, t tables, c the copy, r the request, d client, o object, v volume, i a place in the message list, m a message or a set, n the number, e
 -- epoch, w version, x and y a GRANT's volume and object expiry, p its payload; g a change or what is received, a an answer, k a refusal; of a step, x is
 -- the step.
-use Rattle.std.specs.Prelude.{ℕ, Bool, cond, eqb}
+use Rattle.std.specs.Prelude.{ℕ, Bool, cond, eqb, Option}
 use Rattle.protocol.specs.declared.message.Message.{Message}
-use Rattle.protocol.specs.declared.message.Payload.{Payload}
 use Rattle.protocol.specs.declared.message.Kind.{Kind}
 use Rattle.protocol.specs.declared.message.Kind.TheVariants.{Renew, Grant, Invalidate, Ack, Offer, Dropped, Batch, Cleared}
 use Rattle.protocol.specs.declared.records.Copy.{Copy}
@@ -49,7 +48,7 @@ abbrev pub by_client : Change → Tables → Received
 by_client g t = record { change = g; counted = uncounted t }
 
 -- GRANT: "needs the standing number, else nothing", and then "store its fields, epoch too, and end the request"
-unfoldable pub grant_received : Setup → Tables → Copy → Request → ℕ → ℕ → ℕ → ℕ → ℕ → ℕ → ℕ → Payload → Received
+unfoldable pub grant_received : Setup → Tables → Copy → Request → ℕ → ℕ → ℕ → ℕ → ℕ → ℕ → ℕ → Option ℕ → Received
 grant_received s t c r d o n x e w y p =
     cond (stands r n) (by_client (grant_stored c w y p) (with_views t (viewed t.views d (volume_of s o) e x))) (by_client kept t)
 

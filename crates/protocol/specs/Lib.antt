@@ -10,6 +10,7 @@ pub mod Client
 pub mod Sound
 pub mod SoundLaws
 pub mod Answers
+pub mod Refusals
 pub mod Gate
 pub mod Decide
 pub mod World

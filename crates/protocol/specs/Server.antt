@@ -1,12 +1,10 @@
 -- 01, "Messages received" by the server, and its restart.
 -- Letters: s setup, t tables, d client, o object, v volume; of a message m, n number, e epoch, w version; m is a set too.
-use Rattle.std.specs.Prelude.{ℕ, ◌+◌, Bool, false, cond, not, ◌&&◌, ◌||◌, ltb, leb, eqb}
+use Rattle.std.specs.Prelude.{ℕ, ◌+◌, Bool, false, cond, not, ◌&&◌, ◌||◌, ltb, leb, eqb, Option, None, Some}
 use Rattle.laws.specs.Loop.{first_from}
 use Rattle.laws.specs.Sets.{bit_at, less, removed}
 use Rattle.laws.specs.Store.{store_each, always}
 use Rattle.protocol.specs.declared.message.Message.{Message}
-use Rattle.protocol.specs.declared.message.Payload.{Payload}
-use Rattle.protocol.specs.declared.message.Payload.TheVariants.{Same, Value}
 use Rattle.protocol.specs.declared.message.Kind.TheVariants.{Grant, Offer, Batch}
 use Rattle.protocol.specs.declared.setup.Setup.{Setup}
 use Rattle.protocol.specs.declared.tables.Volumes.{Volumes}
@@ -71,8 +69,8 @@ object_renewed s t d o =
 abbrev pub same_version : Tables → ℕ → ℕ → Bool
 same_version t o w = eqb (version_at t o) w
 
-abbrev pub payload_for : Tables → ℕ → ℕ → Payload
-payload_for t o w = cond (same_version t o w) Same (Value (value_at t o))
+abbrev pub payload_for : Tables → ℕ → ℕ → Option ℕ
+payload_for t o w = cond (same_version t o w) None (Some (value_at t o))
 
 -- "send GRANT"
 abbrev pub granting : Setup → Tables → ℕ → ℕ → ℕ → ℕ → Message

@@ -3,6 +3,7 @@
 
 pub mod message;
 pub mod records;
+pub mod refusal;
 pub mod setup;
 pub mod step;
 pub mod tables;

@@ -1,10 +1,3 @@
-// A GRANT's value is there, or the client holds it already (01, "Messages received").
-#[derive(Clone, Copy)]
-pub enum Payload {
-    Same,
-    Value(u64),
-}
-
 // The eight kinds, in the order of their numbers in a frame, each with its own fields (01, "Frame, run file and listing").
 #[derive(Clone, Copy)]
 pub enum Kind {
@@ -21,7 +14,8 @@ pub enum Kind {
         epoch: u32,
         version: u32,
         object_expiry: u32,
-        payload: Payload,
+        // none if the client holds the value already (01, "Messages received")
+        payload: Option<u64>,
     },
     Invalidate {
         object: u8,
@@ -67,6 +61,7 @@ pub struct Message {
 
 // The message list: at most 64 in sending order, the first `len` of `items`. The places past `len` are free; in a run from fresh tables each holds
 // the blank message.
+// Kept: an array with a length, since only definitions use it, and theorems speak of the places past the end (`pushed` of specs/Messages.antt).
 #[derive(Clone, Copy)]
 pub struct Queue {
     pub items: [Message; 64],

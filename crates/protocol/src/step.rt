@@ -4,6 +4,7 @@ use crate::tables::Tables;
 
 // A step, by the number of its kind (01, "Steps"): 1 clock, 2 read, 3 ask, 4 write, 5 deliver, 6 lose, 7 double, 8 restart server, 9 restart client; by 02,
 // A7, 10 save and 11 return, with the name in `place`. A field that its kind does not use is not asked about.
+// Kept: the kind stays a number, since question 2 is about numbers that no kind has, and a run file keeps any byte (known_kinds::StepKind has the kinds).
 #[derive(Clone, Copy)]
 pub struct Step {
     pub kind: u8,
@@ -25,10 +26,12 @@ pub enum Answer {
     // the message that was delivered, and how many writes completed
     Delivered(Message, u32),
     // the number of the question that was answered "no"
+    // Kept: the theorems speak of this number (`answer_value` of specs/Answers.antt, `refused_with` of specs/Decide.antt); `u8::from` makes it of a `Refusal`.
     Refused(u8),
 }
 
 // What becomes of the client's request: nothing, it takes the next number for an object, or it ends.
+// Kept: three cases, so no shape of Option or Result; nor have the two types below one, with three cases and four.
 #[derive(Clone, Copy)]
 pub enum Turn {
     Keep,

@@ -1,3 +1,4 @@
+// Kept: arrays side by side, one for each field, since only definitions use these types, the theorems update one field at a time, and the words lie so.
 use crate::message::Queue;
 
 // The server's tables, per volume.

@@ -1,12 +1,12 @@
 -- The same event told by a step's answer, for whoever keeps the last event beside a run: an answer carries the message that was delivered, so that the copy
 -- before and after the step and the request before it are all that must be looked at.
 -- Letters: s setup, w world, x a step, a an answer, r a request, d client, o object, c and g the copy before and after.
-use Rattle.std.specs.Prelude.{ℕ, ◌<◌, true, false, cond, ◌≡◌, refl, eqb}
+use Rattle.std.specs.Prelude.{ℕ, ◌<◌, true, false, cond, ◌≡◌, refl, eqb, None, Some}
 use Rattle.std.proofs.Common.{arith, ap, ◌∙◌}
 use Rattle.std.proofs.Math.Logic.{⊎_elim}
 use Rattle.std.proofs.Math.Path.{sym}
 use borrow.Author.Tests.{eqb-true, ne_eqb}
-use Rattle.laws.specs.Choice.{cond_keeps, true_or_false, and-true, same?}
+use Rattle.laws.specs.Choice.{cond_keeps, true_or_false, and-true}
 use Rattle.protocol.specs.declared.records.Request.{Request}
 use Rattle.protocol.specs.declared.setup.Setup.{Setup}
 use Rattle.protocol.specs.declared.step.Answer.{Answer}
@@ -21,10 +21,13 @@ use Rattle.protocol.specs.Decide.{read_decided, ask_decided, deliver_decided, re
 use Rattle.protocol.specs.World.{World, stepped, answer_of}
 use Rattle.protocol.specs.Ledger.{accepts}
 use Rattle.protocol.specs.Soundness.StepCases.{Accepted, copy_of, request_of, records_of}
-use Rattle.protocol.proofs.Soundness.StepCases.{accepted, by_kind, performed_of, accepted_answer_law, refused_answer, clock_performed, read_performed, ask_performed, write_performed, deliver_performed, lose_performed, double_performed, server_performed, client_performed}
+use Rattle.protocol.proofs.Soundness.StepCases.{accepted, by_kind, performed_of, accepted_answer_law, refused_answer, clock_performed, read_performed, ask_performed, write_performed}
+use Rattle.protocol.proofs.Soundness.StepCases.{deliver_performed, lose_performed, double_performed, server_performed, client_performed}
 use Rattle.protocol.specs.Soundness.Question.{SoundWorld}
 use Rattle.protocol.specs.Safety.View.{copy_at, request_at}
-use Rattle.promises.specs.declared.reasons.Event.TheVariants.{Nothing, Granted, Erased}
+use Rattle.promises.specs.declared.reasons.Event.TheVariants.{Granted, Erased}
+use Rattle.promises.specs.declared.reasons.Why.{Why}
+use Rattle.promises.specs.declared.reasons.Why.TheVariants.{NoCause, NeverGranted, CopyInvalidated, LeasesDropped, ClientRestarted, VolumeLeaseRanOut, ObjectLeaseRanOut}
 use Rattle.promises.specs.Reasons.Events.{delivered_by, delivers_to, grants, invalidates, offers, restarts, erases, cause, event_of}
 use Rattle.promises.specs.Reasons.Told.{How}
 use Rattle.promises.proofs.ReasonsLaws.Told.{how}
@@ -91,9 +94,16 @@ module _ (s : Setup) (w : World) (x : Step) where
 
   cause_told : (d o : ℕ) → How s d o w x → cause w x ≡ cause_by x (answer_of s w x)
   unfolding invalidates offers
-  cause_told d o h =
-      ⊎_elim (λ e. by_delivery d (and-true _ _ (h.two e)).0) (λ n.
-      ⊎_elim (λ e. by_delivery d (and-true _ _ (h.three e)).0) (λ f. by_restart d (h.four (omega (arith, h.above, h.below, n, f)))) (same? (cause w x) 3)) (same? (cause w x) 2)
+  cause_told d o h = by_why (cause w x) refl
+    where
+      by_why : (y : Why) → cause w x ≡ y → cause w x ≡ cause_by x (answer_of s w x)
+      by_why NoCause e = let p = rw e at h.above in absurd (omega arith)
+      by_why NeverGranted e = let p = rw e at h.above in absurd (omega arith)
+      by_why CopyInvalidated e = by_delivery d (and-true _ _ (h.two e)).0
+      by_why LeasesDropped e = by_delivery d (and-true _ _ (h.three e)).0
+      by_why ClientRestarted e = by_restart d (h.four e)
+      by_why VolumeLeaseRanOut e = let p = rw e at h.below in absurd (omega arith)
+      by_why ObjectLeaseRanOut e = let p = rw e at h.below in absurd (omega arith)
 
   -- what is told by the answer is the event
   pub event_told : SoundWorld s w → (d o : ℕ) → d < s.clients → o < s.objects
@@ -106,12 +116,12 @@ module _ (s : Setup) (w : World) (x : Step) where
 
       Same : Type 0
       Same =
-          cond (grants s w x d o) Granted (cond (erases s w x d o) (Erased (cause w x)) Nothing)
-          ≡ cond (granted_by (request_at w.requests d) d o (answer_of s w x)) Granted (cond (erases s w x d o) (Erased (cause_by x (answer_of s w x))) Nothing)
+          cond (grants s w x d o) (Some Granted) (cond (erases s w x d o) (Some (Erased (cause w x))) None)
+          ≡ cond (granted_by (request_at w.requests d) d o (answer_of s w x)) (Some Granted) (cond (erases s w x d o) (Some (Erased (cause_by x (answer_of s w x)))) None)
 
       filling : grants s w x d o ≡ true → Same
       filling g = rw told (rw g)
 
       unfilled : grants s w x d o ≡ false → Same
       unfilled g =
-          rw told (rw g (⊎_elim (λ v. rw v (ap Erased (cause_told d o (how s d o hd ho w x sound g v)))) (λ v. rw v) (true_or_false (erases s w x d o))))
+          rw told (rw g (⊎_elim (λ v. rw v (ap (λ (y : Why). Some (Erased y)) (cause_told d o (how s d o hd ho w x sound g v)))) (λ v. rw v) (true_or_false (erases s w x d o))))

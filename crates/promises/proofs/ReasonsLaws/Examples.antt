@@ -10,7 +10,8 @@ use Rattle.protocol.specs.Messages.{pushed, removed}
 use Rattle.protocol.specs.Tables.{fresh_tables}
 use Rattle.protocol.specs.Leases.{server_alive, client_alive, client_clock, guard_passed, end_over}
 use Rattle.protocol.specs.Writes.{waits, latest_end, opened, awaited, notified, waited, ready, due, deserted, posted, released, completed, settled, written, clock_set, aged_in, aged, delayed, delays}
-use Rattle.protocol.specs.Server.{noted, offered, lowest_waited, volume_renewed, object_renewed, granted, must_drop, renewed_by, renewed, ack_taken, acked, ack_staged, drop_taken, disowned, dropped, drop_staged, server_restarted, notes_cleared, notes_dropped, clear_taken, batched}
+use Rattle.protocol.specs.Server.{noted, offered, lowest_waited, volume_renewed, object_renewed, granted, must_drop, renewed_by, renewed, ack_taken, acked, ack_staged, drop_taken, disowned}
+use Rattle.protocol.specs.Server.{dropped, drop_staged, server_restarted, notes_cleared, notes_dropped, clear_taken, batched}
 use Rattle.protocol.specs.Client.{showable, stands, forgotten, swept, swept_all, client_restarted}
 use Rattle.protocol.specs.Sound.{queue_sound, tables_sound, copies_sound, requests_sound, sound}
 use Rattle.protocol.specs.Gate.{known, exists, timely, vacant, growable, refusal_of_step, refusal}
@@ -21,13 +22,13 @@ use Rattle.protocol.specs.SavedEdges.{save, return}
 use Rattle.protocol.specs.Line.{entries_from}
 use Rattle.protocol.specs.Edges.{step, clock, write}
 use Rattle.promises.specs.Reasons.Events.{grants, invalidates, offers, restarts, vanished, erases, cause, event_of}
-use Rattle.promises.specs.Reasons.Reason.{asks_first, reason_of}
+use Rattle.promises.specs.Reasons.Reason.{asks_first, reason_of, reason_number, event_number}
 use Rattle.promises.specs.Reasons.Examples.{leased, asking}
 use Rattle.laws.specs.Sets as sets
 use Rattle.laws.specs.Sets.{all_in, set_of, added, less, bit_at}
 
 abbrev reason_at : ℕ → ℕ → ℕ × ℕ
-reason_at t n = ((reason_of (leased t) asking n).why, (reason_of (leased t) asking n).step)
+reason_at t n = (reason_number (reason_of (leased t) asking n), event_number (reason_of (leased t) asking n))
 
 -- with t 100 the volume lease runs out first, with t 10 both at once, with t 5 the object lease
 pub reasons_given : (map (reason_at 100) (2 ∷ 13 ∷ 17 ∷ 20 ∷ 26 ∷ 33 ∷ 35 ∷ []) ≡ (1, 0) ∷ (5, 9) ∷ (2, 16) ∷ (4, 19) ∷ (3, 25) ∷ (3, 32) ∷ (1, 0) ∷ [])

@@ -3,6 +3,7 @@
 -- Letters: s setup, l a line, u the state that it leads to, w an earlier one, d client, o object, k the last event, xs the steps of the run, n the number of the
 -- chosen one, x the chosen one, q the machine that it meets.
 use Rattle.std.specs.Prelude.{ℕ, zero, suc, ◌-◌, ◌<◌, ◌≤◌, Bool, true, false, ◌&&◌, List, [], ◌∷◌, ◌⊎◌, ◌≡◌, refl, leb, ltb, length, get_or, take}
+use Rattle.std.specs.Prelude.{Option, None, Some}
 use Rattle.std.proofs.Common.{arith, inl, inr, ⊎_elim, sym, ap, ◌∙◌, length-take, get_or-take}
 use borrow.Author.Tests.{eqb-true, ne_eqb, leb-true, leb-false, ltb-true, lt-ltb}
 use Rattle.laws.specs.Choice.{cond_keeps, true_or_false, and-true, both_true, not_both}
@@ -31,13 +32,18 @@ use Rattle.protocol.proofs.Along.{line_listed}
 use Rattle.protocol.proofs.SavedLaws.{ordinary_answer, saved_sounds, machine_sound_law, fresh_machine_sound}
 use Rattle.protocol.proofs.Demand3.{demand_3_along}
 use Rattle.promises.specs.declared.reasons.Event.{Event}
-use Rattle.promises.specs.declared.reasons.Event.TheVariants.{Nothing, Granted, Erased}
+use Rattle.promises.specs.declared.reasons.Event.TheVariants.{Granted, Erased}
+use Rattle.promises.specs.declared.reasons.Last.{Last}
+use Rattle.promises.specs.declared.reasons.Why.{Why}
+use Rattle.promises.specs.declared.reasons.Why.TheVariants.{VolumeLeaseRanOut, ObjectLeaseRanOut}
+use Rattle.promises.specs.Reasons.Numbers.{number_of}
 use Rattle.promises.specs.Reasons.Events.{grants, invalidates, offers, restarts, erases, cause, last_of}
-use Rattle.promises.specs.Reasons.Reason.{no_step, chosen, earlier, met_by, line_before, is_ask_first, asks_first, view_until, copy_until, why_by, reason_by, reason_of, Happened, Missing, Holding, Explains, Explained}
+use Rattle.promises.specs.Reasons.Reason.{no_step, chosen, earlier, met_by, line_before, is_ask_first, asks_first, view_until, copy_until, why_by, reason_by, reason_of, Happened, Missing}
+use Rattle.promises.specs.Reasons.Reason.{Holding, Explains, Explained}
 use Rattle.promises.proofs.ReasonsLaws.Worth.{at_worth, run_worth}
 use Rattle.promises.proofs.ReasonsLaws.Fates.{fills}
 use Rattle.promises.specs.Reasons.Told.{AsBefore, How}
-use Rattle.promises.proofs.ReasonsLaws.Told.{ran_parts, Erasing, TellsOf, last_tells, vanished_still, copy_in, uneventful_keeps, how}
+use Rattle.promises.proofs.ReasonsLaws.Told.{ran_parts, Erasing, TellsOf, Tells, last_tells, vanished_still, copy_in, uneventful_keeps, how}
 use Rattle.promises.specs.Reasons.Explains.{Unshown}
 
 -- ---- of two leases one is dead: the earlier one, if it is not the later
@@ -75,7 +81,7 @@ module _ (s : Setup) (i : in_range s ≡ true) (l : List Entry) (d o : ℕ) (hd 
     unfolding met
     told q = record { older = h.older; event = h.event; newer = h.newer; parts = h.parts; number = h.number; occurred = q; since = h.since }
 
-  module _ (why n : ℕ) (h : Happened s d o l n (Erasing s d o why)) where
+  module _ (why : Why) (n : ℕ) (h : Happened s d o l n (Erasing s d o why)) where
     way : How s d o (met h) h.event.step
     unfolding met
     way = how s d o hd ho (met h) h.event.step (met_sound h) h.occurred.ungranted h.occurred.erases
@@ -88,16 +94,22 @@ module _ (s : Setup) (i : in_range s ≡ true) (l : List Entry) (d o : ℕ) (hd 
     unfolding met
     reason = h.occurred.reason
 
+    above : 2 ≤ number_of why
+    above = rw reason way.above
+
+    below : number_of why ≤ 4
+    below = rw reason way.below
+
     explains_erased : Explains s l u d o (record { why = why; step = n })
     explains_erased = record {
-      some = omega (arith, reason, way.above);
-      within = omega (arith, reason, way.below);
-      never_granted = λ e. absurd (omega (arith, reason, way.above));
+      some = omega (arith, above);
+      within = omega (arith, below);
+      never_granted = λ e. let p = rw e at above in absurd (omega arith);
       invalidated = λ e. by (λ w x. invalidates s w x d o) (way.two (sym reason ∙ e));
       dropped = λ e. by (λ w x. offers s w x d o) (way.three (sym reason ∙ e));
       restarted = λ e. by (λ w x. restarts s w x d) (way.four (sym reason ∙ e));
-      volume_over = λ e. absurd (omega (arith, reason, way.below));
-      object_over = λ e. absurd (omega (arith, reason, way.below));
+      volume_over = λ e. let p = rw e at below in absurd (omega arith);
+      object_over = λ e. let p = rw e at below in absurd (omega arith);
     }
 
   module _ (unshown : showable s u.tables (copy_at s u.copies d o) d o ≡ false) where
@@ -119,50 +131,53 @@ module _ (s : Setup) (i : in_range s ≡ true) (l : List Entry) (d o : ℕ) (hd 
       unfolding met
       event = told h (record { grants = h.occurred; held = λ e. omega (arith, version_held) })
 
-      by_volume_law : view_until s u d o ≤ copy_until s u d o → Explains s l u d o (record { why = 5; step = n })
+      by_volume_law : view_until s u d o ≤ copy_until s u d o → Explains s l u d o (record { why = VolumeLeaseRanOut; step = n })
       unfolding clock
       by_volume_law le = record {
         some = omega arith;
         within = omega arith;
-        never_granted = λ e. absurd (omega arith);
-        invalidated = λ e. absurd (omega arith);
-        dropped = λ e. absurd (omega arith);
-        restarted = λ e. absurd (omega arith);
+        never_granted = λ e. absurd (cc);
+        invalidated = λ e. absurd (cc);
+        dropped = λ e. absurd (cc);
+        restarted = λ e. absurd (cc);
         volume_over = λ e. (event, earlier_dead clock (view_until s u d o) (copy_until s u d o) one_dead le, le);
-        object_over = λ e. absurd (omega arith);
+        object_over = λ e. absurd (cc);
       }
 
-      by_object_law : copy_until s u d o < view_until s u d o → Explains s l u d o (record { why = 6; step = n })
+      by_object_law : copy_until s u d o < view_until s u d o → Explains s l u d o (record { why = ObjectLeaseRanOut; step = n })
       unfolding clock
       by_object_law lt = record {
         some = omega arith;
         within = omega arith;
-        never_granted = λ e. absurd (omega arith);
-        invalidated = λ e. absurd (omega arith);
-        dropped = λ e. absurd (omega arith);
-        restarted = λ e. absurd (omega arith);
-        volume_over = λ e. absurd (omega arith);
+        never_granted = λ e. absurd (cc);
+        invalidated = λ e. absurd (cc);
+        dropped = λ e. absurd (cc);
+        restarted = λ e. absurd (cc);
+        volume_over = λ e. absurd (cc);
         object_over = λ e. (event, later_dead clock (view_until s u d o) (copy_until s u d o) one_dead (omega arith), lt);
       }
 
-    by_last : (n : ℕ) (g : Event) → TellsOf s d o l n g → Explains s l u d o (record { why = why_by (view_until s u d o) (copy_until s u d o) g; step = n })
-    by_last n Nothing h = record {
+    by_event : (n : ℕ) (g : Event) → TellsOf s d o l n g → Explains s l u d o (record { why = why_by (view_until s u d o) (copy_until s u d o) g; step = n })
+    by_event n Granted h =
+        cond_keeps (λ (why : Why). Explains s l u d o (record { why = why; step = n })) (leb (view_until s u d o) (copy_until s u d o))
+        (λ e. by_volume_law n h (leb-true _ _ e)) (λ e. by_object_law n h (leb-false _ _ e))
+    by_event n (Erased why) h = explains_erased why n h
+
+    by_last : (k : Option Last) → Tells s d o l k → Explains s l u d o (reason_by s u d o k)
+    by_last None h = record {
       some = omega arith;
       within = omega arith;
-      never_granted = λ e. h;
-      invalidated = λ e. absurd (omega arith);
-      dropped = λ e. absurd (omega arith);
-      restarted = λ e. absurd (omega arith);
-      volume_over = λ e. absurd (omega arith);
-      object_over = λ e. absurd (omega arith);
+      never_granted = λ e. (refl, h);
+      invalidated = λ e. absurd (cc);
+      dropped = λ e. absurd (cc);
+      restarted = λ e. absurd (cc);
+      volume_over = λ e. absurd (cc);
+      object_over = λ e. absurd (cc);
     }
-    by_last n Granted h =
-        cond_keeps (λ (why : ℕ). Explains s l u d o (record { why = why; step = n })) (leb (view_until s u d o) (copy_until s u d o))
-        (λ e. by_volume_law n h (leb-true _ _ e)) (λ e. by_object_law n h (leb-false _ _ e))
-    by_last n (Erased why) h = explains_erased why n h
+    by_last (Some k) h = by_event k.step k.event h
 
     line_explains : Explains s l u d o (reason_by s u d o (last_of s d o l))
-    line_explains = let k = last_of s d o l in by_last k.step k.event (last_tells s d o l)
+    line_explains = by_last (last_of s d o l) (last_tells s d o l)
 
 -- ---- a read answered "ask first": it was accepted, and its copy may not be shown
 read_unshown : (s : Setup) (w : World) (x : Step) → x.kind ≡ 2 → is_ask_first (answer_of s w x) ≡ true → Unshown s w x
@@ -213,14 +228,15 @@ module _ (s : Setup) (i : in_range s ≡ true) (xs : List Step) (n : ℕ) where
   runs : met_by s xs n ≡ ran_by s (line_before s xs n)
   runs = (demand_3_along s i (earlier xs n)).present.runs
 
-  reasoned : asks_first s xs n ≡ true → Explains s (line_before s xs n) (met_by s xs n) x.client x.object (reason_by s (met_by s xs n) x.client x.object (last_of s x.client x.object (line_before s xs n)))
+  reasoned : asks_first s xs n ≡ true
+      → Explains s (line_before s xs n) (met_by s xs n) x.client x.object (reason_by s (met_by s xs n) x.client x.object (last_of s x.client x.object (line_before s xs n)))
   reasoned h =
       let r = reading h in
       rw runs (line_explains s i (line_before s xs n) x.client x.object r.client r.object (rw runs at r.unshown))
 
   pub explains : Explained s xs n (reason_of s xs n)
   unfolding reason_of
-  explains = record { other = λ h. rw h (refl, refl); asked = λ h. rw h (reasoned h) }
+  explains = record { other = λ h. rw h refl; asked = λ h. rw h (reasoned h) }
 
 -- ---- the answer to the chosen step is the one in the listing of all answers
 answer_at : (s : Setup) (q : Machine) (xs : List Step) (k : ℕ) (b : Answer) → k < length xs → get_or (answers_to s q xs) k b ≡ answer_to s (moved_by s q (take k xs)) (get_or xs k no_step)

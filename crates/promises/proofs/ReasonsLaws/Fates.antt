@@ -1,7 +1,7 @@
 -- What a step makes of a copy: it stays, a GRANT fills it, an INVALIDATE, a BATCH or a restart of its client erases it, or an OFFER ends its lease. There is no other way.
 -- Letters: s setup, w world, x a step, d client, o object, g the copy after the step, m the message that is delivered, k its kind; of a message i is the
 -- object, v the volume, n the number, e the epoch, ver the version, p and q the volume and object expiry, y the payload.
-use Rattle.std.specs.Prelude.{ℕ, ◌*◌, ◌+◌, ◌<◌, ◌≤◌, cond, ◌&&◌, List, ◌≡◌, eqb, ltb, set}
+use Rattle.std.specs.Prelude.{ℕ, ◌*◌, ◌+◌, ◌<◌, ◌≤◌, cond, ◌&&◌, List, ◌≡◌, eqb, ltb, set, Option}
 use Rattle.std.proofs.Math.Bool.{true}
 use Rattle.std.proofs.Math.Logic.{⊎_elim}
 use Rattle.std.proofs.Math.Path.{refl, ap}
@@ -13,7 +13,6 @@ use Rattle.laws.specs.Sets.{bit_at}
 use Rattle.protocol.specs.declared.message.Kind.{Kind}
 use Rattle.protocol.specs.declared.message.Kind.TheVariants.{Renew, Grant, Invalidate, Ack, Offer, Dropped, Batch, Cleared}
 use Rattle.protocol.specs.declared.message.Message.{Message}
-use Rattle.protocol.specs.declared.message.Payload.{Payload}
 use Rattle.protocol.specs.declared.records.Copy.{Copy}
 use Rattle.protocol.specs.declared.setup.Setup.{Setup}
 use Rattle.protocol.specs.declared.step.Answer.{Answer}
@@ -140,7 +139,7 @@ module _ (s : Setup) (w : World) (x : Step) (sound : SoundWorld s w) (d o : ℕ)
       stored : (i : ℕ) → i < s.objects → (f : Copy) → After m.client i d o (copy_at s (set w.copies (m.client * s.objects + i) f) d o) f c
       stored i hi f = copy_set s hm hi w.copies f sound.shape.copies d o ho
 
-      module _ (i n p f ver q : ℕ) (y : Payload) (h : m.kind ≡ Grant i n p f ver q y) where
+      module _ (i n p f ver q : ℕ) (y : Option ℕ) (h : m.kind ≡ Grant i n p f ver q y) where
         granted_exists : i < s.objects
         granted_exists = ltb-true _ _ (and-true (ltb i s.objects) _ (and-true (ltb i s.objects && time_fits p) (time_fits q) (rw h at asked)).0).0
 

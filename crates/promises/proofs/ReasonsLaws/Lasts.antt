@@ -1,7 +1,7 @@
 -- The last event is saved and restored with the state: kept beside each state, it is the one of that state's line.
 -- Letters: s setup, xs steps, x one more, q the machine that it meets, a its answer, n its number or a name, e its entry, d client, o object, k the last events,
 -- ls the lines, l a line.
-use Rattle.std.specs.Prelude.{ℕ, ◌+◌, ◌<◌, Bool, cond, not, ◌&&◌, ◌||◌, List, [], ◌∷◌, ◌++◌, map, ◌≡◌, ltb, length, get_or, set}
+use Rattle.std.specs.Prelude.{ℕ, ◌+◌, ◌<◌, Bool, cond, not, ◌&&◌, ◌||◌, List, [], ◌∷◌, ◌++◌, map, ◌≡◌, ltb, length, get_or, set, Option}
 use Rattle.std.proofs.Common.{arith, ⊎_elim, sym, ap, ◌∙◌, length-set, get_or-set_same, get_or-set_other, ltb-true}
 use Rattle.std.proofs.Math.Bool.{true, false}
 use Rattle.std.proofs.lemmas.List.{map-append, length-replicate}
@@ -58,14 +58,16 @@ state_is : {A : Type 0} (a b : A) → ◌≡◌ {A = Saved A} (state a) (state b
 state_is a b e = cc
 
 module _ (s : Setup) (d o : ℕ) (ls : Kept (List Entry)) (k : Lasts) (h : Follows s d o ls k) where
-  goes : (e : Entry) (l : Last) → l ≡ last_of s d o (longer ls.now e) → Follows s d o (follow longer ls (go e)) (followed k (go l))
+  goes : (e : Entry) (l : Option Last) → l ≡ last_of s d o (longer ls.now e) → Follows s d o (follow longer ls (go e)) (followed k (go l))
   goes e l p = record { now = p; many = h.many; saved = h.saved }
 
   saves : (n : ℕ) → n < names → length ls.saved ≡ names → Follows s d o (follow longer ls (save n)) (followed k (save n))
   saves n p q = record { now = h.now; many = length-set k.saved n k.now ∙ h.many; saved = λ j l e. ⊎_elim (same j l e) (other j l e) (same? j n) }
     where
       same : (j : ℕ) (l : List Entry) → get_or (set ls.saved n (state ls.now)) j never ≡ state l → j ≡ n → get_or (set k.saved n k.now) j no_event ≡ last_of s d o l
-      same j l e f = rw (f, get_or-set_same k.saved n k.now no_event (omega (arith, h.many))) (h.now ∙ ap (last_of s d o) (state_is _ _ (sym (get_or-set_same ls.saved n (state ls.now) never (omega arith)) ∙ (rw f at e))))
+      same j l e f =
+          rw (f, get_or-set_same k.saved n k.now no_event (omega (arith, h.many)))
+          (h.now ∙ ap (last_of s d o) (state_is _ _ (sym (get_or-set_same ls.saved n (state ls.now) never (omega arith)) ∙ (rw f at e))))
 
       other : (j : ℕ) (l : List Entry) → get_or (set ls.saved n (state ls.now)) j never ≡ state l → (j ≡ n → ⊥) → get_or (set k.saved n k.now) j no_event ≡ last_of s d o l
       other j l e f = get_or-set_other k.saved n j k.now no_event f ∙ h.saved j l (sym (get_or-set_other ls.saved n j (state ls.now) never f) ∙ e)
@@ -88,7 +90,7 @@ module _ (s : Setup) (i : in_range s ≡ true) (d o : ℕ) (hd : d < s.clients) 
   joined = run_joined s i xs
 
   -- the event that the step's answer tells, and the copy before and after
-  abbrev pub told : Event
+  abbrev pub told : Option Event
   told = event_by d o (request_at q.now.requests d) (copy_at s q.now.copies d o) (copy_at s (moved s q x).now.copies d o) x a
 
   here : q.now ≡ ran_by s ls.now
@@ -100,7 +102,7 @@ module _ (s : Setup) (i : in_range s ≡ true) (d o : ℕ) (hd : d < s.clients) 
   told_true : uses_name x ≡ false → told ≡ event_of s q.now x d o
   told_true u = rw (ordinary_answer s q x u saved_sound_law, ordinary_move s q x u saved_sound_law) (sym (event_told s q.now x joined.sound.now d o hd ho))
 
-  last_on : (k : Last) → k ≡ last_of s d o ls.now → uses_name x ≡ false → latest k (length xs + 1) told ≡ last_of s d o (longer ls.now (entry_of s xs x))
+  last_on : (k : Option Last) → k ≡ last_of s d o ls.now → uses_name x ≡ false → latest k (length xs + 1) told ≡ last_of s d o (longer ls.now (entry_of s xs x))
   last_on k e u =
       ap (latest k (length xs + 1)) (told_true u)
       ∙ (λ j. latest (e j) (length xs + 1) (event_of s (here j) x d o))
@@ -133,7 +135,7 @@ module _ (s : Setup) (i : in_range s ≡ true) (d o : ℕ) (hd : d < s.clients) 
   name_known u r = ltb-true _ _ (and-true _ _ (name_there u r)).0
 
   module _ (k : Lasts) (h : Follows s d o ls k) where
-    abbrev next : Last
+    abbrev next : Option Last
     next = latest k.now (length xs + 1) told
 
     by_act : (u r v : Bool) → (u ≡ true → r ≡ false → x.place < names) → (u ≡ true → r ≡ false → v ≡ false → (l : List Entry) × (saved_under ls x.place ≡ state l))

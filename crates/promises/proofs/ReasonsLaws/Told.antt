@@ -1,6 +1,6 @@
 -- The last event of a line occurred, and none came after it. As long as none comes, a copy stays as it is.
 -- Letters: s setup, w and u worlds, x a step, d client, o object, c and g copies, e an entry of a line, l a line, k the last event.
-use Rattle.std.specs.Prelude.{ℕ, ◌<◌, Bool, true, not, ◌&&◌, ◌≡◌, eqb}
+use Rattle.std.specs.Prelude.{ℕ, ◌<◌, Bool, true, not, ◌&&◌, ◌≡◌, eqb, Option, None, Some}
 use Rattle.std.proofs.Common.{arith, sym, ◌∙◌, eqb-true}
 use Rattle.std.proofs.Math.Bool.{false}
 use mathlib.Core.List.{List, [], ◌∷◌, ◌++◌, map-append, append_assoc, append-nil}
@@ -19,8 +19,9 @@ use Rattle.protocol.specs.Safety.View.{copy_at}
 use Rattle.protocol.specs.Line.{Entry, steps_in, ran_by}
 use Rattle.protocol.proofs.Reached.{ran_on}
 use Rattle.promises.specs.declared.reasons.Event.{Event}
-use Rattle.promises.specs.declared.reasons.Event.TheVariants.{Nothing, Granted, Erased}
+use Rattle.promises.specs.declared.reasons.Event.TheVariants.{Granted, Erased}
 use Rattle.promises.specs.declared.reasons.Last.{Last}
+use Rattle.promises.specs.declared.reasons.Why.{Why}
 use Rattle.promises.specs.Reasons.Events.{grants, vanished, went_to_zero, erases, happens, cause, event_of, no_event, last_after, after, last_of}
 use Rattle.promises.specs.Reasons.Reason.{Uneventful, Happened}
 use Rattle.promises.specs.Reasons.Fates.{Fate, stays, filled, invalidated, offered, batched, restarted, ended}
@@ -30,14 +31,14 @@ use Rattle.promises.specs.Reasons.Told.{AsBefore, How}
 -- ---- a line that grows by an entry
 module _ (s : Setup) (d o : ℕ) where
   -- the state beside the last event is the line's
-  beside : (l : List Entry) (w : World) (k : Last) → (made (after s d o) (w, k) l).0 ≡ ran s w (steps_in l)
+  beside : (l : List Entry) (w : World) (k : Option Last) → (made (after s d o) (w, k) l).0 ≡ ran s w (steps_in l)
   unfolding made ran
   beside [] w k = refl
   beside (e ∷ l) w k = beside l (stepped s w e.step) (last_after s d o w k e)
 
   pub last_longer : (l : List Entry) (e : Entry) → last_of s d o (longer l e) ≡ last_after s d o (ran_by s l) (last_of s d o l) e
   last_longer l e =
-      ap (λ (a : World × Last). a.1) (made_snoc (after s d o) (fresh_world s, no_event) l e)
+      ap (λ (a : World × Option Last). a.1) (made_snoc (after s d o) (fresh_world s, no_event) l e)
       ∙ ap (λ (w : World). last_after s d o w (last_of s d o l) e) (beside l (fresh_world s) no_event)
 
   uneventful_longer : (l : List Entry) (w : World) (e : Entry) → Uneventful s d o w l → happens s (ran s w (steps_in l)) e.step d o ≡ false → Uneventful s d o w (longer l e)
@@ -47,18 +48,18 @@ module _ (s : Setup) (d o : ℕ) where
 
   -- ---- what the last event tells
   -- an erasing one: no GRANT, and its reason
-  pub record Erasing (why : ℕ) (w : World) (x : Step) : Type 0 where
+  pub record Erasing (why : Why) (w : World) (x : Step) : Type 0 where
     pub erases : erases s w x d o ≡ true
     pub ungranted : grants s w x d o ≡ false
     pub reason : why ≡ cause w x
 
   abbrev pub TellsOf : List Entry → ℕ → Event → Type 0
-  TellsOf l n Nothing = (n ≡ 0) × Uneventful s d o (fresh_world s) l
   TellsOf l n Granted = Happened s d o l n (λ w x. grants s w x d o ≡ true)
   TellsOf l n (Erased why) = Happened s d o l n (Erasing why)
 
-  abbrev pub Tells : List Entry → Last → Type 0
-  Tells l k = TellsOf l k.step k.event
+  abbrev pub Tells : List Entry → Option Last → Type 0
+  Tells l None = Uneventful s d o (fresh_world s) l
+  Tells l (Some k) = TellsOf l k.step k.event
 
   pub ran_parts : (older : List Entry) (e : Entry) (newer : List Entry) → ran_by s (older ++ (e ∷ newer)) ≡ ran s (stepped s (ran_by s older) e.step) (steps_in newer)
   unfolding ran
@@ -79,19 +80,22 @@ module _ (s : Setup) (d o : ℕ) where
   unfolding Uneventful
   newest P l e p = record { older = l; event = e; newer = []; parts = refl; number = refl; occurred = p; since = tt }
 
-  tells_still : (l : List Entry) (e : Entry) (n : ℕ) (g : Event) → happens s (ran_by s l) e.step d o ≡ false → TellsOf l n g → TellsOf (longer l e) n g
-  tells_still l e n Nothing q h = (h.0, uneventful_longer l (fresh_world s) e h.1 q)
-  tells_still l e n Granted q h = happened_longer (λ w x. grants s w x d o ≡ true) l n e q h
-  tells_still l e n (Erased why) q h = happened_longer (Erasing why) l n e q h
+  event_still : (l : List Entry) (e : Entry) (n : ℕ) (g : Event) → happens s (ran_by s l) e.step d o ≡ false → TellsOf l n g → TellsOf (longer l e) n g
+  event_still l e n Granted q h = happened_longer (λ w x. grants s w x d o ≡ true) l n e q h
+  event_still l e n (Erased why) q h = happened_longer (Erasing why) l n e q h
 
-  tells_longer : (l : List Entry) (e : Entry) (k : Last) → Tells l k → Tells (longer l e) (last_after s d o (ran_by s l) k e)
+  tells_still : (l : List Entry) (e : Entry) (k : Option Last) → happens s (ran_by s l) e.step d o ≡ false → Tells l k → Tells (longer l e) k
+  tells_still l e None q h = uneventful_longer l (fresh_world s) e h q
+  tells_still l e (Some k) q h = event_still l e k.step k.event q h
+
+  tells_longer : (l : List Entry) (e : Entry) (k : Option Last) → Tells l k → Tells (longer l e) (last_after s d o (ran_by s l) k e)
   unfolding event_of
   tells_longer l e k h = ⊎_elim (λ g. rw g (newest (λ w x. grants s w x d o ≡ true) l e g)) unfilled (true_or_false (grants s (ran_by s l) e.step d o))
     where
       unfilled : grants s (ran_by s l) e.step d o ≡ false → Tells (longer l e) (last_after s d o (ran_by s l) k e)
       unfilled g =
           ⊎_elim (λ r. rw g (rw r (newest (Erasing (cause (ran_by s l) e.step)) l e (record { erases = r; ungranted = g; reason = refl }))))
-          (λ r. rw g (rw r (tells_still l e k.step k.event (rw g r) h))) (true_or_false (erases s (ran_by s l) e.step d o))
+          (λ r. rw g (rw r (tells_still l e k (rw g r) h))) (true_or_false (erases s (ran_by s l) e.step d o))
 
   tells_on : (l m : List Entry) → Tells m (last_of s d o m) → Tells (m ++ l) (last_of s d o (m ++ l))
   tells_on [] m h = rw (append-nil m) h
@@ -99,7 +103,7 @@ module _ (s : Setup) (d o : ℕ) where
 
   pub last_tells : (l : List Entry) → Tells l (last_of s d o l)
   unfolding made Uneventful
-  last_tells l = tells_on l [] (refl, tt)
+  last_tells l = tells_on l [] tt
 
 -- ---- a copy as long as no event comes
 none_went : (a : ℕ) → went_to_zero a a ≡ false
@@ -160,10 +164,10 @@ module _ (s : Setup) (d o : ℕ) (hd : d < s.clients) (ho : o < s.objects) where
   how_by : (w : World) (x : Step) (g : Copy) → grants s w x d o ≡ false → vanished (copy_in w) g ≡ true → Fate s w x d o g → How s d o w x
   how_by w x g n v (stays p) = not_both (rw p at v) (same_vanished (copy_in w))
   how_by w x g n v (filled p) = not_both p n
-  how_by w x g n v (invalidated p c _) = record { above = omega arith; below = omega arith; two = λ _. p; three = λ q. absurd (omega arith); four = λ q. absurd (omega arith) }
-  how_by w x g n v (offered p c _) = record { above = omega arith; below = omega arith; two = λ q. absurd (omega arith); three = λ _. p; four = λ q. absurd (omega arith) }
-  how_by w x g n v (batched p c _) = record { above = omega arith; below = omega arith; two = λ q. absurd (omega arith); three = λ _. p; four = λ q. absurd (omega arith) }
-  how_by w x g n v (restarted p c _) = record { above = omega arith; below = omega arith; two = λ q. absurd (omega arith); three = λ q. absurd (omega arith); four = λ _. p }
+  how_by w x g n v (invalidated p c _) = record { above = rw c (omega arith); below = rw c (omega arith); two = λ _. p; three = λ q. absurd (cc); four = λ q. absurd (cc) }
+  how_by w x g n v (offered p c _) = record { above = rw c (omega arith); below = rw c (omega arith); two = λ q. absurd (cc); three = λ _. p; four = λ q. absurd (cc) }
+  how_by w x g n v (batched p c _) = record { above = rw c (omega arith); below = rw c (omega arith); two = λ q. absurd (cc); three = λ _. p; four = λ q. absurd (cc) }
+  how_by w x g n v (restarted p c _) = record { above = rw c (omega arith); below = rw c (omega arith); two = λ q. absurd (cc); three = λ q. absurd (cc); four = λ _. p }
 
   pub how : (w : World) (x : Step) → SoundWorld s w → grants s w x d o ≡ false → erases s w x d o ≡ true → How s d o w x
   unfolding erases

@@ -1,7 +1,7 @@
 -- 02, A8: "The last erasing or granting event for that dash and object in its line decides; erasing means that the copy's version or expiry went from nonzero
 -- to 0."
 -- Letters: s setup, w world, x a step, k a kind of message, d client, o object, c and g the copy before and after, e an entry of a line, l a line.
-use Rattle.std.specs.Prelude.{ℕ, Bool, false, cond, not, ◌&&◌, ◌||◌, List, eqb}
+use Rattle.std.specs.Prelude.{ℕ, Bool, false, cond, not, ◌&&◌, ◌||◌, List, eqb, Option, None, Some}
 use Rattle.laws.specs.Sets.{bit_at}
 use Rattle.laws.specs.Line.{made}
 use Rattle.protocol.specs.declared.message.Kind.{Kind}
@@ -20,8 +20,10 @@ use Rattle.protocol.specs.Ledger.{accepts}
 use Rattle.protocol.specs.Safety.View.{copy_at, request_at}
 use Rattle.protocol.specs.Line.{Entry}
 use Rattle.promises.specs.declared.reasons.Event.{Event}
-use Rattle.promises.specs.declared.reasons.Event.TheVariants.{Nothing, Granted, Erased}
+use Rattle.promises.specs.declared.reasons.Event.TheVariants.{Granted, Erased}
 use Rattle.promises.specs.declared.reasons.Last.{Last}
+use Rattle.promises.specs.declared.reasons.Why.{Why}
+use Rattle.promises.specs.declared.reasons.Why.TheVariants.{NoCause, CopyInvalidated, LeasesDropped, ClientRestarted}
 
 -- ---- what a step does to client d's copy of object o
 abbrev pub delivered_by : World → Step → Message
@@ -92,40 +94,39 @@ happens s w x d o = grants s w x d o || erases s w x d o
 
 -- ---- which reason an erasing step is; no other step erases a copy
 -- "copy invalidated, leases dropped on an offer or batch"
-abbrev pub receipt_cause : Kind → ℕ
-receipt_cause (Renew _ _ _ _) = 0
-receipt_cause (Grant _ _ _ _ _ _ _) = 0
-receipt_cause (Invalidate _ _ _) = 2
-receipt_cause (Ack _ _ _) = 0
-receipt_cause (Offer _ _ _) = 3
-receipt_cause (Dropped _ _ _) = 0
-receipt_cause (Batch _ _ _ _) = 3
-receipt_cause (Cleared _ _ _ _) = 0
+abbrev pub receipt_cause : Kind → Why
+receipt_cause (Renew _ _ _ _) = NoCause
+receipt_cause (Grant _ _ _ _ _ _ _) = NoCause
+receipt_cause (Invalidate _ _ _) = CopyInvalidated
+receipt_cause (Ack _ _ _) = NoCause
+receipt_cause (Offer _ _ _) = LeasesDropped
+receipt_cause (Dropped _ _ _) = NoCause
+receipt_cause (Batch _ _ _ _) = LeasesDropped
+receipt_cause (Cleared _ _ _ _) = NoCause
 
 -- "dash restarted"
-unfoldable pub cause : World → Step → ℕ
-cause w x = cond (is_restart_client x) 4 (receipt_cause (delivered_by w x).kind)
+unfoldable pub cause : World → Step → Why
+cause w x = cond (is_restart_client x) ClientRestarted (receipt_cause (delivered_by w x).kind)
 
 -- what step x on w does to the copy
-unfoldable pub event_of : Setup → World → Step → ℕ → ℕ → Event
-event_of s w x d o = cond (grants s w x d o) Granted (cond (erases s w x d o) (Erased (cause w x)) Nothing)
+unfoldable pub event_of : Setup → World → Step → ℕ → ℕ → Option Event
+event_of s w x d o = cond (grants s w x d o) (Some Granted) (cond (erases s w x d o) (Some (Erased (cause w x))) None)
 
 -- ---- the last event, with the number of its step
-abbrev pub no_event : Last
-no_event = record { event = Nothing; step = 0 }
+abbrev pub no_event : Option Last
+no_event = None
 
 -- after step n: its event, or k if it had none
-abbrev pub latest : Last → ℕ → Event → Last
-latest k n Nothing = k
-latest k n Granted = record { event = Granted; step = n }
-latest k n (Erased why) = record { event = Erased why; step = n }
+abbrev pub latest : Option Last → ℕ → Option Event → Option Last
+latest k n None = k
+latest k n (Some g) = Some (record { event = g; step = n })
 
-abbrev pub last_after : Setup → ℕ → ℕ → World → Last → Entry → Last
+abbrev pub last_after : Setup → ℕ → ℕ → World → Option Last → Entry → Option Last
 last_after s d o w k e = latest k e.number (event_of s w e.step d o)
 
 -- beside the state, along a line
-abbrev pub after : Setup → ℕ → ℕ → World × Last → Entry → World × Last
+abbrev pub after : Setup → ℕ → ℕ → World × Option Last → Entry → World × Option Last
 after s d o a e = (stepped s a.0 e.step, last_after s d o a.0 a.1 e)
 
-abbrev pub last_of : Setup → ℕ → ℕ → List Entry → Last
+abbrev pub last_of : Setup → ℕ → ℕ → List Entry → Option Last
 last_of s d o l = (made (after s d o) (fresh_world s, no_event) l).1

@@ -9,6 +9,7 @@ use Rattle.protocol.specs.declared.step.Step.{Step}
 use Rattle.protocol.specs.Tables.{no_copy}
 use Rattle.protocol.specs.World.{World}
 use Rattle.protocol.specs.Safety.View.{copy_at}
+use Rattle.promises.specs.declared.reasons.Why.TheVariants.{CopyInvalidated, LeasesDropped, ClientRestarted}
 use Rattle.promises.specs.Reasons.Events.{grants, invalidates, offers, restarts, cause}
 
 -- the copy with its lease ended
@@ -18,7 +19,7 @@ ended c = record { version = c.version; value = c.value; expiry = 0 }
 pub data Fate (s : Setup) (w : World) (x : Step) (d o : ℕ) (g : Copy) : Type 0 where
   stays : g ≡ copy_at s w.copies d o → Fate s w x d o g
   filled : grants s w x d o ≡ true → Fate s w x d o g
-  invalidated : invalidates s w x d o ≡ true → cause w x ≡ 2 → g ≡ no_copy → Fate s w x d o g
-  offered : offers s w x d o ≡ true → cause w x ≡ 3 → g ≡ ended (copy_at s w.copies d o) → Fate s w x d o g
-  batched : offers s w x d o ≡ true → cause w x ≡ 3 → g ≡ no_copy → Fate s w x d o g
-  restarted : restarts s w x d ≡ true → cause w x ≡ 4 → g ≡ no_copy → Fate s w x d o g
+  invalidated : invalidates s w x d o ≡ true → cause w x ≡ CopyInvalidated → g ≡ no_copy → Fate s w x d o g
+  offered : offers s w x d o ≡ true → cause w x ≡ LeasesDropped → g ≡ ended (copy_at s w.copies d o) → Fate s w x d o g
+  batched : offers s w x d o ≡ true → cause w x ≡ LeasesDropped → g ≡ no_copy → Fate s w x d o g
+  restarted : restarts s w x d ≡ true → cause w x ≡ ClientRestarted → g ≡ no_copy → Fate s w x d o g

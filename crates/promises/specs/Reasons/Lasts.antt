@@ -1,7 +1,7 @@
 -- The last event is saved and restored with the state: kept beside each state, it is the one of that state's line.
 -- Letters: s setup, xs steps, x one more, q the machine that it meets, a its answer, n its number or a name, e its entry, d client, o object, k the last events,
 -- ls the lines, l a line.
-use Rattle.std.specs.Prelude.{ℕ, ◌+◌, ◌<◌, List, ◌≡◌, length, get_or, set, replicate}
+use Rattle.std.specs.Prelude.{ℕ, ◌+◌, ◌<◌, List, ◌≡◌, length, get_or, set, replicate, Option}
 use Rattle.std.proofs.Math.Bool.{true, false}
 use Rattle.laws.specs.Line.{state, Kept, saved_under, Act, go, save, back, idle}
 use Rattle.protocol.specs.declared.setup.Setup.{Setup}
@@ -19,7 +19,7 @@ abbrev pub no_events : Lasts
 no_events = record { now = no_event; saved = replicate names no_event }
 
 -- what is done with the states is done with their last events
-abbrev pub followed : Lasts → Act Last → Lasts
+abbrev pub followed : Lasts → Act (Option Last) → Lasts
 followed k (go l) = record { now = l; saved = k.saved }
 followed k (save n) = record { now = k.now; saved = set k.saved n k.now }
 followed k (back n) = record { now = get_or k.saved n no_event; saved = k.saved }

@@ -1,7 +1,7 @@
 -- 02, A8: "A tool reads the run and gives one reason for a chosen read: never granted, copy invalidated, leases dropped on an offer or batch, dash restarted,
 -- volume lease ran out, object lease ran out. They are 1 to 6 in that order; 0 is for a step that is not a read answered "ask first" or not in the run."
 -- Letters: s setup, w world, xs the steps of the run, n the number of the chosen one, d its client, o its object, r the reason, l a line.
-use Rattle.std.specs.Prelude.{ℕ, ◌-◌, ◌<◌, ◌≤◌, Bool, true, false, cond, ◌&&◌, List, [], ◌∷◌, ◌++◌, ◌≡◌, eqb, leb, get_or, take}
+use Rattle.std.specs.Prelude.{ℕ, ◌-◌, ◌<◌, ◌≤◌, Bool, true, false, cond, ◌&&◌, List, [], ◌∷◌, ◌++◌, ◌≡◌, eqb, leb, get_or, take, Option, None, Some, IsSomeAnd}
 use Rattle.protocol.specs.declared.setup.Setup.{Setup}
 use Rattle.protocol.specs.declared.step.Answer.{Answer}
 use Rattle.protocol.specs.declared.step.Step.{Step}
@@ -15,9 +15,12 @@ use Rattle.protocol.specs.Safety.View.{copy_at}
 use Rattle.protocol.specs.Saved.{fresh_machine, answer_to, moved_by}
 use Rattle.protocol.specs.Line.{Entry, present_line, ran_by}
 use Rattle.promises.specs.declared.reasons.Event.{Event}
-use Rattle.promises.specs.declared.reasons.Event.TheVariants.{Nothing, Granted, Erased}
+use Rattle.promises.specs.declared.reasons.Event.TheVariants.{Granted, Erased}
 use Rattle.promises.specs.declared.reasons.Last.{Last}
 use Rattle.promises.specs.declared.reasons.Reason.{Reason}
+use Rattle.promises.specs.declared.reasons.Why.{Why}
+use Rattle.promises.specs.declared.reasons.Why.TheVariants.{NeverGranted, CopyInvalidated, LeasesDropped, ClientRestarted, VolumeLeaseRanOut, ObjectLeaseRanOut}
+use Rattle.promises.specs.Reasons.Numbers.{number_of}
 use Rattle.promises.specs.Reasons.Events.{grants, invalidates, offers, restarts, vanished, erases, happens, last_of}
 
 -- ---- the chosen step
@@ -55,24 +58,30 @@ abbrev pub copy_until : Setup → World → ℕ → ℕ → ℕ
 copy_until s w d o = (copy_at s w.copies d o).expiry
 
 -- "After a grant, the earlier of the dash's two expiries at the read decides, the volume on a tie."
-abbrev pub why_by : (view copy : ℕ) → Event → ℕ
-why_by view copy Nothing = 1
-why_by view copy Granted = cond (leb view copy) 5 6
+abbrev pub why_by : (view copy : ℕ) → Event → Why
+why_by view copy Granted = cond (leb view copy) VolumeLeaseRanOut ObjectLeaseRanOut
 why_by view copy (Erased why) = why
 
 -- "It also names that event's step, or 0."
-abbrev pub reason_by : Setup → World → ℕ → ℕ → Last → Reason
-reason_by s w d o k = record { why = why_by (view_until s w d o) (copy_until s w d o) k.event; step = k.step }
+abbrev pub reason_by : Setup → World → ℕ → ℕ → Option Last → Reason
+reason_by s w d o None = record { why = NeverGranted; step = 0 }
+reason_by s w d o (Some k) = record { why = why_by (view_until s w d o) (copy_until s w d o) k.event; step = k.step }
 
--- of every other step
-abbrev pub no_reason : Reason
-no_reason = record { why = 0; step = 0 }
-
-unfoldable pub reason_of : Setup → List Step → ℕ → Reason
+-- of every other step there is none
+unfoldable pub reason_of : Setup → List Step → ℕ → Option Reason
 reason_of s xs n =
     cond (asks_first s xs n)
-    (reason_by s (met_by s xs n) (chosen xs n).client (chosen xs n).object (last_of s (chosen xs n).client (chosen xs n).object (line_before s xs n)))
-    no_reason
+    (Some (reason_by s (met_by s xs n) (chosen xs n).client (chosen xs n).object (last_of s (chosen xs n).client (chosen xs n).object (line_before s xs n))))
+    None
+
+-- the two numbers that are given: "They are 1 to 6 in that order; 0 is for a step that is not a read answered "ask first" or not in the run."
+abbrev pub reason_number : Option Reason → ℕ
+reason_number None = 0
+reason_number (Some r) = number_of r.why
+
+abbrev pub event_number : Option Reason → ℕ
+event_number None = 0
+event_number (Some r) = r.step
 
 -- ---- the claim
 -- none of these entries is an event, each on what the ones before left
@@ -106,19 +115,19 @@ Dead w d expiry = client_alive (client_clock w.tables.clock d) expiry ≡ false
 
 -- r explains a read of client d and object o that meets u at the end of the line l
 pub record Explains (s : Setup) (l : List Entry) (u : World) (d o : ℕ) (r : Reason) : Type 0 where
-  pub some : 1 ≤ r.why
-  pub within : r.why ≤ 6
+  pub some : 1 ≤ number_of r.why
+  pub within : number_of r.why ≤ 6
   -- "for 1, that there was none"
-  pub never_granted : r.why ≡ 1 → (r.step ≡ 0) × Uneventful s d o (fresh_world s) l
+  pub never_granted : r.why ≡ NeverGranted → (r.step ≡ 0) × Uneventful s d o (fresh_world s) l
   -- "that the named event occurred and that no later event restored the copy"
-  pub invalidated : r.why ≡ 2 → Happened s d o l r.step (Missing s d o u (λ w x. invalidates s w x d o))
-  pub dropped : r.why ≡ 3 → Happened s d o l r.step (Missing s d o u (λ w x. offers s w x d o))
-  pub restarted : r.why ≡ 4 → Happened s d o l r.step (Missing s d o u (λ w x. restarts s w x d))
+  pub invalidated : r.why ≡ CopyInvalidated → Happened s d o l r.step (Missing s d o u (λ w x. invalidates s w x d o))
+  pub dropped : r.why ≡ LeasesDropped → Happened s d o l r.step (Missing s d o u (λ w x. offers s w x d o))
+  pub restarted : r.why ≡ ClientRestarted → Happened s d o l r.step (Missing s d o u (λ w x. restarts s w x d))
   -- "for 5 and 6, that the named lease was dead"
-  pub volume_over : r.why ≡ 5 → Happened s d o l r.step (Holding s d o u) × Dead u d (view_until s u d o) × (view_until s u d o ≤ copy_until s u d o)
-  pub object_over : r.why ≡ 6 → Happened s d o l r.step (Holding s d o u) × Dead u d (copy_until s u d o) × (copy_until s u d o < view_until s u d o)
+  pub volume_over : r.why ≡ VolumeLeaseRanOut → Happened s d o l r.step (Holding s d o u) × Dead u d (view_until s u d o) × (view_until s u d o ≤ copy_until s u d o)
+  pub object_over : r.why ≡ ObjectLeaseRanOut → Happened s d o l r.step (Holding s d o u) × Dead u d (copy_until s u d o) × (copy_until s u d o < view_until s u d o)
 
--- of a chosen step: 0 and 0 where it is no read answered "ask first", or there is none
-pub record Explained (s : Setup) (xs : List Step) (n : ℕ) (r : Reason) : Type 0 where
-  pub other : asks_first s xs n ≡ false → (r.why ≡ 0) × (r.step ≡ 0)
-  pub asked : asks_first s xs n ≡ true → Explains s (line_before s xs n) (met_by s xs n) (chosen xs n).client (chosen xs n).object r
+-- of a chosen step: none where it is no read answered "ask first", or not in the run
+pub record Explained (s : Setup) (xs : List Step) (n : ℕ) (r : Option Reason) : Type 0 where
+  pub other : asks_first s xs n ≡ false → r ≡ None
+  pub asked : asks_first s xs n ≡ true → IsSomeAnd r (Explains s (line_before s xs n) (met_by s xs n) (chosen xs n).client (chosen xs n).object)

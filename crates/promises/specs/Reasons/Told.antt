@@ -5,6 +5,8 @@ use Rattle.protocol.specs.declared.records.Copy.{Copy}
 use Rattle.protocol.specs.declared.setup.Setup.{Setup}
 use Rattle.protocol.specs.declared.step.Step.{Step}
 use Rattle.protocol.specs.World.{World}
+use Rattle.promises.specs.declared.reasons.Why.TheVariants.{CopyInvalidated, LeasesDropped, ClientRestarted}
+use Rattle.promises.specs.Reasons.Numbers.{number_of}
 use Rattle.promises.specs.Reasons.Events.{invalidates, offers, restarts, cause}
 
 -- ---- a copy as long as no event comes
@@ -15,8 +17,8 @@ pub record AsBefore (c g : Copy) : Type 0 where
 
 -- how a copy was erased: the reason that the step names is the true one
 pub record How (s : Setup) (d o : ℕ) (w : World) (x : Step) : Type 0 where
-  pub above : 2 ≤ cause w x
-  pub below : cause w x ≤ 4
-  pub two : cause w x ≡ 2 → invalidates s w x d o ≡ true
-  pub three : cause w x ≡ 3 → offers s w x d o ≡ true
-  pub four : cause w x ≡ 4 → restarts s w x d ≡ true
+  pub above : 2 ≤ number_of (cause w x)
+  pub below : number_of (cause w x) ≤ 4
+  pub two : cause w x ≡ CopyInvalidated → invalidates s w x d o ≡ true
+  pub three : cause w x ≡ LeasesDropped → offers s w x d o ≡ true
+  pub four : cause w x ≡ ClientRestarted → restarts s w x d ≡ true

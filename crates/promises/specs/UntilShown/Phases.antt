@@ -1,9 +1,8 @@
 -- How far a client is that waits for its read, phase by phase: what is under way, and what it needs to go on. Each phase leads to the next by one step of
 -- the policy (Moves).
 -- Letters: s setup, w world, d client, o object, n the number of its request; `known` says that it is connected.
-use Rattle.std.specs.Prelude.{ℕ, ◌+◌, ◌<◌, ◌≤◌, Bool, true, ◌≡◌}
+use Rattle.std.specs.Prelude.{ℕ, ◌+◌, ◌<◌, ◌≤◌, Bool, true, ◌≡◌, Option}
 use Rattle.protocol.specs.declared.message.Message.{Message}
-use Rattle.protocol.specs.declared.message.Payload.{Payload}
 use Rattle.protocol.specs.declared.message.Queue.{Queue}
 use Rattle.protocol.specs.declared.message.Kind.TheVariants.{Renew, Grant, Offer, Dropped}
 use Rattle.protocol.specs.declared.records.Request.{Request}
@@ -76,7 +75,7 @@ pub record Reconnected (s : Setup) (w : World) (d o n : ℕ) : Type 0 where
 pub record Granted (s : Setup) (w : World) (d o n : ℕ) : Type 0 where
   pub epoch : ℕ
   pub version : ℕ
-  pub payload : Payload
+  pub payload : Option ℕ
   pub grant : Only w.tables.queue (from d (Grant o n (w.tables.clock + s.tv) epoch version (w.tables.clock + s.t) payload))
   pub positive : 1 ≤ version
   pub request : request_at w.requests d ≡ standing n o

@@ -2,7 +2,7 @@
 -- Letters: s setup, t and u tables, k their shape, b their bounds, c a copy, r a request, g a decision or what is staged, l a ledger, h that it is
 -- booked, m a ledger or a message, q its kind, d client, o object, i place, T clock, y value, n how many, x a step. Of a message: n number, e epoch,
 -- w version, x and y the volume's and the object's expiry, v volume or payload. The others, and e elsewhere, are proofs.
-use Rattle.std.specs.Prelude.{ℕ, zero, suc, ◌<◌, Bool, true, false, ◌≡◌, ltb}
+use Rattle.std.specs.Prelude.{ℕ, zero, suc, ◌<◌, Bool, true, false, ◌≡◌, ltb, Option}
 use native.Mathlib.Omega.{arith}
 use mathlib.Core.List.{List, [], ◌∷◌, ◌++◌}
 use Rattle.std.proofs.Math.Path.{refl}
@@ -12,7 +12,6 @@ use Rattle.laws.specs.Choice.{cond_keeps, and-true, not_both}
 use Rattle.protocol.specs.declared.message.Kind.{Kind}
 use Rattle.protocol.specs.declared.message.Kind.TheVariants.{Renew, Grant, Invalidate, Ack, Offer, Dropped, Batch, Cleared}
 use Rattle.protocol.specs.declared.message.Message.{Message}
-use Rattle.protocol.specs.declared.message.Payload.{Payload}
 use Rattle.protocol.specs.declared.records.Copy.{Copy}
 use Rattle.protocol.specs.declared.records.Request.{Request}
 use Rattle.protocol.specs.declared.setup.Setup.{Setup}
@@ -124,7 +123,7 @@ unfolding book_all OpenEach
 uncounted_settles s t u l e h = record { booked = same_booked s t u l e h; counts = omega arith; opens = tt }
 
 module _ (s : Setup) (rs : Ranges s) (t : Tables) (k : Shape t) (c : Copy) (r : Request) (d : ℕ) (l : Ledger) (h : Booked s t l) where
-  grant_settles : (o n x e w y : ℕ) (v : Payload) → Settlement s l 0 (grant_received s t c r d o n x e w y v).counted []
+  grant_settles : (o n x e w y : ℕ) (v : Option ℕ) → Settlement s l 0 (grant_received s t c r d o n x e w y v).counted []
   unfolding grant_received
   grant_settles o n x e w y v =
       cond_keeps (λ (g : Received). Settlement s l 0 g.counted []) (stands r n)

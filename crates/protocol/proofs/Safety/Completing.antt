@@ -1,12 +1,10 @@
 -- A write completes: by then nobody can show the copy of its object or is counted on for it, so the new version is owed to nobody.
-use Rattle.std.specs.Prelude.{ℕ, ◌+◌, ◌<◌, ◌≤◌, Bool, true, List, ◌≡◌, get_or}
+use Rattle.std.specs.Prelude.{ℕ, ◌+◌, ◌<◌, ◌≤◌, Bool, true, List, ◌≡◌, get_or, Option, None, Some}
 use Rattle.std.proofs.Common.{arith, inl, sym, ◌∙◌}
 use Rattle.std.proofs.Math.Bool.{false}
 use Rattle.std.proofs.Math.Logic.{⊎_elim}
 use Rattle.laws.specs.Choice.{same?, true_or_false, not_both}
 use Rattle.protocol.specs.declared.message.Kind.TheVariants.{Renew, Grant, Invalidate, Ack, Offer, Dropped, Batch, Cleared}
-use Rattle.protocol.specs.declared.message.Payload.{Payload}
-use Rattle.protocol.specs.declared.message.Payload.TheVariants.{Same, Value}
 use Rattle.protocol.specs.declared.setup.Setup.{Setup}
 use Rattle.protocol.specs.declared.tables.Tables.{Tables}
 use Rattle.protocol.specs.Setup.{volume_of}
@@ -43,10 +41,10 @@ grown : {o : ℕ} {version version' : List ℕ} → Replaced o (get_or version o
 grown {o} versions j = ⊎_elim (λ q. let a = next versions j q in omega arith) (λ q. let a = versions.other j q in omega arith) (same? j o)
 
 -- what a message says of o was of the old version
-payload_posted : (o ver : ℕ) (p : Payload) {value version : List ℕ} {new : ℕ} (value' version' : List ℕ) (j : ℕ) → Replaced o new 0 value value'
+payload_posted : (o ver : ℕ) (p : Option ℕ) {value version : List ℕ} {new : ℕ} (value' version' : List ℕ) (j : ℕ) → Replaced o new 0 value value'
     → Replaced o (get_or version o 0 + 1) 0 version version' → ver ≤ get_or version j 0 → PayloadOk value version j ver p → PayloadOk value' version' j ver p
-payload_posted o ver Same value' version' j values versions h c = tt
-payload_posted o ver (Value x) value' version' j values versions h c = λ e. ⊎_elim (here e) (λ q. rw (values.other j q) (c (e ∙ versions.other j q))) (same? j o)
+payload_posted o ver None value' version' j values versions h c = tt
+payload_posted o ver (Some x) value' version' j values versions h c = λ e. ⊎_elim (here e) (λ q. rw (values.other j q) (c (e ∙ versions.other j q))) (same? j o)
   where
     here : ver ≡ get_or version' j 0 → j ≡ o → x ≡ get_or value' j 0
     here e q =

@@ -1,9 +1,8 @@
 -- When a view is covered, or needs no more than a DROPPED leaves: by what it says, by how much covers it, with nothing in it, and by the guard alone.
-use Rattle.std.specs.Prelude.{ℕ, ◌≤◌, Bool, true, false, List, ◌≡◌, refl, get_or}
+use Rattle.std.specs.Prelude.{ℕ, ◌≤◌, Bool, true, false, List, ◌≡◌, refl, get_or, Option}
 use Rattle.std.proofs.Common.{arith, inl, inr, ⊎_elim, sym, ◌∙◌}
 use Rattle.laws.specs.Choice.{true_or_false, not_both}
 use Rattle.laws.specs.Updated.{updated_other, updated_agree}
-use Rattle.protocol.specs.declared.message.Payload.{Payload}
 use Rattle.protocol.specs.declared.records.Copy.{Copy}
 use Rattle.protocol.specs.declared.records.Request.{Request}
 use Rattle.protocol.specs.declared.setup.Setup.{Setup}
@@ -101,7 +100,7 @@ covered_left c leaves = record {
 
 -- a GRANT's clause where nothing changes but what covers the view
 pub grant_covered : {s : Setup} {clocks clocks' : ℕ → ℕ} {epoch guard seen session session' : List ℕ} {excuse excuse' : ℕ → ℕ → ℕ → Bool} {offer batch value version lease lease' : List ℕ}
-    {copies : List Copy} {requests : List Request} {d o n x e ver y : ℕ} {p : Payload} → GrantOk s clocks epoch guard seen session excuse offer batch value version lease copies requests d o n x e ver y p
+    {copies : List Copy} {requests : List Request} {d o n x e ver y : ℕ} {p : Option ℕ} → GrantOk s clocks epoch guard seen session excuse offer batch value version lease copies requests d o n x e ver y p
     → (Stands requests d n → ViewOk s clocks' epoch guard session' excuse' version lease' d (volume_of s o) (view_granted s copies d o x e ver y))
     → GrantOk s clocks' epoch guard seen session' excuse' offer batch value version lease' copies requests d o n x e ver y p
 grant_covered c covered = record {

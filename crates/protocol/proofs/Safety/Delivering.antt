@@ -1,11 +1,10 @@
 -- Step 5, accepted: the message is removed, and received by its client or by the server.
-use Rattle.std.specs.Prelude.{ℕ, ◌+◌, ◌*◌, ◌<◌, ◌≤◌, true, ◌≡◌, ltb, set}
+use Rattle.std.specs.Prelude.{ℕ, ◌+◌, ◌*◌, ◌<◌, ◌≤◌, true, ◌≡◌, ltb, set, Option}
 use Rattle.std.proofs.Common.{arith}
 use Rattle.std.proofs.Math.Path.{refl}
 use Rattle.std.proofs.lemmas.List.{set-get_or}
 use Rattle.laws.specs.Choice.{cond_keeps, and-true}
 use Rattle.protocol.specs.declared.message.Message.{Message}
-use Rattle.protocol.specs.declared.message.Payload.{Payload}
 use Rattle.protocol.specs.declared.message.Kind.{Kind}
 use Rattle.protocol.specs.declared.message.Kind.TheVariants.{Renew, Grant, Invalidate, Ack, Offer, Dropped, Batch, Cleared}
 use Rattle.protocol.specs.declared.records.Request.{Request}
@@ -72,7 +71,7 @@ module _ (s : Setup) (range : Ranges s) (w : World) (inv : Inv s w) (shape : Wor
     by_renew o n e ver z =
         rw (swept_keep s) (same_records o _ (renewed_keeps s range rest remaining shape_rest.tables d o n e ver hd (inv.messages _ z).kind))
 
-    by_grant : (o n x e ver y : ℕ) (p : Payload) → Sent w.tables.queue (from d (Grant o n x e ver y p))
+    by_grant : (o n x e ver y : ℕ) (p : Option ℕ) → Sent w.tables.queue (from d (Grant o n x e ver y p))
         → Inv s (receiving s w d (Grant o n x e ver y p) (received s t (copy_at s w.copies d o) request d (Grant o n x e ver y p)))
     unfolding received grant_received
     by_grant o n x e ver y p z =

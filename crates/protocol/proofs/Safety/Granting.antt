@@ -1,10 +1,8 @@
 -- A client takes a GRANT: what it then knows is covered, as the GRANT was while under way.
-use Rattle.std.specs.Prelude.{ℕ, ◌+◌, ◌*◌, ◌<◌, List, ◌≡◌, refl, set}
+use Rattle.std.specs.Prelude.{ℕ, ◌+◌, ◌*◌, ◌<◌, List, ◌≡◌, refl, set, Option, None, Some}
 use Rattle.std.proofs.Common.{⊎_elim, sym, ap, ◌∙◌}
 use Rattle.laws.specs.Updated.{updated_other, updated_same}
 use Rattle.protocol.specs.declared.message.Kind.TheVariants.{Grant, Ack}
-use Rattle.protocol.specs.declared.message.Payload.{Payload}
-use Rattle.protocol.specs.declared.message.Payload.TheVariants.{Same, Value}
 use Rattle.protocol.specs.declared.records.Copy.{Copy}
 use Rattle.protocol.specs.declared.setup.Setup.{Setup}
 use Rattle.protocol.specs.Setup.{volume_of}
@@ -22,7 +20,7 @@ use Rattle.protocol.proofs.Safety.Covering.{covered_less}
 use Rattle.protocol.proofs.Safety.Taking.{Inside, taken_inside}
 
 -- ---- GRANT of client d, taken
-module _ (s : Setup) (range : Ranges s) (w : World) (inv : Inv s w) (shape : WorldShape s w) (d o n x e ver y : ℕ) (p : Payload) (hd : d < s.clients)
+module _ (s : Setup) (range : Ranges s) (w : World) (inv : Inv s w) (shape : WorldShape s w) (d o n x e ver y : ℕ) (p : Option ℕ) (hd : d < s.clients)
     (ok : KindOk s w d (Grant o n x e ver y p)) (stands : Stands w.requests d n)
     (alone : (f u : ℕ) → Sent w.tables.queue (from d (Ack o f u)) → AcknowledgesIn s w.tables o f u → ⊥) where
   abbrev copy : Copy
@@ -41,10 +39,10 @@ module _ (s : Setup) (range : Ranges s) (w : World) (inv : Inv s w) (shape : Wor
   at_copy k i h = copy_set s hd ho w.copies new shape.copies k i h
 
   -- the value that is stored is the current one, if the version is
-  stored : (q : Payload) → PayloadOk w.tables.objects.value w.tables.objects.version o ver q → NamesHeld copy.version ver q
+  stored : (q : Option ℕ) → PayloadOk w.tables.objects.value w.tables.objects.version o ver q → NamesHeld copy.version ver q
       → ver ≡ version_at w.tables o → payload_or copy.value q ≡ value_at w.tables o
-  stored Same a b c = inv.versions.values d o hd ho (sym b.0 ∙ c)
-  stored (Value z) a b c = a c
+  stored None a b c = inv.versions.values d o hd ho (sym b.0 ∙ c)
+  stored (Some z) a b c = a c
 
   -- the client knows what the GRANT said
   said : Less s (clocks_of w.tables d) (volume_of s o) (view_granted s w.copies d o x e ver y) (view_of s copies d e x)

@@ -1,9 +1,8 @@
 -- The message list changes: a message is lost, doubled or sent. It enters only through what is in it.
-use Rattle.std.specs.Prelude.{ℕ, ◌<◌, ◌≤◌, List, Bool, ◌⊎◌, ◌≡◌, refl, length}
+use Rattle.std.specs.Prelude.{ℕ, ◌<◌, ◌≤◌, List, Bool, ◌⊎◌, ◌≡◌, refl, length, Option}
 use Rattle.std.proofs.Common.{inl, inr, ⊎_elim}
 use Rattle.protocol.specs.declared.message.Message.{Message}
 use Rattle.protocol.specs.declared.message.Queue.{Queue}
-use Rattle.protocol.specs.declared.message.Payload.{Payload}
 use Rattle.protocol.specs.declared.message.Kind.{Kind}
 use Rattle.protocol.specs.declared.message.Kind.TheVariants.{Renew, Grant, Invalidate, Ack, Offer, Dropped, Batch, Cleared}
 use Rattle.protocol.specs.declared.records.Request.{Request}
@@ -45,7 +44,7 @@ acking_case P f (Dropped v n e) a = absurd a
 acking_case P f (Batch v n e m) a = absurd a
 acking_case P f (Cleared v n e m) a = absurd a
 
-pub bringing_case : {requests : List Request} {d o : ℕ} (P : Kind → Type 0) → ((n x e ver y : ℕ) (p : Payload) → Stands requests d n → P (Grant o n x e ver y p))
+pub bringing_case : {requests : List Request} {d o : ℕ} (P : Kind → Type 0) → ((n x e ver y : ℕ) (p : Option ℕ) → Stands requests d n → P (Grant o n x e ver y p))
     → (g : Kind) → Bringing requests d o g → P g
 bringing_case P f (Renew i n e ver) a = absurd a
 bringing_case P f (Grant i n x e ver y p) a = rw a.0 (f n x e ver y p a.1)

@@ -1,10 +1,8 @@
 -- What one client knows and holds is replaced while its request ends: a GRANT or an OFFER taken, a restart. Nobody else is touched.
-use Rattle.std.specs.Prelude.{ℕ, ◌<◌, ◌≤◌, List, ◌≡◌, refl, get_or, set}
+use Rattle.std.specs.Prelude.{ℕ, ◌<◌, ◌≤◌, List, ◌≡◌, refl, get_or, set, Option, None, Some}
 use Rattle.std.proofs.Common.{inr, ⊎_elim, sym, ◌∙◌}
 use Rattle.laws.specs.Choice.{same?}
 use Rattle.protocol.specs.declared.message.Kind.TheVariants.{Renew, Grant, Invalidate, Ack, Offer, Dropped, Batch, Cleared}
-use Rattle.protocol.specs.declared.message.Payload.{Payload}
-use Rattle.protocol.specs.declared.message.Payload.TheVariants.{Same, Value}
 use Rattle.protocol.specs.declared.records.Copy.{Copy}
 use Rattle.protocol.specs.declared.setup.Setup.{Setup}
 use Rattle.protocol.specs.Setup.{volume_of}
@@ -26,9 +24,9 @@ use Rattle.protocol.proofs.Safety.Requests.{has_record, request_ends, ended_idle
 use Rattle.protocol.specs.Ranges.{Ranges}
 use Rattle.protocol.specs.Safety.Taking.{seeing, Others, Own}
 
-pub names_same : (held held' ver : ℕ) (p : Payload) → held' ≡ held → NamesHeld held ver p → NamesHeld held' ver p
-names_same held held' ver Same e a = (a.0 ∙ sym e, a.1)
-names_same held held' ver (Value x) e a = tt
+pub names_same : (held held' ver : ℕ) (p : Option ℕ) → held' ≡ held → NamesHeld held ver p → NamesHeld held' ver p
+names_same held held' ver None e a = (a.0 ∙ sym e, a.1)
+names_same held held' ver (Some x) e a = tt
 
 -- ---- in all volumes
 

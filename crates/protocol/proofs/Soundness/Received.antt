@@ -1,14 +1,13 @@
 -- The bounds of question 1 are kept by every message received and by the restarts.
 -- h says that tables, or a part of them, are within the bounds; d, v and o are client, volume and object, p and q say that these exist; n, e, w, x, y and a
 -- are a message's number, epoch, version, volume expiry, object expiry and payload; c and r are the copy and the request.
-use Rattle.std.specs.Prelude.{ℕ, ◌+◌, ◌<◌, true, false, ◌&&◌, ◌≡◌, refl, ltb}
+use Rattle.std.specs.Prelude.{ℕ, ◌+◌, ◌<◌, true, false, ◌&&◌, ◌≡◌, refl, ltb, Option}
 use Rattle.std.proofs.Common.{arith, ltb-true, leb-true, lt-ltb, le-leb}
 use Rattle.laws.specs.Choice.{cond_keeps, and-true, both_true, not_both}
 use Rattle.laws.specs.Sets.{within_less}
 use Rattle.laws.specs.Each.{each_set, each_store, replicate_at}
 use Rattle.protocol.specs.declared.message.Kind.{Kind}
 use Rattle.protocol.specs.declared.message.Kind.TheVariants.{Renew, Grant, Invalidate, Ack, Offer, Dropped, Batch, Cleared}
-use Rattle.protocol.specs.declared.message.Payload.{Payload}
 use Rattle.protocol.specs.declared.records.Copy.{Copy}
 use Rattle.protocol.specs.declared.records.Request.{Request}
 use Rattle.protocol.specs.declared.setup.Setup.{Setup}
@@ -149,7 +148,7 @@ pub unchanged : {s : Setup} {c : Copy} {r : Request} {t : Tables} → Bounded s 
 unchanged h = record { tables = h; copy = λ b. b; request = λ b. b }
 
 module _ (s : Setup) (rs : Ranges s) (t : Tables) (c : Copy) (r : Request) (d : ℕ) (p : d < s.clients) (h : Bounded s t) where
-  grant_received_law : (o n x e w y : ℕ) (a : Payload) → Timed x → Timed y → Receipt s c r (grant_received s t c r d o n x e w y a)
+  grant_received_law : (o n x e w y : ℕ) (a : Option ℕ) → Timed x → Timed y → Receipt s c r (grant_received s t c r d o n x e w y a)
   unfolding grant_received
   grant_received_law o n x e w y a j k =
       cond_keeps (Receipt s c r) (stands r n)

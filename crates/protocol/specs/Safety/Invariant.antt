@@ -4,12 +4,10 @@
 -- u volumes, o, i and j objects. Of a message n is the number, e the epoch (n' and f another's), x the volume expiry, ver the version, y the object expiry, p
 -- the payload; z says that it is sent, and c is its clause. In proofs a, b, e, h, l, p, q and r are facts, ne is one that says that two are not the same, and
 -- hd, hv and ho are that an item exists.
-use Rattle.std.specs.Prelude.{ℕ, ◌+◌, ◌<◌, ◌≤◌, min, Bool, true, false, List, ◌⊎◌, ◌≡◌, get_or}
+use Rattle.std.specs.Prelude.{ℕ, ◌+◌, ◌<◌, ◌≤◌, min, Bool, true, false, List, ◌⊎◌, ◌≡◌, get_or, Option, None, Some}
 use Rattle.laws.specs.Sets.{bit_at}
 use Rattle.protocol.specs.declared.message.Message.{Message}
 use Rattle.protocol.specs.declared.message.Queue.{Queue}
-use Rattle.protocol.specs.declared.message.Payload.{Payload}
-use Rattle.protocol.specs.declared.message.Payload.TheVariants.{Same, Value}
 use Rattle.protocol.specs.declared.message.Kind.{Kind}
 use Rattle.protocol.specs.declared.message.Kind.TheVariants.{Renew, Grant, Invalidate, Ack, Offer, Dropped, Batch, Cleared}
 use Rattle.protocol.specs.declared.records.Copy.{Copy}
@@ -88,16 +86,16 @@ pub record RenewOk (s : Setup) (epoch known : List ℕ) (copies : List Copy) (re
   pub held : Stands requests d n → ver ≡ (copy_at s copies d o).version
 
 -- what a GRANT says of the value
-abbrev pub PayloadOk : List ℕ → List ℕ → ℕ → ℕ → Payload → Type 0
-PayloadOk value version o ver Same = Unit {0}
-PayloadOk value version o ver (Value x) = ver ≡ get_or version o 0 → x ≡ get_or value o 0
+abbrev pub PayloadOk : List ℕ → List ℕ → ℕ → ℕ → Option ℕ → Type 0
+PayloadOk value version o ver None = Unit {0}
+PayloadOk value version o ver (Some x) = ver ≡ get_or version o 0 → x ≡ get_or value o 0
 
 -- without a value it names the version of the copy that is held
-abbrev pub NamesHeld : ℕ → ℕ → Payload → Type 0
-NamesHeld held ver Same = (ver ≡ held) × (1 ≤ ver)
-NamesHeld held ver (Value x) = Unit {0}
+abbrev pub NamesHeld : ℕ → ℕ → Option ℕ → Type 0
+NamesHeld held ver None = (ver ≡ held) × (1 ≤ ver)
+NamesHeld held ver (Some x) = Unit {0}
 
-pub record GrantOk (s : Setup) (clocks : ℕ → ℕ) (epoch guard seen session : List ℕ) (excuse : ℕ → ℕ → ℕ → Bool) (offer batch value version lease : List ℕ) (copies : List Copy) (requests : List Request) (d o n x e ver y : ℕ) (p : Payload) : Type 0 where
+pub record GrantOk (s : Setup) (clocks : ℕ → ℕ) (epoch guard seen session : List ℕ) (excuse : ℕ → ℕ → ℕ → Bool) (offer batch value version lease : List ℕ) (copies : List Copy) (requests : List Request) (d o n x e ver y : ℕ) (p : Option ℕ) : Type 0 where
   pub exists : o < s.objects
   pub header : Header epoch seen requests d (volume_of s o) n e
   pub reached : ver ≤ get_or version o 0
