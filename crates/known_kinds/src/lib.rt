@@ -5,85 +5,136 @@
 ghost use Rattle.std.specs.Prelude.{◌≡◌};
 ghost use Rattle.protocol.specs.Gate.{is_clock, is_write, uses_client, uses_object, uses_place, known};
 ghost use Rattle.protocol.specs.Saved.{uses_name, known_kind};
+ghost use Rattle.known_kinds.specs.Kinds.{number_of, Numbers};
 
+use protocol::refusal::Refusal;
 use protocol::step::Step;
 
-// the kinds of steps, by 01's numbers
-pub const CLOCK: u8 = 1;
+// A kind of step: 01's nine, and the two of 02, A7: "two new step kinds, 10 save and 11 return, with the name in the place field".
+#[derive(Clone, Copy, PartialEq, Eq)]
+pub enum StepKind {
+    Clock,
+    Read,
+    Ask,
+    Write,
+    Deliver,
+    Lose,
+    Double,
+    RestartServer,
+    RestartClient,
+    Save,
+    Return,
+}
 
-pub const READ: u8 = 2;
+impl TryFrom<u8> for StepKind {
+    type Error = Refusal;
 
-pub const ASK: u8 = 3;
+    ghost try_from_gives = { Numbers };
 
-pub const WRITE: u8 = 4;
+    // Returns the kind with this number: "A step of an unknown kind is a refused one."
+    fn try_from(number: u8) -> Result<StepKind, Refusal> {
+        match number {
+            1 => Ok(StepKind::Clock),
+            2 => Ok(StepKind::Read),
+            3 => Ok(StepKind::Ask),
+            4 => Ok(StepKind::Write),
+            5 => Ok(StepKind::Deliver),
+            6 => Ok(StepKind::Lose),
+            7 => Ok(StepKind::Double),
+            8 => Ok(StepKind::RestartServer),
+            9 => Ok(StepKind::RestartClient),
+            10 => Ok(StepKind::Save),
+            11 => Ok(StepKind::Return),
+            _ => Err(Refusal::Kind),
+        }
+    }
+}
 
-pub const DELIVER: u8 = 5;
+impl From<StepKind> for u8 {
+    ghost from_gives = { λ kind n. n ≡ number_of kind };
 
-pub const LOSE: u8 = 6;
-
-pub const DOUBLE: u8 = 7;
-
-pub const RESTART_SERVER: u8 = 8;
-
-pub const RESTART_CLIENT: u8 = 9;
-
-// the kinds of 02, A7: "two new step kinds, 10 save and 11 return, with the name in the place field"
-pub const SAVE: u8 = 10;
-
-pub const RETURN: u8 = 11;
+    // Returns the number of the kind in 01 or 02.
+    fn from(kind: StepKind) -> u8 {
+        match kind {
+            StepKind::Clock => 1,
+            StepKind::Read => 2,
+            StepKind::Ask => 3,
+            StepKind::Write => 4,
+            StepKind::Deliver => 5,
+            StepKind::Lose => 6,
+            StepKind::Double => 7,
+            StepKind::RestartServer => 8,
+            StepKind::RestartClient => 9,
+            StepKind::Save => 10,
+            StepKind::Return => 11,
+        }
+    }
+}
 
 // Returns whether the kind is one of 01's: "Is the kind 1 to 9?"
 pub fn known(step: Step) -> bool
     ensures { result ≡ known step }
 {
-    (CLOCK <= step.kind) & (step.kind <= RESTART_CLIENT)
+    known_kind(step) & !uses_name(step)
 }
 
 // Returns whether the step's place is a name: "10 save and 11 return, with the name in the place field".
 pub fn uses_name(step: Step) -> bool
     ensures { result ≡ uses_name step }
 {
-    (step.kind == SAVE) | (step.kind == RETURN)
+    matches!(
+        StepKind::try_from(step.kind),
+        Ok(StepKind::Save | StepKind::Return)
+    )
 }
 
 // Returns whether the kind is known, saves and returns included: "A step of an unknown kind is a refused one."
 pub fn known_kind(step: Step) -> bool
     ensures { result ≡ known_kind step }
 {
-    known(step) | uses_name(step)
+    StepKind::try_from(step.kind).is_ok()
 }
 
 // Returns whether the step names a client: "the dash .. it uses".
 pub fn uses_client(step: Step) -> bool
     ensures { result ≡ uses_client step }
 {
-    (step.kind == READ) | (step.kind == ASK) | (step.kind == RESTART_CLIENT)
+    matches!(
+        StepKind::try_from(step.kind),
+        Ok(StepKind::Read | StepKind::Ask | StepKind::RestartClient)
+    )
 }
 
 // Returns whether the step names an object: "the .. object .. it uses".
 pub fn uses_object(step: Step) -> bool
     ensures { result ≡ uses_object step }
 {
-    (step.kind == READ) | (step.kind == ASK) | (step.kind == WRITE)
+    matches!(
+        StepKind::try_from(step.kind),
+        Ok(StepKind::Read | StepKind::Ask | StepKind::Write)
+    )
 }
 
 // Returns whether the step names a place: "the .. place it uses".
 pub fn uses_place(step: Step) -> bool
     ensures { result ≡ uses_place step }
 {
-    (step.kind == DELIVER) | (step.kind == LOSE) | (step.kind == DOUBLE)
+    matches!(
+        StepKind::try_from(step.kind),
+        Ok(StepKind::Deliver | StepKind::Lose | StepKind::Double)
+    )
 }
 
 // Returns whether this is a clock step; no other step uses the clock.
 pub fn uses_clock(step: Step) -> bool
     ensures { result ≡ is_clock step }
 {
-    step.kind == CLOCK
+    StepKind::try_from(step.kind) == Ok(StepKind::Clock)
 }
 
 // Returns whether this is a write; no other step uses the value.
 pub fn uses_value(step: Step) -> bool
     ensures { result ≡ is_write step }
 {
-    step.kind == WRITE
+    StepKind::try_from(step.kind) == Ok(StepKind::Write)
 }

@@ -11,5 +11,5 @@ pub fn volume_of(setup: Setup, object: usize) -> usize
     requires object_lt_objects { object < setup.objects }
     ensures { Placed setup object result }
 {
-    setup.volume[object] as usize
+    usize::from(setup.volume[object])
 }

@@ -1,5 +1,5 @@
 // Compares leases, guards and latest ends with the clock, and computes the latest end client by client.
-ghost use Rattle.std.specs.Prelude.{◌≡◌, not, min, max};
+ghost use Rattle.std.specs.Prelude.{◌≡◌, not};
 ghost use Rattle.protocol.specs.Leases.{server_alive, end_over};
 ghost use Rattle.lease_tests.specs.Parts.{waits_by, delays_by, outlast_by, ages_by};
 
@@ -54,30 +54,12 @@ pub fn ages(clock: u32, notes: u32, volume_lease: u32, delay: u32) -> bool
     (notes != 0) & (volume_lease <= clock - delay)
 }
 
-pub fn larger(a: u32, b: u32) -> u32
-    ensures { result ≡ max a b }
-{
-    if a < b {
-        return b;
-    }
-    a
-}
-
-fn smaller(a: u32, b: u32) -> u32
-    ensures { result ≡ min a b }
-{
-    if a < b {
-        return a;
-    }
-    b
-}
-
 // Extends the latest end by one client (02, A3): "over the waiting dashes, the lesser of that dash's volume and object expiry", if that is later.
 pub fn outlast(end: u32, waiting: bool, volume_lease: u32, object_lease: u32) -> u32
     ensures { result ≡ outlast_by end waiting volume_lease object_lease }
 {
     if waiting {
-        return larger(end, smaller(volume_lease, object_lease));
+        return end.max(volume_lease.min(object_lease));
     }
     end
 }

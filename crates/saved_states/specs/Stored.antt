@@ -1,7 +1,6 @@
 -- What a save stores and a return restores, for the words of any setup.
 -- Letters: s setup, w words, x values, ws and xs the words and the values under each name, vs and ys the same afterwards, n a name.
 use Rattle.std.specs.Prelude.{ℕ, ◌<◌, List, [], ◌≡◌, length, get_or, set}
-use Rattle.std.proofs.Common.{◌∙◌}
 use Rattle.laws.specs.Line.{state}
 use Rattle.protocol.specs.declared.setup.Setup.{Setup}
 use Rattle.protocol.specs.Saved.{names}

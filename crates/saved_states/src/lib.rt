@@ -7,7 +7,7 @@ ghost use Rattle.state_words.specs.Saved.{is_saved};
 ghost use Rattle.saved_states.specs.Stored.{Saves, Restores};
 
 use state_words::saved::{SAVED, SavedValues, SavedWords};
-use state_words::{Values, Words, pass};
+use state_words::{Values, Words};
 
 // Returns whether a state was saved under the name.
 pub fn is_saved(saved: &SavedWords, name: usize) -> bool
@@ -16,9 +16,6 @@ pub fn is_saved(saved: &SavedWords, name: usize) -> bool
 {
     saved[name][SAVED] != 0
 }
-
-// No-op; lending the arrays as slices gives the proof their lengths.
-fn lengths_known(_saved: &[Words], _values: &[Values]) {}
 
 // Saves the values under the name.
 fn save_values(values: &Values, saved_values: &mut SavedValues, name: usize)
@@ -39,8 +36,6 @@ pub fn save(
     requires { name < names }
     ensures { Saves words.now values.now saved.old saved_values.old name saved.new saved_values.new }
 {
-    pass::length_known(&*words);
-    lengths_known(&*saved, &*saved_values);
     saved[name] = *words;
     saved[name][SAVED] = 1;
     save_values(&*values, &mut *saved_values, name);

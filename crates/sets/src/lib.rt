@@ -1,6 +1,8 @@
 // Sets of numbers below 32 as the bits of a word: bit k says whether k is a member.
 #![tactic(auto)]
 
+pub mod members;
+
 ghost use Rattle.std.specs.Prelude.{cond, ◌≡◌, ◌≤◌, ◌<◌};
 ghost use Rattle.laws.specs.Sets.{bit_at, added, removed, less, within};
 ghost use Rattle.laws.specs.Skip.{Found};
@@ -57,6 +59,7 @@ pub fn less(m: u32, n: u32) -> u32
 }
 
 // Returns the first member from `from` on and below n, or n if there is none.
+// Kept: no loop, since `trailing_zeros` finds the member.
 pub fn next(m: u32, from: usize, n: usize) -> usize
     requires from_le_n { from ≤ n }
     requires n_bound { n < 32 }

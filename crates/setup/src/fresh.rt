@@ -6,6 +6,7 @@ use protocol::records::{Copy, Request};
 
 // Returns no copy: a client's copy before the first grant ("All else is fresh 0, none or no"; "version (0 is no copy)"), an erased one ("version, value and
 // expiry 0"), and what a place without a copy reads as.
+// Kept: the name says which of 01's values it is, where `Copy::default()` would only say that all is 0. So for `no_request`; the others are not all 0.
 pub fn fresh_copy() -> Copy
     ensures { result ≡ no_copy }
 {
@@ -21,7 +22,7 @@ pub fn idle(next: u32) -> Request
     ensures { result ≡ record { next = next; standing = false; number = 0; object = 0 } }
 {
     Request {
-        next: next,
+        next,
         standing: false,
         number: 0,
         object: 0,

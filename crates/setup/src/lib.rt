@@ -22,7 +22,7 @@ fn volume_fits(o: usize, v: u8, objects: u32, volumes: u32) -> bool
     ensures { result ≡ cond (ltb o objects) (ltb v volumes) (eqb v 0) }
 {
     if o < objects as usize {
-        return (v as u32) < volumes;
+        return u32::from(v) < volumes;
     }
     v == 0
 }
@@ -32,10 +32,8 @@ fn volumes_fit(setup: Setup) -> bool
     ensures { result ≡ all_from (volume_fits setup) 0 OBJECTS }
 {
     let mut ok = true;
-    let mut o = 0;
-    while o < limits::OBJECTS {
-        ok = ok & volume_fits(o, setup.volume[o], setup.objects, setup.volumes);
-        o += 1;
+    for o in 0..limits::OBJECTS {
+        ok &= volume_fits(o, setup.volume[o], setup.objects, setup.volumes);
     }
     ok
 }

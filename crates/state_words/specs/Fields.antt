@@ -1,6 +1,7 @@
 -- The fields in the words and in the values: each has a number, and the lengths of those before it give its offset.
-use Rattle.std.specs.Prelude.{ℕ, List, [], ◌∷◌}
+use Rattle.std.specs.Prelude.{ℕ, ◌+◌, List, [], ◌∷◌}
 use Rattle.laws.specs.Parts.{start}
+use Rattle.laws.specs.Store.{store_each, always}
 
 -- the fields' lengths, in the order of their numbers; a new field goes at the end of its side (network, server, clients), before the mark of a saved state
 abbrev pub word_lengths : List ℕ
@@ -132,3 +133,7 @@ at k = start word_lengths k
 
 abbrev pub at_value : ℕ → ℕ
 at_value k = start value_lengths k
+
+-- the n items from `field` on become x; of numbers, this is `filling`
+abbrev pub filled : {A : Type 0} → ℕ → ℕ → A → List A → List A
+filled field n x l = store_each always (λ (i : ℕ). field + i) (λ (i : ℕ). x) l n

@@ -1,10 +1,12 @@
 // Writing the fresh state (01, "Tables").
 ghost use Rattle.std.specs.Prelude.{true, false, cond, ◌≡◌};
 ghost use Rattle.protocol.specs.Setup.{in_range};
+ghost use Rattle.protocol.specs.Refusals.{refused_by};
 ghost use Rattle.protocol.specs.Tables.{fresh_tables};
 ghost use Rattle.state_words.specs.View.{tables_of, records_of, fresh_records};
 
 use crate::{VALUES, Values, WORDS, Words, client, pass, server};
+use protocol::refusal::Refusal;
 use protocol::setup::Setup;
 use setup::limits;
 
@@ -20,15 +22,15 @@ pub fn fresh(words: &mut Words, values: &mut Values)
     pass::fill(&mut *words, client::REQUEST_NEXT, limits::CLIENTS, 1);
 }
 
-// Writes the fresh state and returns 0 if the setup is in range; otherwise changes nothing and returns 7: "Elsewhere: setup in range? 7."
-pub fn fresh_for(setup: Setup, words: &mut Words, values: &mut Values) -> u8
-    ensures refusal { result ≡ cond (in_range setup) 0 7 }
+// Writes the fresh state if the setup is in range; otherwise changes nothing and refuses: "Elsewhere: setup in range? 7."
+pub fn fresh_for(setup: Setup, words: &mut Words, values: &mut Values) -> Result<(), Refusal>
+    ensures refusal { refused_by result ≡ cond (in_range setup) 0 7 }
     ensures accepts { in_range setup ≡ true → (tables_of words.new values.new ≡ fresh_tables) × (records_of words.new values.new ≡ fresh_records) }
     ensures refuses { in_range setup ≡ false → (words.new ≡ words.old) × (values.new ≡ values.old) }
 {
     if setup::in_range(setup) {
         fresh(&mut *words, &mut *values);
-        return 0;
+        return Ok(());
     }
-    7
+    Err(Refusal::Setup)
 }

@@ -1,4 +1,4 @@
-// Lays out the whole state in two lent arrays of numbers: the offset of each field, and stores into one field.
+// Lays out the whole state in two lent arrays of numbers: the offset of each field, the fresh state, and filling a part.
 #![tactic(auto)]
 
 pub mod client;

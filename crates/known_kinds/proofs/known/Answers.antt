@@ -1,7 +1,9 @@
-use borrow.Author.Rules.{rules}
+use Rattle.std.proofs.Common.{arith}
+use Rattle.std.proofs.lemmas.Grind.{common_steps}
 use Rattle.protocol.specs.Gate.{known}
+use Rattle.protocol.specs.Saved.{known_kind}
 use Rattle.known_kinds.proofs.known.Goals as goal
 
 pub returns : goal.returns
-unfolding known
-returns c = search rules
+unfolding known known_kind
+returns c = grind (arith, common_steps)

@@ -8,7 +8,7 @@ returns c =
     record {
       words = set_row marked [] c.args.saved.now c.args.name c.args.words.now;
       values = c.save_values.ensures;
-      long = c.length_known-arg-1.given;
-      names_words = c.lengths_known-arg-2-1.given;
-      names_values = c.lengths_known-arg-4-1.given;
+      long = c.told-words;
+      names_words = c.told-saved;
+      names_values = c.told-saved_values;
     }

@@ -7,4 +7,4 @@ pub bounds-setup-object : goal.bounds-setup-object
 bounds-setup-object c = omega (arith, ranges c.args.setup c.requires.setup_value)
 
 pub returns : goal.returns
-returns c = search placed
+returns c = rw c.from.ensures (placed _ _ c.requires.setup_value c.requires.object_lt_objects)
