@@ -1,41 +1,42 @@
 -- Every message that fits has one frame, and every accepted frame belongs to exactly one message.
-use Rattle.std.specs.Prelude.{ℕ, true, List, ◌≡◌, eqb, length}
-use Rattle.std.proofs.Common.{arith, sym, ap, ◌∙◌}
+use Rattle.std.specs.Prelude.{ℕ, true, List, ◌≡◌, Result, Ok, Err, eqb, length}
+use Rattle.std.proofs.Common.{sym, ap, ◌∙◌}
 use Rattle.std.proofs.Math.Logic.{⊎_elim}
 use borrow.Author.Tests.{eq-eqb, eqb-true}
 use Rattle.laws.specs.Choice.{true_or_false}
 use Rattle.bytes_layout.specs.Number.{bytes_of, Bytes}
 use Rattle.bytes_layout.proofs.Number.{number_below}
 use Rattle.protocol.specs.declared.message.Message.{Message}
+use Rattle.protocol.specs.declared.refusal.Refusal.{Refusal}
+use Rattle.protocol.specs.declared.refusal.Refusal.TheVariants as no
 use Rattle.message_fields.specs.declared.Fields.{Fields}
-use Rattle.message_fields.specs.Fields.{fields_of, message_in, same}
+use Rattle.message_fields.specs.Fields.{fields_of, message_in, same, accepted}
 use Rattle.message_fields.proofs.Round.{message_back, same_self, same_true}
 use Rattle.frame_places.specs.Places.{numbers, laid, fields_in}
 use Rattle.frame_places.specs.Round.{FieldsFit}
 use Rattle.frame_places.proofs.Round.{fields_back, laid_back}
-use Rattle.frame.specs.declared.Decoded.TheVariants.{Accepted, Refused}
-use Rattle.frame.specs.Frame.{frame_of, accepted, message_of}
+use Rattle.frame.specs.Frame.{frame_of, message_of}
 
 abbrev pub Fits : Message → Type 0
 Fits m = FieldsFit (fields_of m)
 
-accepted_own : (m : Message) → accepted (fields_of m) ≡ Accepted m
+accepted_own : (m : Message) → accepted (fields_of m) ≡ Ok m
 unfolding accepted
 accepted_own m =
     let e : same (fields_of (message_in (fields_of m))) (fields_of m) ≡ true =
     ap (λ (n : Message). same (fields_of n) (fields_of m)) (message_back m) ∙ same_self (fields_of m) in
-    rw e (ap Accepted (message_back m))
+    rw e (ap Ok (message_back m))
 
 -- An encoded message decodes to itself.
-pub decodes : (m : Message) → Fits m → message_of (frame_of m) ≡ Accepted m
+pub decodes : (m : Message) → Fits m → message_of (frame_of m) ≡ Ok m
 unfolding message_of laid numbers bytes_of
 decodes m h = ap accepted (fields_back (fields_of m) h) ∙ accepted_own m
 
-never : {A : Type 0} {m : Message} → Refused ≡ Accepted m → A
-never q = let z : ◌≡◌ {A = ℕ} 0 1 = cc in absurd (omega arith)
+never : {A : Type 0} {m : Message} → ◌≡◌ {A = Result Message Refusal} (Err no.Frame) (Ok m) → A
+never q = cc
 
 -- A message accepted from fields has exactly those fields.
-fields_same : (f : Fields) (m : Message) → accepted f ≡ Accepted m → fields_of m ≡ f
+fields_same : (f : Fields) (m : Message) → accepted f ≡ Ok m → fields_of m ≡ f
 unfolding accepted
 fields_same f m e = ⊎_elim yes (λ t. never (rw t at e)) (true_or_false (same (fields_of (message_in f)) f))
   where
@@ -44,10 +45,10 @@ fields_same f m e = ⊎_elim yes (λ t. never (rw t at e)) (true_or_false (same 
         let n : message_in f ≡ m = same_message (rw t at e) in
         ap fields_of (sym n) ∙ same_true _ _ t
       where
-        same_message : {n : Message} → Accepted n ≡ Accepted m → n ≡ m
+        same_message : {n : Message} → ◌≡◌ {A = Result Message Refusal} (Ok n) (Ok m) → n ≡ m
         same_message q = cc
 
-module _ (l : List ℕ) (b : Bytes l) (m : Message) (e : message_of l ≡ Accepted m) where
+module _ (l : List ℕ) (b : Bytes l) (m : Message) (e : message_of l ≡ Ok m) where
   long : length l ≡ 32
   unfolding message_of
   long = ⊎_elim (λ t. eqb-true _ _ t) (λ t. never (rw t at e)) (true_or_false (eqb (length l) 32))
@@ -78,9 +79,9 @@ module _ (l : List ℕ) (b : Bytes l) (m : Message) (e : message_of l ≡ Accept
 pub one_message : (m n : Message) → Fits m → Fits n → frame_of m ≡ frame_of n → m ≡ n
 one_message m n g h e = same_message (sym (decodes m g) ∙ (ap message_of e ∙ decodes n h))
   where
-    same_message : Accepted m ≡ Accepted n → m ≡ n
+    same_message : ◌≡◌ {A = Result Message Refusal} (Ok m) (Ok n) → m ≡ n
     same_message q = cc
 
 -- Only the decoded message has this frame. (`encodes` shows that it does.)
-pub no_other : (l : List ℕ) → Bytes l → (m n : Message) → message_of l ≡ Accepted m → Fits n → frame_of n ≡ l → n ≡ m
+pub no_other : (l : List ℕ) → Bytes l → (m n : Message) → message_of l ≡ Ok m → Fits n → frame_of n ≡ l → n ≡ m
 no_other l b m n e h g = one_message n m h (decoded_fits l b m e) (g ∙ sym (encodes l b m e))

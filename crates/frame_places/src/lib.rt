@@ -12,6 +12,7 @@ pub const FRAME: usize = 32;
 
 // Returns the fields as they are, without checking that they make a message: "kind .., dash, object .., value present .., number, volume expiry, epoch,
 // version, object expiry; value in 8 bytes".
+// Kept: here and in `write` the numbers go by `bytes_layout`, where their bytes are read and written.
 pub fn read(bytes: &[u8]) -> Fields
     requires { FRAME ≤ length bytes.now }
     ensures { result ≡ fields_in bytes.now }

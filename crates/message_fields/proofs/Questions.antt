@@ -1,14 +1,12 @@
 -- The test of a frame's fields is the question of 01, spelled out: "kind, value present and zero fields right?"
-use Rattle.std.specs.Prelude.{ℕ, Bool, true, false, ◌&&◌, ◌≡◌, refl, eqb}
+use Rattle.std.specs.Prelude.{ℕ, Bool, true, false, ◌&&◌, ◌≡◌, refl, eqb, Option, None, Some}
 use Rattle.std.proofs.Math.Decide.{ℕ_discrete}
 use Rattle.std.proofs.Math.Bool.{cond, and-true, and-false}
 use Rattle.std.proofs.Common.{sym, ap, subst, ◌∙◌}
 use borrow.Author.Tests.{eq-eqb, ne_eqb}
 use Rattle.protocol.specs.declared.message.Kind.TheVariants.{Grant}
-use Rattle.protocol.specs.declared.message.Payload.{Payload}
-use Rattle.protocol.specs.declared.message.Payload.TheVariants.{Same, Value}
 use Rattle.message_fields.specs.declared.Fields.{Fields}
-use Rattle.message_fields.specs.Fields.{row, kind_fields, set_kind_in, kind_in, same, sound}
+use Rattle.message_fields.specs.Fields.{row, kind_fields, kind_in, same, sound}
 use Rattle.message_fields.specs.Questions.{none, right}
 
 self : (n : ℕ) → eqb n n ≡ true
@@ -28,7 +26,7 @@ past_three a b c d e = ap (λ (z : Bool). z && e) (past_two a b c d) ∙ past_on
 
 module _ (d o p n x e w y v : ℕ) where
   renew : sound (row 1 d o p n x e w y v) ≡ right (row 1 d o p n x e w y v)
-  unfolding right same kind_fields set_kind_in kind_in
+  unfolding right same kind_fields kind_in
   renew = simp (self, and-true)
 
   invalidate : sound (row 3 d o p n x e w y v) ≡ right (row 3 d o p n x e w y v)
@@ -48,21 +46,21 @@ module _ (d o p n x e w y v : ℕ) where
   dropped = simp (self, and-true) (past_two (none p && none x) (none w) (none y) (none v))
 
   batch : sound (row 7 d o p n x e w y v) ≡ right (row 7 d o p n x e w y v)
-  unfolding right same kind_fields set_kind_in kind_in
+  unfolding right same kind_fields kind_in
   batch = simp (self, and-true)
 
   cleared : sound (row 8 d o p n x e w y v) ≡ right (row 8 d o p n x e w y v)
-  unfolding right same kind_fields set_kind_in kind_in
+  unfolding right same kind_fields kind_in
   cleared = simp (self, and-true)
 
-  grant_with : Payload → Bool
+  grant_with : Option ℕ → Bool
   grant_with q = same (kind_fields d (Grant o n x e w y q)) (row 2 d o p n x e w y v)
 
-  grant_some : grant_with (Value v) ≡ eqb 1 p
+  grant_some : grant_with (Some v) ≡ eqb 1 p
   unfolding same kind_fields grant_with
   grant_some = simp (self, and-true)
 
-  grant_none : grant_with Same ≡ (none p && none v)
+  grant_none : grant_with None ≡ (none p && none v)
   unfolding same kind_fields grant_with
   grant_none = simp (self, and-true)
 
@@ -70,13 +68,13 @@ module _ (d o p n x e w y v : ℕ) where
   unfolding right kind_in grant_with
   grant = go (ℕ_discrete p 0)
     where
-      go : Dec (p ≡ 0) → grant_with (cond (eqb p 0) Same (Value v)) ≡ cond (eqb p 0) (none v) (eqb 1 p)
+      go : Dec (p ≡ 0) → grant_with (cond (eqb p 0) None (Some v)) ≡ cond (eqb p 0) (none v) (eqb 1 p)
       go (yes h) = rw (eq-eqb p 0 h) (grant_none ∙ rw h)
       go (no h) = rw (ne_eqb p 0 h) grant_some
 
   other : (k : ℕ) → (k ≡ 1 → ⊥) → (k ≡ 2 → ⊥) → (k ≡ 3 → ⊥) → (k ≡ 4 → ⊥) → (k ≡ 5 → ⊥) → (k ≡ 6 → ⊥)
       → (k ≡ 7 → ⊥) → (k ≡ 8 → ⊥) → sound (row k d o p n x e w y v) ≡ right (row k d o p n x e w y v)
-  unfolding right same kind_fields set_kind_in kind_in
+  unfolding right same kind_fields kind_in
   other k a b c f g h i j =
       rw (
         ne_eqb k 1 a,

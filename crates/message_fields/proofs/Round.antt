@@ -1,19 +1,18 @@
 -- A message can be read back from its fields, so no two messages have the same fields.
-use Rattle.std.specs.Prelude.{ℕ, true, ◌≡◌, refl}
+use Rattle.std.specs.Prelude.{ℕ, true, ◌≡◌, refl, None, Some}
 use Rattle.std.proofs.Common.{ap, ◌∙◌, eq-eqb, eqb-true}
 use Rattle.laws.specs.Choice.{and-true}
 use Rattle.protocol.specs.declared.message.Message.{Message}
 use Rattle.protocol.specs.declared.message.Kind.{Kind}
 use Rattle.protocol.specs.declared.message.Kind.TheVariants.{Renew, Grant, Invalidate, Ack, Offer, Dropped, Batch, Cleared}
-use Rattle.protocol.specs.declared.message.Payload.TheVariants.{Same, Value}
 use Rattle.message_fields.specs.declared.Fields.{Fields}
-use Rattle.message_fields.specs.Fields.{row, kind_fields, fields_of, set_kind_in, kind_in, message_in, same, sound}
+use Rattle.message_fields.specs.Fields.{row, kind_fields, fields_of, kind_in, message_in, same, sound}
 
 kind_back : (d : ℕ) (k : Kind) → kind_in (kind_fields d k) ≡ k
-unfolding kind_fields set_kind_in kind_in
+unfolding kind_fields kind_in
 kind_back d (Renew o n e w) = refl
-kind_back d (Grant o n x e w y (Value v)) = refl
-kind_back d (Grant o n x e w y Same) = refl
+kind_back d (Grant o n x e w y (Some v)) = refl
+kind_back d (Grant o n x e w y None) = refl
 kind_back d (Invalidate o e w) = refl
 kind_back d (Ack o e w) = refl
 kind_back d (Offer v n e) = refl
@@ -24,8 +23,8 @@ kind_back d (Cleared v n e m) = refl
 client_back : (d : ℕ) (k : Kind) → (kind_fields d k).client ≡ d
 unfolding kind_fields
 client_back d (Renew o n e w) = refl
-client_back d (Grant o n x e w y (Value v)) = refl
-client_back d (Grant o n x e w y Same) = refl
+client_back d (Grant o n x e w y (Some v)) = refl
+client_back d (Grant o n x e w y None) = refl
 client_back d (Invalidate o e w) = refl
 client_back d (Ack o e w) = refl
 client_back d (Offer v n e) = refl

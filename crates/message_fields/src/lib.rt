@@ -1,15 +1,15 @@
 // Converts a message to its fields as numbers, by its kind, and back.
 #![tactic(auto)]
 
-ghost use Rattle.std.specs.Prelude.{◌≤◌, ◌≡◌};
-ghost use Rattle.protocol.specs.declared.message.Kind.TheVariants.{Grant};
-ghost use Rattle.message_fields.specs.Fields.{row, kind_fields, fields_of, payload_in, set_kind_in, kind_in, message_in, sound};
+ghost use Rattle.std.specs.Prelude.{◌≡◌};
+ghost use Rattle.message_fields.specs.Fields.{fields_of, payload_in, kind_in, message_in, sound, accepted};
 ghost use Rattle.message_fields.specs.Questions.{payload_right, no_lease};
 
-use protocol::message::{Kind, Message, Payload};
+use protocol::message::{Kind, Message};
+use protocol::refusal::Refusal;
 
 // Holds all ten fields in the frame's order. In a message, fields that its kind lacks are 0.
-#[derive(Clone, Copy)]
+#[derive(Clone, Copy, Default, PartialEq, Eq)]
 pub struct Fields {
     pub kind: u8,
     pub client: u8,
@@ -26,227 +26,193 @@ pub struct Fields {
     pub value: u64,
 }
 
-// Builds fields without the four that only a GRANT has: "Fields a kind lacks are 0".
-fn without_lease(kind: u8, client: u8, object: u8, number: u32, epoch: u32, version: u32) -> Fields
-    ensures { result ≡ row kind client object 0 number 0 epoch version 0 0 }
-{
-    Fields {
-        kind,
-        client,
-        object,
-        present: 0,
-        number,
-        volume_expiry: 0,
-        epoch,
-        version,
-        object_expiry: 0,
-        value: 0,
-    }
-}
+impl From<Message> for Fields {
+    ghost from_gives = { λ m f. f ≡ fields_of m };
 
-// Adds a GRANT's own four fields: "value present (0 or 1)", and "A GRANT without value has value 0."
-fn with_lease(f: Fields, volume_expiry: u32, object_expiry: u32, payload: Payload) -> Fields
-    ensures { result ≡ kind_fields f.client (Grant f.object f.number volume_expiry f.epoch f.version object_expiry payload) }
-{
-    match payload {
-        Payload::Value(value) => Fields {
-            kind: 2,
-            client: f.client,
-            object: f.object,
-            present: 1,
-            number: f.number,
-            volume_expiry,
-            epoch: f.epoch,
-            version: f.version,
-            object_expiry,
-            value,
-        },
-        Payload::Same => Fields {
-            kind: 2,
-            client: f.client,
-            object: f.object,
-            present: 0,
-            number: f.number,
-            volume_expiry,
-            epoch: f.epoch,
-            version: f.version,
-            object_expiry,
-            value: 0,
-        },
-    }
-}
-
-// Returns the fields of a kind from 5 on: "OFFER and DROPPED volume, number and epoch." 02, A6: "BATCH (kind 7) with number, epoch and the noted set, bit k
-// for object k, in the version field", "CLEARED (kind 8) with number, epoch and set; in both the object byte names the volume". The last arm is never taken.
-fn volume_fields(client: u8, kind: Kind) -> Fields
-    requires { 5 ≤ (kind_fields client kind).kind }
-    ensures { result ≡ kind_fields client kind }
-{
-    match kind {
-        Kind::Offer {
-            volume,
-            number,
-            epoch,
-        } => without_lease(5, client, volume, number, epoch, 0),
-        Kind::Dropped {
-            volume,
-            number,
-            epoch,
-        } => without_lease(6, client, volume, number, epoch, 0),
-        Kind::Batch {
-            volume,
-            number,
-            epoch,
-            set,
-        } => without_lease(7, client, volume, number, epoch, set),
-        Kind::Cleared {
-            volume,
-            number,
-            epoch,
-            set,
-        } => without_lease(8, client, volume, number, epoch, set),
-        _ => without_lease(0, client, 0, 0, 0, 0),
-    }
-}
-
-// Returns the fields of a message by its kind, "1 to 6 in the order RENEW, GRANT, INVALIDATE, ACK, OFFER, DROPPED": "RENEW has object, number, epoch and
-// version; GRANT every field; INVALIDATE and ACK object, epoch and version; OFFER and DROPPED volume, number and epoch." Kinds from 5 on, which are about a
-// volume, are left to `volume_fields`.
-fn kind_fields(client: u8, kind: Kind) -> Fields
-    ensures { result ≡ kind_fields client kind }
-{
-    match kind {
-        Kind::Renew {
-            object,
-            number,
-            epoch,
-            version,
-        } => without_lease(1, client, object, number, epoch, version),
-        Kind::Grant {
-            object,
-            number,
-            volume_expiry,
-            epoch,
-            version,
-            object_expiry,
-            payload,
-        } => {
-            let f = without_lease(2, client, object, number, epoch, version);
-            with_lease(f, volume_expiry, object_expiry, payload)
+    // Returns the fields of a message by its kind, "1 to 6 in the order RENEW, GRANT, INVALIDATE, ACK, OFFER, DROPPED": "RENEW has object, number, epoch
+    // and version; GRANT every field; INVALIDATE and ACK object, epoch and version; OFFER and DROPPED volume, number and epoch." 02, A6: "BATCH (kind 7)
+    // with number, epoch and the noted set, bit k for object k, in the version field", "CLEARED (kind 8) with number, epoch and set; in both the object byte
+    // names the volume". "Fields a kind lacks are 0": "value present (0 or 1)", and "A GRANT without value has value 0."
+    #[tactic(auto, unfolding(crate::specs::Fields::kind_fields))]
+    fn from(message: Message) -> Fields {
+        let base = Fields {
+            client: message.client,
+            ..Fields::default()
+        };
+        match message.kind {
+            Kind::Renew {
+                object,
+                number,
+                epoch,
+                version,
+            } => Fields {
+                kind: 1,
+                object,
+                number,
+                epoch,
+                version,
+                ..base
+            },
+            Kind::Grant {
+                object,
+                number,
+                volume_expiry,
+                epoch,
+                version,
+                object_expiry,
+                payload,
+            } => Fields {
+                kind: 2,
+                object,
+                present: u8::from(payload.is_some()),
+                number,
+                volume_expiry,
+                epoch,
+                version,
+                object_expiry,
+                value: payload.unwrap_or(0),
+                ..base
+            },
+            Kind::Invalidate {
+                object,
+                epoch,
+                version,
+            } => Fields {
+                kind: 3,
+                object,
+                epoch,
+                version,
+                ..base
+            },
+            Kind::Ack {
+                object,
+                epoch,
+                version,
+            } => Fields {
+                kind: 4,
+                object,
+                epoch,
+                version,
+                ..base
+            },
+            Kind::Offer {
+                volume,
+                number,
+                epoch,
+            } => Fields {
+                kind: 5,
+                object: volume,
+                number,
+                epoch,
+                ..base
+            },
+            Kind::Dropped {
+                volume,
+                number,
+                epoch,
+            } => Fields {
+                kind: 6,
+                object: volume,
+                number,
+                epoch,
+                ..base
+            },
+            Kind::Batch {
+                volume,
+                number,
+                epoch,
+                set,
+            } => Fields {
+                kind: 7,
+                object: volume,
+                number,
+                epoch,
+                version: set,
+                ..base
+            },
+            Kind::Cleared {
+                volume,
+                number,
+                epoch,
+                set,
+            } => Fields {
+                kind: 8,
+                object: volume,
+                number,
+                epoch,
+                version: set,
+                ..base
+            },
         }
-        Kind::Invalidate {
-            object,
-            epoch,
-            version,
-        } => without_lease(3, client, object, 0, epoch, version),
-        Kind::Ack {
-            object,
-            epoch,
-            version,
-        } => without_lease(4, client, object, 0, epoch, version),
-        _ => volume_fields(client, kind),
     }
-}
-
-pub fn fields_of(message: Message) -> Fields
-    ensures { result ≡ fields_of message }
-{
-    let kind = message.kind;
-    kind_fields(message.client, kind)
 }
 
 // Returns a GRANT's value, if there is one: "A GRANT without value has value 0."
-fn payload_in(f: Fields) -> Payload
+fn payload_in(f: Fields) -> Option<u64>
     ensures { result ≡ payload_in f }
 {
-    if f.present == 0 {
-        return Payload::Same;
-    }
-    Payload::Value(f.value)
+    if f.present == 0 { None } else { Some(f.value) }
 }
 
-fn grant_in(f: Fields) -> Kind
-    ensures { result ≡ Grant f.object f.number f.volume_expiry f.epoch f.version f.object_expiry (payload_in f) }
-{
-    Kind::Grant {
-        object: f.object,
-        number: f.number,
-        volume_expiry: f.volume_expiry,
-        epoch: f.epoch,
-        version: f.version,
-        object_expiry: f.object_expiry,
-        payload: payload_in(f),
-    }
-}
-
-// Returns a kind with a set, "BATCH (kind 7)" or "CLEARED (kind 8)" (02, A6). Other kind numbers read as RENEW.
-fn set_kind_in(f: Fields) -> Kind
-    ensures { result ≡ set_kind_in f }
-{
-    if f.kind == 7 {
-        return Kind::Batch {
-            volume: f.object,
-            number: f.number,
-            epoch: f.epoch,
-            set: f.version,
-        };
-    }
-    if f.kind == 8 {
-        return Kind::Cleared {
-            volume: f.object,
-            number: f.number,
-            epoch: f.epoch,
-            set: f.version,
-        };
-    }
-    Kind::Renew {
-        object: f.object,
-        number: f.number,
-        epoch: f.epoch,
-        version: f.version,
-    }
-}
-
-// Returns the kind with these fields, "1 to 6 in the order RENEW, GRANT, INVALIDATE, ACK, OFFER, DROPPED", or 7 and 8 (02, A6). Unknown kind numbers read as
-// RENEW; `sound` rejects them.
+// Returns the kind with these fields, "1 to 6 in the order RENEW, GRANT, INVALIDATE, ACK, OFFER, DROPPED", "BATCH (kind 7)" or "CLEARED (kind 8)" (02, A6).
+// Unknown kind numbers read as RENEW; `sound` rejects them.
+#[tactic(auto, unfolding(crate::specs::Fields::kind_in))]
 fn kind_in(f: Fields) -> Kind
     ensures { result ≡ kind_in f }
 {
-    if f.kind == 2 {
-        return grant_in(f);
-    }
-    if f.kind == 3 {
-        return Kind::Invalidate {
+    match f.kind {
+        2 => Kind::Grant {
+            object: f.object,
+            number: f.number,
+            volume_expiry: f.volume_expiry,
+            epoch: f.epoch,
+            version: f.version,
+            object_expiry: f.object_expiry,
+            payload: payload_in(f),
+        },
+        3 => Kind::Invalidate {
             object: f.object,
             epoch: f.epoch,
             version: f.version,
-        };
-    }
-    if f.kind == 4 {
-        return Kind::Ack {
+        },
+        4 => Kind::Ack {
             object: f.object,
             epoch: f.epoch,
             version: f.version,
-        };
-    }
-    if f.kind == 5 {
-        return Kind::Offer {
+        },
+        5 => Kind::Offer {
             volume: f.object,
             number: f.number,
             epoch: f.epoch,
-        };
-    }
-    if f.kind == 6 {
-        return Kind::Dropped {
+        },
+        6 => Kind::Dropped {
             volume: f.object,
             number: f.number,
             epoch: f.epoch,
-        };
+        },
+        7 => Kind::Batch {
+            volume: f.object,
+            number: f.number,
+            epoch: f.epoch,
+            set: f.version,
+        },
+        8 => Kind::Cleared {
+            volume: f.object,
+            number: f.number,
+            epoch: f.epoch,
+            set: f.version,
+        },
+        _ => Kind::Renew {
+            object: f.object,
+            number: f.number,
+            epoch: f.epoch,
+            version: f.version,
+        },
     }
-    set_kind_in(f)
 }
 
 // Returns the message with these fields, ignoring those that its kind lacks.
+// Kept: a function that tests nothing, to read the row of a live message, which the gate has found sound. `Message::try_from` tests its fields.
 pub fn message_in(f: Fields) -> Message
     ensures { result ≡ message_in f }
 {
@@ -256,14 +222,31 @@ pub fn message_in(f: Fields) -> Message
     }
 }
 
+impl TryFrom<Fields> for Message {
+    type Error = Refusal;
+
+    ghost try_from_gives = { λ f r. r ≡ accepted f };
+
+    // Returns the message with these fields; refuses fields that no message has.
+    #[tactic(auto, unfolding(crate::specs::Fields::accepted))]
+    fn try_from(f: Fields) -> Result<Message, Refusal> {
+        if sound(f) {
+            Ok(message_in(f))
+        } else {
+            Err(Refusal::Frame)
+        }
+    }
+}
+
 // Returns whether a GRANT's value flag is right: 1, or 0 with value 0.
 fn payload_right(f: Fields) -> bool
     ensures { result ≡ payload_right f }
 {
     if f.present == 0 {
-        return 0 == f.value;
+        0 == f.value
+    } else {
+        1 == f.present
     }
-    1 == f.present
 }
 
 // Returns whether the fields that only a GRANT has are 0.
@@ -275,20 +258,20 @@ fn no_lease(f: Fields) -> bool
 
 // Returns whether these are the fields of a message: the kind is known, "Fields a kind lacks are 0", and a GRANT's value flag is right. Any version is
 // a set of a BATCH or a CLEARED here.
+// Kept: arms with the same value apart, since an or-pattern of numbers is split by ranges, and its goals then have no stable names.
+#[tactic(auto, using(crate::proofs::Questions::asked), unfolding(crate::specs::Questions::right))]
 pub fn sound(f: Fields) -> bool
     ensures { result ≡ sound f }
 {
-    if (f.kind == 1) | (f.kind == 7) | (f.kind == 8) {
-        return no_lease(f);
+    match f.kind {
+        1 => no_lease(f),
+        2 => payload_right(f),
+        3 => no_lease(f) & (0 == f.number),
+        4 => no_lease(f) & (0 == f.number),
+        5 => no_lease(f) & (0 == f.version),
+        6 => no_lease(f) & (0 == f.version),
+        7 => no_lease(f),
+        8 => no_lease(f),
+        _ => false,
     }
-    if f.kind == 2 {
-        return payload_right(f);
-    }
-    if (f.kind == 3) | (f.kind == 4) {
-        return no_lease(f) & (0 == f.number);
-    }
-    if (f.kind == 5) | (f.kind == 6) {
-        return no_lease(f) & (0 == f.version);
-    }
-    false
 }
