@@ -1,65 +1,46 @@
--- The code's reads and stores, byte by byte, agree with the definitions.
-use Prim.Native.Nat.{ℕ, suc, ◌+◌, ◌*◌, ◌/◌, ◌%◌}
-use native.Mathlib.Omega.{arith}
-use mathlib.Core.List.{List}
-use mathlib.Core.Path.{◌≡◌, ◌∙◌}
-use lib.ListN.{get_or, set, length-set}
-use lib.Seq.{sets}
-use Rattle.bytes_layout.specs.Number.{little_endian, bytes_of, bytes_at, number_at, four_bytes, Stored}
+-- The library's bytes of a number, and its number of bytes, agree with the definitions.
+use Rattle.std.specs.Prelude.{ℕ, ◌/◌, List, ◌≡◌}
+use Rattle.std.proofs.Common.{arith, ◌∙◌}
+use Rattle.std.specs.Int.{w32, w64, to_le_bytes, from_le_bytes}
+use Rattle.bytes_layout.specs.Number.{little_endian, bytes_of, bytes_at, number_at, Stored}
+use Rattle.bytes_layout.specs.Written.{Written}
 
--- the offsets after p, as the definitions count them and as the code does
-two : (p : ℕ) → p + 1 + 1 ≡ p + 2
-two p = omega arith
-
-three : (p : ℕ) → p + 2 + 1 ≡ p + 3
-three p = omega arith
-
-module _ (l : List ℕ) (p : ℕ) where
-  pub four : (r : ℕ) → r ≡ get_or l p 0 + 256 * (get_or l (p + 1) 0 + 256 * (get_or l (p + 2) 0 + 256 * get_or l (p + 3) 0)) → r ≡ number_at l p 4
+module _ (l b : List ℕ) (p r : ℕ) where
+  pub four : b ≡ bytes_at l p 4 → r ≡ from_le_bytes w32 b → r ≡ number_at l p 4
   unfolding little_endian bytes_at
-  four r e = rw (two, three) (omega arith)
+  four e f =
+      let g = rw e at f in
+      omega arith
 
-  pub eight : (a b r : ℕ) → a ≡ number_at l p 4 → b ≡ number_at l (p + 4) 4 → r ≡ a + 4294967296 * b → r ≡ number_at l p 8
+  pub eight : b ≡ bytes_at l p 8 → r ≡ from_le_bytes w64 b → r ≡ number_at l p 8
   unfolding little_endian bytes_at
-  eight a b r e f g =
-      let k : p + 1 + 1 + 1 + 1 ≡ p + 4 = omega arith in
-      rw (k, g, e, f) (omega arith)
+  eight e f =
+      let g = rw e at f in
+      omega arith
 
--- four stores of one byte are one store of four
-pub store_four : (l : List ℕ) (p a b c d : ℕ) → Stored l (set (set (set (set l p a) (p + 1) b) (p + 2) c) (p + 3) d) p (four_bytes a b c d)
-store_four l p a b c d =
-    let i : p + 1 ≡ suc p = omega arith in
-    let j : p + 2 ≡ suc (suc p) = omega arith in
-    let k : p + 3 ≡ suc (suc (suc p)) = omega arith in
-    record { stored = rw (i, j, k); long = simp length-set }
+module _ (x : ℕ) where
+  two : x / 256 / 256 ≡ x / 65536
+  two = omega arith
 
--- .. and a store of a number, if each is the byte that the code computes
-pub store_number : (l m : List ℕ) (p x a b c d : ℕ) → a ≡ x % 256 → b ≡ x / 256 % 256 → c ≡ x / 65536 % 256 → d ≡ x / 16777216 % 256
-    → Stored l m p (four_bytes a b c d) → Stored l m p (bytes_of 4 x)
-unfolding bytes_of
-store_number l m p x a b c d e f g h s =
-    let v : x / 256 / 256 ≡ x / 65536 = omega arith in
-    let w : x / 65536 / 256 ≡ x / 16777216 = omega arith in
-    record { stored = s.stored ∙ rw (e, f, g, h, v, w); long = s.long }
+  three : x / 65536 / 256 ≡ x / 16777216
+  three = omega arith
 
--- adding 256 * k keeps the lowest byte and adds k to the rest
-byte : (x y k : ℕ) → x ≡ y + 256 * k → (x % 256 ≡ y % 256) × (x / 256 ≡ y / 256 + k)
-byte x y k e = (omega arith, omega arith)
+  bytes_four : to_le_bytes w32 x ≡ bytes_of 4 x
+  unfolding bytes_of
+  bytes_four = rw (two, three)
 
--- a number's eight bytes are the four of its lower half, then the four of its upper half
-halves : (l : List ℕ) (p x : ℕ) → sets (sets l p (bytes_of 4 (x % 4294967296))) (p + 4) (bytes_of 4 (x / 4294967296)) ≡ sets l p (bytes_of 8 x)
-unfolding bytes_of
-halves l p x =
-    let i : p + 4 ≡ suc (suc (suc (suc p))) = omega arith in
-    let y : ℕ = x % 4294967296 in
-    let q : ℕ = x / 4294967296 in
-    let a = byte x y (16777216 * q) (omega arith) in
-    let b = byte (x / 256) (y / 256) (65536 * q) (omega (arith, a.1)) in
-    let c = byte (x / 256 / 256) (y / 256 / 256) (256 * q) (omega (arith, b.1)) in
-    let d = byte (x / 256 / 256 / 256) (y / 256 / 256 / 256) q (omega (arith, c.1)) in
-    let e : x / 256 / 256 / 256 / 256 ≡ q = omega (arith, d.1) in
-    rw (i, ← a.0, ← b.0, ← c.0, ← d.0, e)
+  bytes_eight : to_le_bytes w64 x ≡ bytes_of 8 x
+  unfolding bytes_of
+  bytes_eight =
+      let four : x / 16777216 / 256 ≡ x / 4294967296 = omega arith in
+      let five : x / 4294967296 / 256 ≡ x / 1099511627776 = omega arith in
+      let six : x / 1099511627776 / 256 ≡ x / 281474976710656 = omega arith in
+      let seven : x / 281474976710656 / 256 ≡ x / 72057594037927936 = omega arith in
+      rw (two, three, four, five, six, seven)
 
-pub store_eight : (l m r : List ℕ) (p x : ℕ) → Stored l m p (bytes_of 4 (x % 4294967296)) → Stored m r (p + 4) (bytes_of 4 (x / 4294967296))
-    → Stored l r p (bytes_of 8 x)
-store_eight l m r p x a b = record { stored = b.stored ∙ rw a.stored (halves l p x); long = b.long ∙ a.long }
+  module _ (l m b : List ℕ) (p q : ℕ) (w : Written l m p b q) where
+    pub store_four : b ≡ to_le_bytes w32 x → Stored l m p (bytes_of 4 x)
+    store_four e = rw (e ∙ bytes_four) at w.bytes
+
+    pub store_eight : b ≡ to_le_bytes w64 x → Stored l m p (bytes_of 8 x)
+    store_eight e = rw (e ∙ bytes_eight) at w.bytes

@@ -7,16 +7,14 @@ use mathlib.Core.Path.{◌≡◌, sym, ◌∙◌}
 use lib.ListN.{length, take}
 use lib.Seq.{length-take-le}
 use borrow.Author.Tests.{le-leb, lt-leb}
+use Rattle.std.specs.Prelude.{Ok, Err}
+use Rattle.protocol.specs.declared.refusal.Refusal.TheVariants.{File}
 use Rattle.protocol.specs.declared.setup.Setup.{Setup}
 use Rattle.protocol.specs.declared.step.Step.{Step}
-use Rattle.file_records.specs.Records.{setup_in, step_in, no_setup, no_step}
+use Rattle.file_records.specs.Records.{setup_in, step_in, no_step}
 use Rattle.file_shape.specs.Shape.{count_of, setup_place, well_formed}
 use Rattle.file_shape.specs.Parts.{Parts, formed_parts}
-use Rattle.file_reader.specs.declared.Contents.{Contents}
-use Rattle.file_reader.specs.File.{step_at, contents, contents_of, no_contents, note_of}
-
-pub refused_by : (s : Setup) → s ≡ no_setup → contents 9 s 0 0 ≡ no_contents
-refused_by s e = rw e
+use Rattle.file_reader.specs.File.{step_at, contents, contents_of, note_of}
 
 module _ (l : List ℕ) where
   pub formed_by : (w : Bool) → w ≡ well_formed l → w ≡ true → Parts l
@@ -31,13 +29,13 @@ module _ (l : List ℕ) where
         let k = formed_by w e h in
         omega arith
 
-    pub read_yes : (p c : ℕ) (s : Setup) → w ≡ true → p ≡ setup_place l → s ≡ setup_in l p → c ≡ count_of l → contents 0 s c (p + 48) ≡ contents_of l
+    pub read_yes : (p c : ℕ) (s : Setup) → w ≡ true → p ≡ setup_place l → s ≡ setup_in l p → c ≡ count_of l → Ok (contents s c (p + 48)) ≡ contents_of l
     unfolding contents_of
     read_yes p c s h f g k = rw (← e, h, g, k, f)
 
-    pub read_no : (r : Contents) → w ≡ false → r ≡ no_contents → r ≡ contents_of l
+    pub read_no : w ≡ false → Err File ≡ contents_of l
     unfolding contents_of
-    read_no r h f = rw (← e, h) f
+    read_no h = rw (← e, h)
 
     pub note_yes : (p : ℕ) → w ≡ true → p ≡ setup_place l → take p l ≡ note_of l
     unfolding note_of

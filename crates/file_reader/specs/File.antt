@@ -1,25 +1,23 @@
 -- 01, "Frame, run file and listing": the contents of a run file, from its bytes.
-use Rattle.std.specs.Prelude.{ℕ, ◌+◌, cond, List, [], leb, length, take}
+use Rattle.std.specs.Prelude.{ℕ, ◌+◌, cond, List, [], leb, length, take, Result, Ok, Err}
+use Rattle.protocol.specs.declared.refusal.Refusal.{Refusal}
+use Rattle.protocol.specs.declared.refusal.Refusal.TheVariants.{File}
 use Rattle.protocol.specs.declared.setup.Setup.{Setup}
 use Rattle.protocol.specs.declared.step.Step.{Step}
-use Rattle.file_records.specs.Records.{setup_in, step_in, no_setup, no_step}
+use Rattle.file_records.specs.Records.{setup_in, step_in, no_step}
 use Rattle.file_shape.specs.Shape.{count_of, setup_place, first_place, well_formed}
 use Rattle.file_reader.specs.declared.Contents.{Contents}
 
-abbrev pub contents : ℕ → Setup → ℕ → ℕ → Contents
-contents refusal s count first = record { refusal = refusal; setup = s; count = count; first = first }
+abbrev pub contents : Setup → ℕ → ℕ → Contents
+contents s count first = record { setup = s; count = count; first = first }
 
 -- The setup of a file.
 abbrev pub setup_of : List ℕ → Setup
 setup_of l = setup_in l (setup_place l)
 
--- The contents returned for a refused file: "its setup in range? 9."
-abbrev pub no_contents : Contents
-no_contents = contents 9 no_setup 0 0
-
--- The contents of a file, if it is a "Run file shaped as above, its setup in range".
-unfoldable pub contents_of : List ℕ → Contents
-contents_of l = cond (well_formed l) (contents 0 (setup_of l) (count_of l) (first_place l)) no_contents
+-- The contents of a file, if it is a "Run file shaped as above, its setup in range"; for any other, "its setup in range? 9."
+unfoldable pub contents_of : List ℕ → Result Contents Refusal
+contents_of l = cond (well_formed l) (Ok (contents (setup_of l) (count_of l) (first_place l))) (Err File)
 
 -- "The reader hands back the note as that part of the caller's file": the bytes before the setup, "a rider's note of any length"; none for a refused file.
 unfoldable pub note_of : List ℕ → List ℕ

@@ -1,10 +1,10 @@
 -- What a loop over an accepted file's steps can rely on.
-use Rattle.std.specs.Prelude.{ℕ, ◌<◌, true, false, List, get_or}
+use Rattle.std.specs.Prelude.{ℕ, ◌<◌, true, false, List, get_or, Ok, Err}
 use Rattle.std.proofs.Math.Logic.{⊎_elim}
-use Rattle.std.proofs.Math.Path.{◌≡◌, ap}
-use Rattle.std.proofs.Common.{sym, ◌∙◌}
-use native.Mathlib.Omega.{arith}
+use Rattle.std.proofs.Math.Path.{◌≡◌}
 use Rattle.laws.specs.Choice.{true_or_false}
+use Rattle.protocol.specs.declared.refusal.Refusal.{Refusal}
+use Rattle.protocol.specs.declared.refusal.Refusal.TheVariants as no
 use Rattle.protocol.specs.declared.step.Step.{Step}
 use Rattle.protocol.specs.Setup.{in_range}
 use Rattle.file_shape.specs.Shape.{count_of, first_place, well_formed}
@@ -21,23 +21,37 @@ pub record Accepted (l : List ℕ) (r : Contents) : Type 0 where
   pub counted : r.count ≡ count_of l
   pub starts : r.first ≡ place_before l 0
 
--- r is what the reader returns for file l, which is refused.
-pub unformed : (l : List ℕ) (r : Contents) → r ≡ contents_of l → (r.refusal ≡ 0 → ⊥) → well_formed l ≡ false
+-- The reader refuses file l.
+pub unformed : (l : List ℕ) (n : Refusal) → Err n ≡ contents_of l → (well_formed l ≡ false) × (n ≡ no.File)
 unfolding contents_of
-unformed l r e a = ⊎_elim (λ t. absurd (a (ap (λ (x : Contents). x.refusal) (rw t at e)))) (λ t. t) (true_or_false (well_formed l))
+unformed l n e = ⊎_elim (λ t. absurd (never t)) (λ t. (t, named t)) (true_or_false (well_formed l))
+  where
+    never : well_formed l ≡ true → ⊥
+    never t =
+        let f = rw t at e in
+        cc
 
--- r is what the reader returns for file l, which is accepted.
-module _ (l : List ℕ) (r : Contents) (e : r ≡ contents_of l) (a : r.refusal ≡ 0) where
+    named : well_formed l ≡ false → n ≡ no.File
+    named t =
+        let f = rw t at e in
+        cc
+
+-- The reader accepts file l and returns r.
+module _ (l : List ℕ) (r : Contents) (e : Ok r ≡ contents_of l) where
   pub formed : well_formed l ≡ true
   unfolding contents_of
-  formed = ⊎_elim (λ t. t) (λ t. absurd (never (sym a ∙ ap (λ (x : Contents). x.refusal) (rw t at e)))) (true_or_false (well_formed l))
+  formed = ⊎_elim (λ t. t) (λ t. absurd (never t)) (true_or_false (well_formed l))
     where
-      never : ◌≡◌ {A = ℕ} 0 9 → ⊥
-      never q = omega arith
+      never : well_formed l ≡ false → ⊥
+      never t =
+          let f = rw t at e in
+          cc
 
-  pub contents_read : r ≡ contents 0 (setup_of l) (count_of l) (first_place l)
+  pub contents_read : r ≡ contents (setup_of l) (count_of l) (first_place l)
   unfolding contents_of
-  contents_read = rw formed at e
+  contents_read =
+      let f = rw formed at e in
+      cc
 
   pub accepted : Accepted l r
   accepted = record { parts = formed_parts l formed; in_range_law = rw contents_read (formed_in_range l formed); counted = rw contents_read; starts = rw (contents_read, place_first l) }

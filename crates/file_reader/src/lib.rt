@@ -2,48 +2,34 @@
 #![tactic(auto)]
 
 ghost use Rattle.std.specs.Prelude.{◌≡◌};
-ghost use Rattle.file_reader.specs.File.{no_contents, contents_of, note_of, step_at};
+ghost use Rattle.file_reader.specs.File.{contents_of, note_of, step_at};
 
 use file_records::sizes;
+use protocol::refusal::Refusal;
 use protocol::setup::Setup;
 use protocol::step::Step;
 
-// The contents of a run file: its setup, the number of steps, and where their records begin. `refusal` is 0, or 9 for a file without the shape that 01
-// requires; the other fields of a refused file are 0.
+// The contents of a run file: its setup, the number of steps, and where their records begin.
 #[derive(Clone, Copy)]
 pub struct Contents {
-    pub refusal: u8,
     pub setup: Setup,
     pub count: u32,
     pub first: usize,
 }
 
-// Returns the contents of a refused file: refusal 9, and 0 in all other fields.
-fn refused() -> Contents
-    ensures { result ≡ no_contents }
-{
-    Contents {
-        refusal: 9,
-        setup: file_records::no_setup(),
-        count: 0,
-        first: 0,
-    }
-}
-
-// Returns the contents of a file, and 9 for one that is not a "Run file shaped as above, its setup in range". Takes any bytes.
-pub fn read(file: &[u8]) -> Contents
+// Returns the contents of a file, and refuses with 9 one that is not a "Run file shaped as above, its setup in range". Takes any bytes.
+pub fn read(file: &[u8]) -> Result<Contents, Refusal>
     ensures { result ≡ contents_of file.now }
 {
-    if file_shape::well_formed(file) {
-        let at = file_shape::setup_place(file);
-        return Contents {
-            refusal: 0,
-            setup: file_records::setup_in(file, at),
-            count: file_shape::count_of(file),
-            first: at + sizes::SETUP,
-        };
+    if !file_shape::well_formed(file) {
+        return Err(Refusal::File);
     }
-    refused()
+    let at = file_shape::setup_place(file);
+    Ok(Contents {
+        setup: file_records::setup_in(file, at),
+        count: file_shape::count_of(file),
+        first: at + sizes::SETUP,
+    })
 }
 
 // Returns the note, "a rider's note of any length", "as that part of the caller's file" that comes before the setup; empty for a refused file.

@@ -1,34 +1,12 @@
 -- Lemmas cited by the function proofs: each derives a postcondition or a loop invariant from the facts of one path or iteration.
-use Prim.Native.Nat.{ℕ, zero, suc, ◌+◌, ◌≤◌, ◌<◌}
-use native.Mathlib.Numerals.{add-one}
-use native.Mathlib.Omega.{arith}
-use mathlib.Core.List.{List, [], ◌∷◌, ◌++◌}
-use mathlib.Core.Path.{◌≡◌, sym, ap, ◌∙◌}
-use lib.ListN.{length, get_or, set, take}
-use lib.Seq.{take-suc-set, take-length}
+use Prim.Native.Nat.{ℕ, ◌+◌}
+use mathlib.Core.List.{List}
+use mathlib.Core.Path.{◌≡◌}
+use lib.ListN.{get_or}
 use Rattle.bytes_layout.specs.Number.{bytes_at, number_at}
 use Rattle.protocol.specs.declared.setup.Setup.{Setup}
 use Rattle.protocol.specs.declared.step.Step.{Step}
 use Rattle.file_records.specs.Records.{setup_in, step_in}
-
--- Reading one byte more appends it.
-bytes_more : (l : List ℕ) (p w : ℕ) → bytes_at l p (suc w) ≡ bytes_at l p w ++ (get_or l (p + w) 0 ∷ [])
-unfolding bytes_at
-bytes_more l p zero =
-    let e : p + 0 ≡ p = omega arith in
-    rw e
-bytes_more l p (suc w) =
-    let e : p + 1 + w ≡ p + suc w = omega arith in
-    ap (◌∷◌ (get_or l p 0)) (bytes_more l (p + 1) w ∙ rw e)
-
-module _ (l v : List ℕ) (p o : ℕ) where
-  pub copy_again : o < length v → take o v ≡ bytes_at l p o → take (o + 1) (set v o (get_or l (p + o) 0)) ≡ bytes_at l p (o + 1)
-  copy_again h e = rw (add-one, take-suc-set v o (get_or l (p + o) 0) h, e) (sym (bytes_more l p o))
-
-  pub copy_end : length v ≡ 28 → 28 ≤ o → o ≤ 28 → take o v ≡ bytes_at l p o → v ≡ bytes_at l p 28
-  copy_end k g h e =
-      let i : o ≡ 28 = omega arith in
-      sym (rw k at (take-length v)) ∙ (rw i at e)
 
 -- The fields of a record, assembled from what the calls returned.
 module _ (l : List ℕ) (p : ℕ) where

@@ -1,5 +1,4 @@
 pub mod Records
 pub mod Bytes
 pub mod Round
-pub mod Held
 pub mod Sizes

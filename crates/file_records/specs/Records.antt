@@ -1,5 +1,5 @@
 -- 01, "Frame, run file and listing": the setup and the steps in a run file's bytes.
-use Rattle.std.specs.Prelude.{ℕ, ◌+◌, List, get_or, replicate}
+use Rattle.std.specs.Prelude.{ℕ, ◌+◌, List, get_or}
 use Rattle.bytes_layout.specs.Number.{bytes_at, number_at}
 use Rattle.protocol.specs.declared.setup.Setup.{Setup}
 use Rattle.protocol.specs.declared.step.Step.{Step}
@@ -27,10 +27,6 @@ step_in l p = record {
   clock = number_at l (p + 4) 4;
   value = number_at l (p + 8) 8;
 }
-
--- The setup of zeros, which is out of range.
-abbrev pub no_setup : Setup
-no_setup = record { clients = 0; volumes = 0; objects = 0; tv = 0; t = 0; m = 0; volume = replicate 28 0; delay = 0 }
 
 -- The step of zeros, used where there is no step.
 abbrev pub no_step : Step

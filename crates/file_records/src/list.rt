@@ -1,22 +1,53 @@
-// A list of steps by value, with room for as many as a run file can have.
-ghost use Rattle.std.specs.Prelude.{◌≡◌};
-ghost use Rattle.file_records.specs.Held.{blank};
+// A list of steps, with room for as many as a run file can have.
+ghost use Rattle.std.specs.Prelude.{◌≡◌, ◌<◌, [], ◌∷◌, ◌++◌, length};
 
 use crate::sizes::STEPS;
 use protocol::step::Step;
+use std::marker::Model;
 
-// The list is the first `len` items. No run file has more than `STEPS` steps: the writer refuses a larger `len` before it looks up an item.
-#[derive(Clone, Copy)]
+// The list is the first `len` items.
+#[derive(Drop)]
 pub struct Steps {
-    pub items: [Step; STEPS],
-    pub len: u32,
+    items: [Step; STEPS],
+    len: usize,
 }
 
-// Returns a list of length `len` with all items zero.
-pub fn blank(len: u32) -> Steps
-    ensures { result ≡ blank len }
-{
-    let none = crate::no_step();
-    let items = [none; STEPS];
-    Steps { items, len }
+impl Model for Steps {
+    ghost use Rattle.std.specs.Prelude.{List, ◌≤◌, take};
+    ghost use Rattle.protocol.specs.declared.step.Step.{Step};
+    ghost use Rattle.file_records.specs.Sizes.{STEPS};
+
+    ghost Value = { List Step };
+
+    ghost view = { λ s. take s.len s.items };
+
+    ghost invariant = { λ s. s.len ≤ STEPS };
+}
+
+impl Steps {
+    // Returns the empty list.
+    pub fn new() -> Steps
+        ensures { result ≡ [] }
+    {
+        Steps {
+            items: [crate::no_step(); STEPS],
+            len: 0,
+        }
+    }
+
+    // Adds a step at the end. The caller checks that there is room.
+    pub fn push(&mut self, step: Step)
+        requires { length self.old < STEPS }
+        ensures { self.new ≡ self.old ++ step ∷ [] }
+    {
+        self.items[self.len] = step;
+        self.len += 1;
+    }
+
+    // Returns the steps, in order.
+    pub fn as_slice(&self) -> &[Step]
+        ensures { result.now ≡ self.now }
+    {
+        &self.items[..self.len]
+    }
 }

@@ -72,16 +72,14 @@ fn steps_fit(file: &[u8]) -> bool
     requires { Parts file.now }
     ensures { result ≡ steps_fit file.now (first_place file.now) (count_of file.now) }
 {
-    let count = count_of(file);
     let mut place = setup_place(file) + sizes::SETUP;
-    let mut ok = true;
-    let mut k = 0;
-    while k < count {
-        ok = ok & step_fits(file_records::step_in(file, place));
+    for _k in 0..count_of(file) {
+        if !step_fits(file_records::step_in(file, place)) {
+            return false;
+        }
         place += sizes::STEP;
-        k += 1;
     }
-    ok
+    true
 }
 
 // Returns whether the byte after the counts is 0 ("dash, volume and object counts, a 0"), the setup is in range and every step record fits.
@@ -98,8 +96,5 @@ fn contents_fit(file: &[u8]) -> bool
 pub fn well_formed(file: &[u8]) -> bool
     ensures { result ≡ well_formed file.now }
 {
-    if measured(file) {
-        return contents_fit(file);
-    }
-    false
+    measured(file) && contents_fit(file)
 }

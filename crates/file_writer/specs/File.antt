@@ -10,8 +10,6 @@ use Rattle.protocol.specs.Gate.{or_refuse}
 use Rattle.file_records.specs.Records.{no_step}
 use Rattle.file_shape.specs.Shape.{step_fits}
 use Rattle.file_records.specs.Bytes.{file_length}
-use Rattle.file_records.specs.declared.list.Steps.{Steps}
-use Rattle.file_records.specs.Held.{held}
 
 -- "10 when more than 4,000 steps are wanted, .. the file would pass 65,536 bytes, or the output is too short": true if none of this holds, for a note
 -- of n bytes, `count` steps and an output of `room` bytes.
@@ -26,24 +24,24 @@ fits_at xs k = step_fits (get_or xs k no_step)
 unfoldable pub all_fit : List Step → Bool
 all_fit xs = all_from (fits_at xs) 0 (length xs)
 
-unfoldable pub file_fits : ℕ → Steps → ℕ → Bool
-file_fits n x room = sizes_fit n x.len room && all_fit (held x)
+unfoldable pub file_fits : ℕ → List Step → ℕ → Bool
+file_fits n xs room = sizes_fit n (length xs) room && all_fit xs
 
 -- The refusal, or 0: 7 for a setup out of range, and 10 "after 01's setup question".
-unfoldable pub write_refusal : ℕ → Setup → Steps → ℕ → ℕ
-write_refusal n s x room = or_refuse (in_range s) 7 (or_refuse (file_fits n x room) 10 0)
+unfoldable pub write_refusal : ℕ → Setup → List Step → ℕ → ℕ
+write_refusal n s xs room = or_refuse (in_range s) 7 (or_refuse (file_fits n xs room) 10 0)
 
 -- ---- what `file_fits` guarantees
-pub record Fitting (n : ℕ) (x : Steps) (room : ℕ) : Type 0 where
-  pub few : x.len ≤ 4000
-  pub short : file_length n x.len ≤ 65536
-  pub room_there : file_length n x.len ≤ room
-  pub fit : all_fit (held x) ≡ true
+pub record Fitting (n : ℕ) (xs : List Step) (room : ℕ) : Type 0 where
+  pub few : length xs ≤ 4000
+  pub short : file_length n (length xs) ≤ 65536
+  pub room_there : file_length n (length xs) ≤ room
+  pub fit : all_fit xs ≡ true
 
-pub fitting : (n : ℕ) (x : Steps) (room : ℕ) → file_fits n x room ≡ true → Fitting n x room
+pub fitting : (n : ℕ) (xs : List Step) (room : ℕ) → file_fits n xs room ≡ true → Fitting n xs room
 unfolding file_fits sizes_fit
-fitting n x room e =
-    let c = and-true (sizes_fit n x.len room) (all_fit (held x)) e in
+fitting n xs room e =
+    let c = and-true (sizes_fit n (length xs) room) (all_fit xs) e in
     let b = and-true _ _ c.0 in
     let a = and-true _ _ b.0 in
     record { few = leb-true _ _ a.0; short = leb-true _ _ a.1; room_there = leb-true _ _ b.1; fit = c.1 }

@@ -1,7 +1,9 @@
 -- 02, A5: "no other file of the same note has those parts".
 use Prim.Native.Nat.{ℕ, zero, suc, ◌+◌, ◌*◌, ◌≤◌}
 use native.Mathlib.Omega.{arith}
-use Rattle.std.specs.Prelude.{true, ◌≡◌, refl, get_or}
+use Rattle.std.specs.Prelude.{true, false, ◌≡◌, get_or}
+use Rattle.std.proofs.Math.Logic.{⊎_elim}
+use Rattle.laws.specs.Choice.{true_or_false}
 use mathlib.Core.List.{List, ◌++◌, append_assoc}
 use Rattle.std.proofs.Common.{sym, ◌∙◌, take-append-drop, get_or-drop}
 use Rattle.std.proofs.Math.Path.{ap}
@@ -15,7 +17,6 @@ use Rattle.file_shape.specs.Shape.{count_of, setup_place, first_place, well_form
 use Rattle.file_shape.specs.Parts.{Parts, formed_parts, whole, formed_spare}
 use Rattle.file_shape.specs.Places.{trailer_place}
 use Rattle.file_reader.specs.File.{contents_of, note_of}
-use Rattle.file_reader.specs.Reading.{formed, contents_read}
 use Rattle.file_reader.specs.Steps.{steps_from, steps_of, length_steps}
 use Rattle.file_records.specs.Bytes.{setup_bytes, step_bytes, steps_bytes, trailer_bytes, file_bytes}
 use Rattle.file_records.specs.Round.{step_there, setup_there, bytes_left, step_again, setup_again, trailer_again}
@@ -67,7 +68,15 @@ module _ (l : List ℕ) (b : Bytes l) where
 
 -- "no other file of the same note has those parts"
 pub only_file : (l note : List ℕ) (s : Setup) (xs : List Step) → Bytes l → ReadAs l note s xs → l ≡ file_bytes note s xs
-only_file l note s xs b r =
-    let e = formed l (contents_of l) refl r.accepted in
-    let f : setup_in l (setup_place l) ≡ s = sym (ap (λ c. c.setup) (contents_read l (contents_of l) refl r.accepted)) ∙ r.setup in
-    sym (rw (r.note, f, r.steps) at (written_again l b e))
+unfolding contents_of
+only_file l note s xs b r = ⊎_elim yes no (true_or_false (well_formed l))
+  where
+    yes : well_formed l ≡ true → l ≡ file_bytes note s xs
+    yes e =
+        let f : setup_in l (setup_place l) ≡ s = rw e at r.setup in
+        sym (rw (r.note, f, r.steps) at (written_again l b e))
+
+    no : well_formed l ≡ false → l ≡ file_bytes note s xs
+    no e =
+        let never = rw e at r.accepted in
+        cc

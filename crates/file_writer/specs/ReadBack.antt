@@ -1,5 +1,5 @@
 -- 02, A5: "writes the file that the reader accepts, whose parts come back the same".
-use Rattle.std.specs.Prelude.{ℕ, ◌+◌, ◌-◌, ◌*◌, ◌<◌, ◌≤◌, true, ◌≡◌, length, drop}
+use Rattle.std.specs.Prelude.{ℕ, ◌+◌, ◌-◌, ◌*◌, ◌<◌, ◌≤◌, true, ◌≡◌, length, drop, IsOk, IfOk}
 use Rattle.std.proofs.Common.{arith, ◌∙◌, take_at, drop-drop, get_or-drop}
 use mathlib.Core.List.{List, [], ◌∷◌, ◌++◌, append_assoc}
 use Rattle.std.proofs.Math.Path.{refl, sym, ap}
@@ -19,8 +19,6 @@ use Rattle.file_reader.specs.File.{contents_of, note_of}
 use Rattle.file_reader.specs.Steps.{steps_from, steps_of, from_at}
 use Rattle.file_records.specs.Bytes.{setup_front, setup_bytes, step_bytes, steps_bytes, trailer_bytes, file_bytes, file_length, length_setup, length_step, length_steps, length_file}
 use Rattle.file_records.specs.Round.{Widths, bytes_there, step_there, setup_there, step_back, setup_back, trailer_back}
-use Rattle.file_records.specs.declared.list.Steps.{Steps}
-use Rattle.file_records.specs.Held.{held, length_held}
 use Rattle.file_writer.specs.File.{fits_at, all_fit, file_fits, write_refusal, fitting}
 
 -- What the writer requires of a note, a setup and steps, for any output. The last two hold in every program: a setup has 28 volume bytes, and the
@@ -35,10 +33,10 @@ pub record Writable (note : List ℕ) (s : Setup) (xs : List Step) : Type 0 wher
 
 -- What is written is "the file that the reader accepts, whose parts come back the same": the reader accepts file l and returns these parts.
 pub record ReadAs (l n : List ℕ) (s : Setup) (xs : List Step) : Type 0 where
-  pub accepted : (contents_of l).refusal ≡ 0
+  pub accepted : IsOk (contents_of l)
   pub note : note_of l ≡ n
-  pub setup : (contents_of l).setup ≡ s
-  pub count : (contents_of l).count ≡ length xs
+  pub setup : IfOk (contents_of l) (λ c. c.setup ≡ s)
+  pub count : IfOk (contents_of l) (λ c. c.count ≡ length xs)
   pub steps : steps_of l ≡ xs
 
 -- ---- the trailer's numbers, read from the bytes where it begins
@@ -152,10 +150,10 @@ module _ (note : List ℕ) (s : Setup) (xs : List Step) (f : Writable note s xs)
   reads_back = record { accepted = rw formed; note = note_same; setup = rw formed setup_same; count = rw formed counted; steps = steps_same }
 
 -- The same for a call that is not refused. The premises about the volume bytes and the widths hold in every program.
-pub not_refused : (note : List ℕ) (s : Setup) (x : Steps) (room : ℕ) → length s.volume ≡ 28 → All Widths (held x) → write_refusal (length note) s x room ≡ 0
-    → ReadAs (file_bytes note s (held x)) note s (held x)
+pub not_refused : (note : List ℕ) (s : Setup) (xs : List Step) (room : ℕ) → length s.volume ≡ 28 → All Widths xs → write_refusal (length note) s xs room ≡ 0
+    → ReadAs (file_bytes note s xs) note s xs
 unfolding write_refusal
-not_refused note s x room v w e =
+not_refused note s xs room v w e =
     let range = asked (in_range s) 6 _ e in
-    let f = fitting (length note) x room (asked (file_fits (length note) x room) 9 0 range.1).0 in
-    reads_back note s (held x) (record { in_range_law = range.0; few = rw (length_held x) f.few; fit = f.fit; short = rw (length_held x) f.short; volumes = v; widths = w })
+    let f = fitting (length note) xs room (asked (file_fits (length note) xs room) 9 0 range.1).0 in
+    reads_back note s xs (record { in_range_law = range.0; few = f.few; fit = f.fit; short = f.short; volumes = v; widths = w })

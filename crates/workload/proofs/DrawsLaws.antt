@@ -1,5 +1,5 @@
 -- Lemmas cited by the function proofs: each derives a postcondition from the facts of one path.
-use Rattle.std.proofs.Common.{◌≡◌, ℕ, ◌+◌, ◌*◌, ◌%◌, ◌^◌, ◌<◌, ◌≤◌, Bool, true, false, cond, mod-lt, arith}
+use Rattle.std.proofs.Common.{◌≡◌, ℕ, ◌+◌, ◌*◌, ◌%◌, ◌^◌, ◌<◌, ◌≤◌, Bool, true, cond, mod-lt, arith}
 use Rattle.protocol.specs.declared.setup.Setup.{Setup}
 use Rattle.protocol.specs.declared.step.Step.{Step}
 use Rattle.protocol.specs.Setup.{in_range}
@@ -21,14 +21,9 @@ module _ (x : Step) where
   unfolding only_used
   used_by client object place clock value a b c d e f g h i j k l m n o = rw (g, i, k, m, o, f, h, j, l, n)
 
-  module _ (total : ℕ) (b : Bool) (e : b ≡ is_clock x) where
-    pub total_new : b ≡ true → x.clock ≡ total_after x total
-    unfolding total_after
-    total_new h = rw (← e, h)
-
-    pub total_old : b ≡ false → total ≡ total_after x total
-    unfolding total_after
-    total_old h = rw (← e, h)
+  pub total_by : (total r : ℕ) (b : Bool) → b ≡ is_clock x → r ≡ cond b x.clock total → r ≡ total_after x total
+  unfolding total_after
+  total_by total r b e f = rw e at f
 
 -- Five draws in a row.
 module _ (s a b c d e : ℕ) (f : a ≡ next s) (g : b ≡ next a) (h : c ≡ next b) (i : d ≡ next c) (j : e ≡ next d) where

@@ -1,86 +1,125 @@
 -- Lemmas cited by the function proofs: each derives a postcondition or a loop invariant from the facts of one path or iteration.
-use Rattle.std.proofs.Common.{◌≡◌, ℕ, ◌+◌, ◌<◌, ◌≤◌, Bool, true, false, eqb, List, length, set, sym, refl, ap, ◌∙◌, add-one, arith, ne_eqb, le-leb}
+use Rattle.std.proofs.Common.{◌≡◌, ℕ, ◌+◌, ◌<◌, ◌≤◌, Bool, true, false, List, [], ◌∷◌, ◌++◌, length, sym, refl, ap, ◌∙◌, add-one, arith, le-leb}
+use Rattle.std.specs.Prelude.{Result, Ok, Err, nat_le}
+use Rattle.std.proofs.Common.{⊎_elim}
+use Rattle.laws.specs.Choice.{true_or_false}
+use Rattle.protocol.specs.Refusals.{number_of, refused_by}
+use Rattle.laws.specs.Tabulate.{tabulate, tabulate_more, length_tabulate}
 use borrow.Author.Tests.{lt-leb}
 use Rattle.protocol.specs.declared.setup.Setup.{Setup}
 use Rattle.protocol.specs.Setup.{in_range}
-use Rattle.bytes_layout.specs.declared.output.Report.{Report}
-use Rattle.bytes_layout.specs.declared.output.Report.TheVariants as report
+use Rattle.protocol.specs.declared.refusal.Refusal.{Refusal}
+use Rattle.protocol.specs.declared.refusal.Refusal.TheVariants as no
+use Rattle.protocol.specs.declared.step.Step.{Step}
 use Rattle.bytes_layout.specs.Report.{Reports}
-use Rattle.bytes_layout.proofs.Report.{none_written}
+use Rattle.bytes_layout.proofs.Report.{number_some, none_written}
 use Rattle.file_records.specs.Bytes.{file_bytes}
-use Rattle.file_records.specs.declared.list.Steps.{Steps}
-use Rattle.file_records.specs.Held.{held, blank, steps_by, Filling, filling_none, filling_again, filling_end, held_by}
 use Rattle.file_writer.specs.File.{write_refusal}
 use Rattle.workload.specs.declared.draws.Drawn.{Drawn}
 use Rattle.workload.specs.Draws.{drawn_after}
-use Rattle.workload.specs.declared.Workload.{Workload}
-use Rattle.workload.specs.Workload.{seed_of, total_of, step_of, workload, steps_refusal, workload_of, file_refusal}
-use Rattle.workload.specs.Laws.{total_small, same_refusal, unrefused, refused_alike}
+use Rattle.workload.specs.Workload.{seed_of, total_of, step_of, workload, steps_refusal, unless_steps_refused, workload_of, file_refusal}
+use Rattle.workload.specs.Laws.{total_small, same_refusal, refused_number, unrefused, refused_alike}
 
--- ---- the loop that draws the steps: k items are filled, and seed and total are those of step k
-pub record Drawing (q : Setup) (s n : ℕ) (x : Steps) (last total k : ℕ) : Type 0 where
-  pub filling : Filling (step_of q s) n x k
+-- ---- the loop that draws the steps: k are drawn, and seed and total are those of step k
+pub record Drawing (q : Setup) (s : ℕ) (xs : List Step) (last total k : ℕ) : Type 0 where
+  pub drawn : xs ≡ workload q s k
   pub seed_is : last ≡ seed_of s k
   pub total_is : total ≡ total_of q s k
 
-pub drawing_none : (q : Setup) (s n : ℕ) (x : Steps) → x ≡ blank n → Drawing q s n x s 0 0
-unfolding seed_of total_of
-drawing_none q s n x e = record { filling = filling_none _ n x e; seed_is = refl; total_is = refl }
+pub drawing_none : (q : Setup) (s : ℕ) (xs : List Step) → xs ≡ [] → Drawing q s xs s 0 0
+unfolding seed_of total_of tabulate
+drawing_none q s xs e = record { drawn = e; seed_is = refl; total_is = refl }
 
-module _ (q : Setup) (s n : ℕ) (x : Steps) (last total k : ℕ) (d : Drawing q s n x last total k) where
-  pub total_fits : k < n → n ≤ 4000 → total ≤ 16000
-  total_fits g h = omega (arith, d.total_is, total_small q s k)
+module _ (q : Setup) (s : ℕ) (xs : List Step) (last total k : ℕ) (d : Drawing q s xs last total k) where
+  module _ (n : ℕ) (g : k < n) (h : n ≤ 4000) where
+    pub total_fits : total ≤ 16000
+    total_fits = omega (arith, d.total_is, total_small q s k)
 
-  pub drawing_again : (r : Drawn) → k < n → n ≤ 4000 → r ≡ drawn_after q last total
-      → (let y : Steps = record { items = set x.items k r.step; len = x.len } in Drawing q s n y r.seed r.total (k + 1))
+    pub room_there : length xs < 4000
+    room_there =
+        let e : length (workload q s k) < 4000 = omega (arith, length_tabulate (step_of q s) 0 k) in
+        rw (← d.drawn) at e
+
+  one_more : workload q s (k + 1) ≡ workload q s k ++ (step_of q s k ∷ [])
+  one_more =
+      let z : 0 + k ≡ k = omega arith in
+      rw add-one (tabulate_more (step_of q s) 0 k ∙ rw z)
+
+  pub drawing_again : (ys : List Step) (r : Drawn) → r ≡ drawn_after q last total → ys ≡ xs ++ (r.step ∷ []) → Drawing q s ys r.seed r.total (k + 1)
   unfolding seed_of total_of
-  drawing_again r g h e = record {
-    filling = filling_again _ n x k r.step d.filling g h (rw (e, d.seed_is, d.total_is));
+  drawing_again ys r e f = record {
+    drawn = f ∙ rw (d.drawn, e, d.seed_is, d.total_is) (sym one_more);
     seed_is = rw (e, d.seed_is, add-one);
     total_is = rw (e, d.seed_is, d.total_is, add-one);
   }
 
-  pub drawing_end : n ≤ k → x ≡ steps_by (step_of q s) n
-  drawing_end h = filling_end _ n x k d.filling h
+  pub drawing_end : (n : ℕ) → n ≤ k → k ≤ n → xs ≡ workload q s n
+  drawing_end n g h =
+      let e : k ≡ n = omega arith in
+      rw e at d.drawn
 
 -- ---- the refusal
-module _ (q : Setup) (n : ℕ) (b : Bool) (e : b ≡ in_range q) where
-  pub accepted : b ≡ true → n ≤ 4000 → 0 ≡ steps_refusal q n
-  unfolding steps_refusal
+module _ {A : Type 0} (q : Setup) (n : ℕ) (x : A) (b : Bool) (e : b ≡ in_range q) where
+  pub accepted : b ≡ true → n ≤ 4000 → Ok x ≡ unless_steps_refused q n x
+  unfolding unless_steps_refused
   accepted h g = rw (← e, h, le-leb _ _ g)
 
-  pub too_many : b ≡ true → 4000 < n → 10 ≡ steps_refusal q n
-  unfolding steps_refusal
+  pub too_many : b ≡ true → 4000 < n → Err no.Parts ≡ unless_steps_refused q n x
+  unfolding unless_steps_refused
   too_many h g = rw (← e, h, lt-leb _ _ g)
 
-  pub out_of_range : b ≡ false → 7 ≡ steps_refusal q n
-  unfolding steps_refusal
+  pub out_of_range : b ≡ false → Err no.Setup ≡ unless_steps_refused q n x
+  unfolding unless_steps_refused
   out_of_range h = rw (← e, h)
 
--- ---- the result; r is the refusal
-module _ (q : Setup) (s n r : ℕ) (e : r ≡ steps_refusal q n) where
-  pub in_range_then : r ≡ 0 → in_range q ≡ true
-  in_range_then h = (unrefused q n (sym e ∙ h)).0
+-- ---- what a refusal or a list of steps tells
+same_refused : {A B : Type 0} (r k : Refusal) → ◌≡◌ {A = Result A Refusal} (Err r) (Err k) → ◌≡◌ {A = Result B Refusal} (Err r) (Err k)
+same_refused r k e =
+    let i : r ≡ k = cc in
+    rw i
 
-  pub few_then : r ≡ 0 → n ≤ 4000
-  few_then h = (unrefused q n (sym e ∙ h)).1
+module _ {A : Type 0} (q : Setup) (n : ℕ) (x : A) where
+  pub refused_alike_err : {B : Type 0} (y : B) (r : Refusal) → Err r ≡ unless_steps_refused q n x → Err r ≡ unless_steps_refused q n y
+  unfolding unless_steps_refused
+  refused_alike_err y r e = ⊎_elim few (λ t. rw t (same_refused r no.Setup (rw t at e))) (true_or_false (in_range q))
+    where
+      few : in_range q ≡ true → Err r ≡ unless_steps_refused q n y
+      few t = ⊎_elim (λ u. absurd (never u)) (λ u. rw t (rw u (same_refused r no.Parts (rw u at (rw t at e))))) (true_or_false (nat_le n 4000))
+        where
+          never : nat_le n 4000 ≡ true → ⊥
+          never u =
+              let f = rw (t, u) at e in
+              cc
 
-  pub steps_drawn : (x : Steps) → r ≡ 0 → x ≡ steps_by (step_of q s) n → (let w : Workload = record { refusal = r; steps = x } in w ≡ workload_of q s n)
-  unfolding workload_of
-  steps_drawn x h f = rw (← e, h, f)
+  pub refused_is : (r : Refusal) → Err r ≡ unless_steps_refused q n x → steps_refusal q n ≡ number_of r
+  refused_is r e = sym (refused_number q n x) ∙ ap refused_by (sym e)
 
-  refused : (r ≡ 0 → ⊥) → eqb (steps_refusal q n) 0 ≡ false
-  refused h = ap (λ (k : ℕ). eqb k 0) (sym e) ∙ ne_eqb r 0 h
+  module _ (y : A) (e : Ok y ≡ unless_steps_refused q n x) where
+    pub both_answered : (in_range q ≡ true) × (n ≤ 4000)
+    both_answered = unrefused q n (sym (refused_number q n x) ∙ ap refused_by (sym e))
 
-  pub no_steps_drawn : (x : Steps) → (r ≡ 0 → ⊥) → x ≡ blank 0 → (let w : Workload = record { refusal = r; steps = x } in w ≡ workload_of q s n)
-  unfolding workload_of
-  no_steps_drawn x h f = rw (refused h, ← e, f)
+    pub given_is : y ≡ x
+    unfolding unless_steps_refused
+    given_is =
+        let f = rw (both_answered.0, le-leb n 4000 both_answered.1) at e in
+        cc
 
-  module _ (note before : List ℕ) where
-    pub file_written : (x : Steps) (after : List ℕ) (a : Report) → r ≡ 0 → x ≡ steps_by (step_of q s) n
-        → Reports (write_refusal (length note) q x (length before)) (file_bytes note q (held x)) before after a
-        → Reports (file_refusal (length note) q n (length before)) (file_bytes note q (workload q s n)) before after a
-    file_written x after a h f d = rw (f, held_by (step_of q s) n (few_then h), same_refusal q s n (length note) (length before) (few_then h)) at d
+pub steps_given : {A : Type 0} (q : Setup) (s n : ℕ) (x y : A) (xs : List Step) → Ok y ≡ unless_steps_refused q n x → xs ≡ workload q s n → Ok xs ≡ workload_of q s n
+unfolding unless_steps_refused
+steps_given q s n x y xs e f =
+    let all = both_answered q n x y e in
+    rw (all.0, le-leb n 4000 all.1) (ap (λ (l : List Step). Ok l) f)
 
-    pub file_refused : (r ≡ 0 → ⊥) → Reports (file_refusal (length note) q n (length before)) (file_bytes note q (workload q s n)) before before (report.Refused r)
-    file_refused h = none_written _ _ before r (refused_alike q n (length note) (length before) (refused h) ∙ sym e) (ne_eqb r 0 h)
+module _ (q : Setup) (s n : ℕ) (note before : List ℕ) where
+  pub file_written : (xs ys : List Step) (after : List ℕ) (a : Result ℕ Refusal) → Ok xs ≡ workload_of q s n → ys ≡ xs
+      → Reports (write_refusal (length note) q ys (length before)) (file_bytes note q ys) before after a
+      → Reports (file_refusal (length note) q n (length before)) (file_bytes note q (workload q s n)) before after a
+  file_written xs ys after a e f d =
+      let i : ys ≡ workload q s n = f ∙ given_is q n (workload q s n) xs e in
+      rw (i, same_refusal q s n (length note) (length before)) at d
+
+  pub file_refused : (r : Refusal) → Err r ≡ workload_of q s n
+      → Reports (file_refusal (length note) q n (length before)) (file_bytes note q (workload q s n)) before before (Err r)
+  file_refused r e =
+      let i = refused_is q n (workload q s n) r e in
+      none_written _ _ before r (refused_alike q n (length note) (length before) (rw i (number_some r)) ∙ i)

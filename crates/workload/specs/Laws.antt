@@ -11,6 +11,7 @@ use Rattle.laws.specs.Loop.{all_of}
 use Rattle.laws.specs.Tabulate.{tabulate_at, length_tabulate, all_tabulate}
 use Rattle.protocol.specs.declared.setup.Setup.{Setup}
 use Rattle.protocol.specs.declared.step.Step.{Step}
+use Rattle.protocol.specs.Refusals.{refused_by}
 use Rattle.protocol.specs.Setup.{in_range}
 use Rattle.protocol.specs.Gate.{is_clock, is_write, uses_client, uses_object, uses_place}
 use Rattle.protocol.proofs.Gate.{asked}
@@ -20,12 +21,11 @@ use Rattle.file_shape.specs.Shape.{step_fits}
 use Rattle.bytes_layout.specs.Number.{limit}
 use Rattle.file_records.specs.Bytes.{file_bytes}
 use Rattle.file_records.specs.Round.{Widths}
-use Rattle.file_records.specs.Held.{steps_by, held_by}
 use Rattle.file_writer.specs.File.{sizes_fit, fits_at, all_fit, file_fits, write_refusal}
 use Rattle.file_writer.specs.ReadBack.{ReadAs, not_refused}
 use Rattle.workload.specs.Draws.{only_used}
 use Rattle.workload.specs.DrawsLaws.{clock_near, value_small, total_near}
-use Rattle.workload.specs.Workload.{seed_of, total_of, step_of, workload, steps_refusal, file_refusal}
+use Rattle.workload.specs.Workload.{seed_of, total_of, step_of, workload, steps_refusal, unless_steps_refused, file_refusal}
 
 module _ (q : Setup) (s : ℕ) where
   -- ---- the clock cannot overflow: the sum of 4,000 amounts of at most 4 is far below 2,147,483,647
@@ -64,12 +64,16 @@ module _ (q : Setup) (s n : ℕ) where
       rw (length_tabulate (step_of q s) 0 n) (all_of (fits_at (workload q s n)) n (λ k h. ap step_fits (tabulate_at (step_of q s) n k no_step h) ∙ used_fits _))
 
   -- All steps fit, so the writer refuses a workload only for its sizes or its setup.
-  pub same_refusal : (noteLength room : ℕ) → n ≤ 4000 → write_refusal noteLength q (steps_by (step_of q s) n) room ≡ file_refusal noteLength q n room
+  pub same_refusal : (noteLength room : ℕ) → write_refusal noteLength q (workload q s n) room ≡ file_refusal noteLength q n room
   unfolding write_refusal file_fits file_refusal
-  same_refusal noteLength room h = rw (held_by (step_of q s) n h, workload_fits, and_yes (sizes_fit noteLength n room))
+  same_refusal noteLength room = rw (workload_fits, length_tabulate (step_of q s) 0 n, and_yes (sizes_fit noteLength n room))
 
 -- ---- which workloads are refused
 module _ (q : Setup) (n : ℕ) where
+  pub refused_number : {A : Type 0} (x : A) → refused_by (unless_steps_refused q n x) ≡ steps_refusal q n
+  unfolding steps_refusal unless_steps_refused
+  refused_number x = ⊎_elim (λ t. rw t (⊎_elim (λ u. rw u) (λ u. rw u) (true_or_false (nat_le n 4000)))) (λ t. rw t) (true_or_false (in_range q))
+
   pub unrefused : steps_refusal q n ≡ 0 → (in_range q ≡ true) × (n ≤ 4000)
   unfolding steps_refusal
   unrefused e =
@@ -104,6 +108,4 @@ module _ (note : List ℕ) (q : Setup) (s n room : ℕ) (v : length q.volume ≡
       all_tabulate Widths (step_of q s) 0 n (λ k _ h. record { clock = omega (arith, clock_small q s k (omega (arith, h, few))); value = omega (arith, value_small q (seed_of s k) (total_of q s k)) })
 
   pub workload_read : ReadAs (file_bytes note q (workload q s n)) note q (workload q s n)
-  workload_read =
-      let h = held_by (step_of q s) n few in
-      rw h at (not_refused note q (steps_by (step_of q s) n) room v (rw h widths) (same_refusal q s n (length note) room few ∙ e))
+  workload_read = not_refused note q (workload q s n) room v widths (same_refusal q s n (length note) room ∙ e)

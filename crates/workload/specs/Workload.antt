@@ -1,14 +1,14 @@
 -- 02, A5: the steps of a workload.
-use Rattle.std.specs.Prelude.{ℕ, zero, suc, cond, List, ◌==◌, nat_le}
+use Rattle.std.specs.Prelude.{ℕ, zero, suc, cond, List, nat_le, Result, Ok, Err}
 use Rattle.laws.specs.Tabulate.{tabulate}
+use Rattle.protocol.specs.declared.refusal.Refusal.{Refusal}
+use Rattle.protocol.specs.declared.refusal.Refusal.TheVariants as no
 use Rattle.protocol.specs.declared.setup.Setup.{Setup}
 use Rattle.protocol.specs.declared.step.Step.{Step}
 use Rattle.protocol.specs.Setup.{in_range}
 use Rattle.protocol.specs.Gate.{or_refuse}
-use Rattle.file_records.specs.Held.{blank, steps_by}
 use Rattle.file_writer.specs.File.{sizes_fit}
 use Rattle.workload.specs.Draws.{draw, drawn_step, total_after}
-use Rattle.workload.specs.declared.Workload.{Workload}
 
 -- The seed of step k, counted from 0: "Each step draws five times", and the last draw of the step before is the seed.
 unfoldable pub seed_of : ℕ → ℕ → ℕ
@@ -32,9 +32,13 @@ workload q s n = tabulate (step_of q s) 0 n
 unfoldable pub steps_refusal : Setup → ℕ → ℕ
 steps_refusal q n = or_refuse (in_range q) 7 (or_refuse (nat_le n 4000) 10 0)
 
--- The refusal, and the steps; a refused workload has none.
-unfoldable pub workload_of : Setup → ℕ → ℕ → Workload
-workload_of q s n = record { refusal = steps_refusal q n; steps = cond (steps_refusal q n == 0) (steps_by (step_of q s) n) (blank 0) }
+-- The same as a result: x if neither question is answered "no".
+unfoldable pub unless_steps_refused : {A : Type 0} → Setup → ℕ → A → Result A Refusal
+unless_steps_refused q n x = cond (in_range q) (cond (nat_le n 4000) (Ok x) (Err no.Parts)) (Err no.Setup)
+
+-- The steps, or the refusal.
+abbrev pub workload_of : Setup → ℕ → ℕ → Result (List Step) Refusal
+workload_of q s n = unless_steps_refused q n (workload q s n)
 
 -- The refusal of a workload's file, for an output of `room` bytes. It covers the file's size too: "the file would pass 65,536 bytes, or the output is
 -- too short". No drawn step has an unused field that is not 0.

@@ -12,7 +12,7 @@ use setup::limits::PLACES;
 fn product(seed: u32) -> u32
     ensures { result ≡ (1664525 * seed) % 4294967296 }
 {
-    (1664525 * (seed as u64) % 4294967296) as u32
+    (1664525 * u64::from(seed) % 4294967296) as u32
 }
 
 // Returns the number after a seed: "the next is 1,664,525 × s + 1,013,904,223, kept modulo 2 to the 32nd". The addition wraps on purpose.
@@ -22,32 +22,11 @@ pub fn next(seed: u32) -> u32
     std::num::wrapping_add_u32(product(seed), 1013904223)
 }
 
-// Returns the field if the step uses it, else 0. The same for a clock and a value below.
-fn byte_if(used: bool, byte: u8) -> u8
-    ensures { result ≡ (if used then byte else 0) }
+// Returns the field if the step uses it, else its zero.
+fn field_if<T: Copy>(used: bool, field: T, zero: T) -> T
+    ensures { result ≡ (if used then field else zero) }
 {
-    if used {
-        return byte;
-    }
-    0
-}
-
-fn clock_if(used: bool, clock: u32) -> u32
-    ensures { result ≡ (if used then clock else 0) }
-{
-    if used {
-        return clock;
-    }
-    0
-}
-
-fn value_if(used: bool, value: u64) -> u64
-    ensures { result ≡ (if used then value else 0) }
-{
-    if used {
-        return value;
-    }
-    0
+    if used { field } else { zero }
 }
 
 // Returns the step with the fields that its kind does not use set to 0: "unused fields are 0". The kinds drawn, 1 to 9, have no name.
@@ -56,11 +35,11 @@ fn only_used(step: Step) -> Step
 {
     Step {
         kind: step.kind,
-        client: byte_if(known_kinds::uses_client(step), step.client),
-        object: byte_if(known_kinds::uses_object(step), step.object),
-        place: byte_if(known_kinds::uses_place(step), step.place),
-        clock: clock_if(known_kinds::uses_clock(step), step.clock),
-        value: value_if(known_kinds::uses_value(step), step.value),
+        client: field_if(known_kinds::uses_client(step), step.client, 0),
+        object: field_if(known_kinds::uses_object(step), step.object, 0),
+        place: field_if(known_kinds::uses_place(step), step.place, 0),
+        clock: field_if(known_kinds::uses_clock(step), step.clock, 0),
+        value: field_if(known_kinds::uses_value(step), step.value, 0),
     }
 }
 
@@ -68,10 +47,7 @@ fn only_used(step: Step) -> Step
 fn total_after(step: Step, total: u32) -> u32
     ensures { result ≡ total_after step total }
 {
-    if known_kinds::uses_clock(step) {
-        return step.clock;
-    }
-    total
+    field_if(known_kinds::uses_clock(step), step.clock, total)
 }
 
 // Returns the "remainder of draw by their counts", of clients, objects or places.
@@ -112,7 +88,7 @@ pub fn draw_step(seed: u32, setup: Setup, total: u32) -> Drawn
         object: remainder(third, setup.objects),
         place: remainder(fourth, PLACES as u32),
         clock: sum,
-        value: amount as u64,
+        value: u64::from(amount),
     });
     Drawn {
         step,

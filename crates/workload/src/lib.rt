@@ -7,82 +7,63 @@ ghost use Rattle.std.specs.Prelude.{◌≡◌, ◌≤◌, true, length};
 ghost use Rattle.protocol.specs.Setup.{in_range};
 ghost use Rattle.bytes_layout.specs.Report.{Reports};
 ghost use Rattle.file_records.specs.Bytes.{file_bytes};
-ghost use Rattle.file_records.specs.Held.{steps_by};
-ghost use Rattle.file_records.specs.Sizes.{STEPS};
-ghost use Rattle.workload.specs.Workload.{step_of, workload, steps_refusal, workload_of, file_refusal};
+ghost use Rattle.workload.specs.Workload.{workload, unless_steps_refused, workload_of, file_refusal};
 
-use bytes_layout::output::Report;
 use file_records::list::Steps;
 use file_records::sizes::STEPS;
+use protocol::refusal::Refusal;
 use protocol::setup::Setup;
 
-// The steps of a workload. `refusal` is 7 for a setup out of range, 10 for more than 4,000 steps, else 0; a refused workload has no steps.
-#[derive(Clone, Copy)]
-pub struct Workload {
-    pub refusal: u8,
-    pub steps: Steps,
-}
-
-// Returns 7 for a setup out of range, "10 when more than 4,000 steps are wanted, .. after 01's setup question", else 0.
-fn refusal(setup: Setup, count: u32) -> u8
-    ensures { result ≡ steps_refusal setup count }
+// Refuses with 7 a setup out of range, and with "10 when more than 4,000 steps are wanted, .. after 01's setup question".
+fn refusal(setup: Setup, count: u32) -> Result<(), Refusal>
+    ensures { result ≡ unless_steps_refused setup count tt }
 {
-    if setup::in_range(setup) {
-        if count as usize <= STEPS {
-            return 0;
-        }
-        return 10;
+    if !setup::in_range(setup) {
+        return Err(Refusal::Setup);
     }
-    7
+    if STEPS < count as usize {
+        return Err(Refusal::Parts);
+    }
+    Ok(())
 }
 
 // Returns the first `count` steps of a seed, for a setup in range: "Each step draws five times".
 fn drawn_steps(seed: u32, setup: Setup, count: u32) -> Steps
     requires setup_value { in_range setup ≡ true }
     requires count_bound { count ≤ STEPS }
-    ensures { result ≡ steps_by (step_of setup seed) count }
+    ensures { result ≡ workload setup seed count }
 {
-    let mut steps = file_records::list::blank(count);
-    let n = count as usize;
+    let mut steps = Steps::new();
     let mut last = seed;
     let mut total = 0;
-    let mut k = 0;
-    while k < n {
+    for _k in 0..count {
         let drawn = crate::draws::draw_step(last, setup, total);
-        let step = drawn.step;
-        steps.items[k] = step;
+        steps.push(drawn.step);
         last = drawn.seed;
         total = drawn.total;
-        k += 1;
     }
     steps
 }
 
 // Returns the first `count` steps of a seed, "the same long ride every time", or the refusal.
-pub fn steps(seed: u32, setup: Setup, count: u32) -> Workload
+pub fn steps(seed: u32, setup: Setup, count: u32) -> Result<Steps, Refusal>
     ensures { result ≡ workload_of setup seed count }
 {
-    let refusal = refusal(setup, count);
-    if refusal == 0 {
-        return Workload {
-            refusal,
-            steps: drawn_steps(seed, setup, count),
-        };
-    }
-    Workload {
-        refusal,
-        steps: file_records::list::blank(0),
-    }
+    refusal(setup, count)?;
+    Ok(drawn_steps(seed, setup, count))
 }
 
 // Writes the run file of these steps at the start of the output. Refusals: 7 for a setup out of range; then 10 for more than 4,000 steps, a file of
 // more than 65,536 bytes, or an output that is too short.
-pub fn write(seed: u32, note: &[u8], setup: Setup, count: u32, out: &mut [u8]) -> Report
+pub fn write(
+    seed: u32,
+    note: &[u8],
+    setup: Setup,
+    count: u32,
+    out: &mut [u8],
+) -> Result<usize, Refusal>
     ensures { Reports (file_refusal (length note.now) setup count (length out.old)) (file_bytes note.now setup (workload setup seed count)) out.old out.new result }
 {
-    let refusal = refusal(setup, count);
-    if refusal == 0 {
-        return file_writer::write(note, setup, drawn_steps(seed, setup, count), out);
-    }
-    Report::Refused(refusal)
+    let steps = steps(seed, setup, count)?;
+    file_writer::write(note, setup, steps.as_slice(), out)
 }

@@ -1,11 +1,7 @@
-use Prim.Native.Nat.{◌-◌}
-use mathlib.Core.Path.{◌≡◌}
+use Rattle.std.proofs.Common.{◌≡◌}
 use Rattle.file_shape.specs.Places.{place_before}
 use Rattle.file_shape.proofs.Laws.{Asked}
 use Rattle.file_shape.proofs.steps_fit.Given as goal
 
 abbrev pub invariant-loop-k : goal.invariant-loop-k
-invariant-loop-k l = (l.place ≡ place_before l.file l.k) × Asked l.file l.ok l.k
-
-abbrev pub decreases-loop-k : goal.decreases-loop-k
-decreases-loop-k l = l.count - l.k
+invariant-loop-k l = (l.place ≡ place_before l.file l._k) × Asked l.file l._k

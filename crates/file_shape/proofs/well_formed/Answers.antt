@@ -8,5 +8,5 @@ contents_fit-requires c = search (parts_by, rules)
 pub returns-then-measured : goal.returns-then-measured
 returns-then-measured c = search by_contents
 
-pub returns : goal.returns
-returns c = search not_measured
+pub returns-else-measured : goal.returns-else-measured
+returns-else-measured c = search not_measured

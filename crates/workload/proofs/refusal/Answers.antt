@@ -1,11 +1,11 @@
 use Rattle.workload.proofs.Laws.{accepted, too_many, out_of_range}
 use Rattle.workload.proofs.refusal.Goals as goal
 
-pub returns-then-count-le-STEPS : goal.returns-then-count-le-STEPS
-returns-then-count-le-STEPS c = search accepted
+pub returns-then-not-in_range : goal.returns-then-not-in_range
+returns-then-not-in_range c = search out_of_range
 
-pub returns-then-in_range : goal.returns-then-in_range
-returns-then-in_range c = search too_many
+pub returns-then-count-gt-STEPS : goal.returns-then-count-gt-STEPS
+returns-then-count-gt-STEPS c = search too_many
 
 pub returns : goal.returns
-returns c = search out_of_range
+returns c = search accepted

@@ -1,11 +1,11 @@
-use Rattle.workload.proofs.Laws.{in_range_then, few_then, file_written, file_refused}
+use Rattle.std.proofs.lemmas.Result.{err_from_is_err_and}
+use Rattle.workload.proofs.Laws.{file_written, file_refused}
 use Rattle.workload.proofs.write.Goals as goal
 
-pub drawn_steps-requires : goal.drawn_steps-requires
-drawn_steps-requires c = record { setup_value = search in_range_then; count_bound = search few_then }
-
-pub returns-then-refusal-eq0 : goal.returns-then-refusal-eq0
-returns-then-refusal-eq0 c = search file_written
+pub returns-in_err-steps : goal.returns-in_err-steps
+returns-in_err-steps c =
+    let p = err_from_is_err_and c.from_residual.result c.from_residual.ensures.1 in
+    rw (p.1, p.2) (file_refused _ _ _ _ _ _ c.in_err-steps.ensures)
 
 pub returns : goal.returns
-returns c = search file_refused
+returns c = file_written _ _ _ _ _ _ _ _ _ c.in_ok-steps.ensures c.as_slice.ensures c.write.ensures.reports

@@ -11,4 +11,4 @@ pub returns : goal.returns
 returns c =
     drawn_by _ _ _ _ _ _ c.next-first.ensures c.next-second.ensures
     c.next-third.ensures c.next-fourth.ensures c.next-fifth.ensures _ _ _ _ _ _ _ c.remainder.ensures
-    c.remainder-2.ensures c.remainder-3.ensures c.only_used-step.ensures c.total_after.ensures
+    c.remainder-2.ensures c.remainder-3.ensures (rw c.from.ensures at c.only_used-step.ensures) c.total_after.ensures
