@@ -1,16 +1,20 @@
 -- The message in a row and the message at a place, one law for each branch of the code. Word 1 of w is the length of the list.
 use Prim.Native.Nat.{ℕ, ◌<◌, ◌≤◌}
 use native.Mathlib.Omega.{arith}
-use mathlib.Core.Bool.{Bool, true, false, ◌&&◌}
+use mathlib.Core.Bool.{Bool, true, false}
 use mathlib.Core.List.{List}
-use mathlib.Core.Path.{◌≡◌, sym, ◌∙◌}
+use mathlib.Core.Path.{◌≡◌, refl, sym, ◌∙◌}
+use Rattle.std.specs.Prelude.{cond, Result, Ok, Err}
+use Rattle.std.specs.Result.{result_unwrap_or}
 use lib.ListN.{get_or}
 use Rattle.laws.specs.Parts.{parts, part_at}
 use Rattle.laws.specs.Tabulate.{tabulate_at, tabulate_past}
 use Rattle.protocol.specs.declared.message.Message.{Message}
+use Rattle.protocol.specs.declared.refusal.Refusal.{Refusal}
+use Rattle.protocol.specs.declared.refusal.Refusal.TheVariants as no
 use Rattle.protocol.specs.Messages.{blank, message_at}
 use Rattle.message_fields.specs.declared.Fields.{Fields}
-use Rattle.message_fields.specs.Fields.{message_in, sound}
+use Rattle.message_fields.specs.Fields.{message_in, sound, accepted}
 use Rattle.state_words.specs.Fields.{word_lengths, value_lengths, LENGTH, MESSAGES, MESSAGE_VALUE}
 use Rattle.state_words.specs.Rows.{fields_at, narrow_at, stray, message_of, message_from}
 use Rattle.state_words.specs.View.{tables_of}
@@ -18,14 +22,19 @@ use Rattle.state_words.specs.LiveRows.{Live}
 use Rattle.state_words.proofs.ReadsLaws.{length_word}
 use Rattle.network_rows.proofs.Places.{at_in, at_past}
 
-module _ (rows values : List ℕ) (i : ℕ) (f : Fields) (n y : Bool) (m : Message) (e : f ≡ fields_at rows values i) (g : n ≡ narrow_at rows i) (k : y ≡ sound f) where
-  pub row_message : (n && y) ≡ true → m ≡ message_in f → m ≡ message_of rows values i
+module _ (rows values : List ℕ) (i : ℕ) (n : Bool) (m : Message) (g : n ≡ narrow_at rows i) where
+  pub row_stray : n ≡ false → m ≡ stray → m ≡ message_of rows values i
   unfolding message_of
-  row_message h j = rw (← g, ← e, ← k, h) j
+  row_stray h j = rw (← g, h) j
 
-  pub row_stray : (n && y) ≡ false → m ≡ stray → m ≡ message_of rows values i
-  unfolding message_of
-  row_stray h j = rw (← g, ← e, ← k, h) j
+  pub row_message : (f : Fields) (t : Result Message Refusal) (z : Message) → n ≡ true → f ≡ fields_at rows values i → t ≡ accepted f → z ≡ stray
+      → m ≡ result_unwrap_or t z → m ≡ message_of rows values i
+  unfolding message_of accepted
+  row_message f t z h e k s j = j ∙ rw (← g, h, ← e, k, s) (pick (sound f))
+    where
+      pick : (b : Bool) → result_unwrap_or (cond b (Ok (message_in f)) (Err no.Frame)) stray ≡ cond b (message_in f) stray
+      pick true = refl
+      pick false = refl
 
 module _ (w x : List ℕ) (i : ℕ) where
   abbrev count : ℕ

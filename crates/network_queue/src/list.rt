@@ -46,9 +46,8 @@ fn message_of(words: &Words, values: &Values, place: usize) -> Message
     requires { place < PLACES }
     ensures { result ≡ message_of (parts word_lengths words.now MESSAGES) (parts value_lengths values.now MESSAGE_VALUE) place }
 {
-    let found = network_rows::row::load(words, values, place);
-    if network_rows::row::narrow(words, place) & message_fields::sound(found) {
-        return message_fields::message_in(found);
+    if network_rows::row::narrow(words, place) {
+        return Message::try_from(network_rows::row::load(words, values, place)).unwrap_or(stray());
     }
     stray()
 }

@@ -4,7 +4,8 @@ ghost use Rattle.protocol.specs.Decide.{taken};
 ghost use Rattle.state_words.specs.View.{tables_of, records_of};
 ghost use Rattle.setup.specs.Limits.{PLACES};
 
-use state_words::{Values, Words, network, pass};
+use network_rows::shift::shift;
+use state_words::{Values, Words, network};
 
 // Removes the message at a place: "A removal closes the gap." The row left over past the new end reads as blank, so it need not be cleared.
 pub fn remove(words: &mut Words, values: &mut Values, place: usize)
@@ -13,17 +14,15 @@ pub fn remove(words: &mut Words, values: &mut Values, place: usize)
     ensures values_after { tables_of words.new values.new ≡ taken (tables_of words.old values.old) place }
     ensures values_unchanged { records_of words.new values.new ≡ records_of words.old values.old }
 {
-    pass::length_known(&*words);
-    pass::values_length_known(&*values);
     let n = words[network::LENGTH];
     let rows = n as usize - (place + 1);
-    network_rows::shift::shift(
-        &mut *words,
+    shift(
+        words,
         network::MESSAGES,
         place * network::ROW,
         rows * network::ROW,
         network::ROW,
     );
-    network_rows::shift::shift_values(&mut *values, network::MESSAGE_VALUE, place, rows, 1);
+    shift(values, network::MESSAGE_VALUE, place, rows, 1);
     words[network::LENGTH] = n - 1;
 }

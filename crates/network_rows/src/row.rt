@@ -12,6 +12,7 @@ use state_words::{Values, Words, network};
 pub type Row = [u32; network::ROW];
 
 // Returns the lowest byte of a word.
+// Kept: `n.to_le_bytes()[0]` is no plainer.
 fn low(n: u32) -> u8
     ensures { result ≡ n % 256 }
 {
@@ -19,14 +20,15 @@ fn low(n: u32) -> u8
 }
 
 // Returns the row of a message with these fields. The contract adds that the first four are bytes, so that they read back the same.
+// Kept: a function, since Rust takes no `From` between two types of other crates.
 pub fn words_of(fields: Fields) -> Row
     ensures { (result ≡ words_of fields) × Narrow fields }
 {
     [
-        fields.kind as u32,
-        fields.client as u32,
-        fields.object as u32,
-        fields.present as u32,
+        u32::from(fields.kind),
+        u32::from(fields.client),
+        u32::from(fields.object),
+        u32::from(fields.present),
         fields.number,
         fields.volume_expiry,
         fields.epoch,
@@ -40,11 +42,8 @@ pub fn store(words: &mut Words, place: usize, row: Row)
     requires { place < PLACES }
     ensures { words.new ≡ store_each always (λ (k : ℕ). at MESSAGES + (place * ROW + k)) (λ (k : ℕ). get_or row k 0) words.old ROW }
 {
-    let mut k = 0;
-    while k < network::ROW {
-        words[network::MESSAGES + (place * network::ROW + k)] = row[k];
-        k += 1;
-    }
+    let start = network::MESSAGES + place * network::ROW;
+    words[start..start + network::ROW].copy_from_slice(&row);
 }
 
 // Returns word k of the row at a place.
@@ -61,8 +60,7 @@ pub fn narrow(words: &Words, place: usize) -> bool
     requires { place < PLACES }
     ensures { result ≡ narrow_at (parts word_lengths words.now MESSAGES) place }
 {
-    let head = (word(words, place, 0) < 256) & (word(words, place, 1) < 256);
-    head & (word(words, place, 2) < 256) & (word(words, place, 3) < 256)
+    (0..4).all(|k| word(words, place, k) < 256)
 }
 
 // Returns the fields in a row, value included. Only the lowest byte of the first four words is read.

@@ -5,5 +5,5 @@ pub returns-then-n : goal.returns-then-n
 returns-then-n c = let all = lost _ _ _ c.if-n.true in record { values_after = all.0; values_unchanged = all.1 }
 
 pub returns : goal.returns
-returns c = let all = pushes _ _ _ c.length_known-arg-2-1.given c.values_length_known-arg-2-1.given
-    _ _ _ c.if-n.false c.fields_of-f.ensures c.words_of.ensures c.store.ensures in record { values_after = all.0; values_unchanged = all.1 }
+returns c = let all = pushes _ _ _ c.told-words c.told-values
+    _ _ _ c.if-n.false c.from-f.ensures c.words_of.ensures c.store.ensures in record { values_after = all.0; values_unchanged = all.1 }

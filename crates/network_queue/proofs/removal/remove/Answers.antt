@@ -15,8 +15,8 @@ overflow_mul-rows c = omega (arith, length_word c.args.words.now c.args.values.n
 pub shift-requires : goal.shift-requires
 shift-requires c = omega (arith, length_word c.args.words.now c.args.values.now, c.requires.place_bound, c.requires.values_bound)
 
-pub shift_values-requires : goal.shift_values-requires
-shift_values-requires c =
+pub shift-requires-2 : goal.shift-requires-2
+shift-requires-2 c =
     omega (arith, length_word c.args.words.now c.args.values.now, c.requires.place_bound, c.requires.values_bound)
 
 pub overflow_sub-words : goal.overflow_sub-words
@@ -25,6 +25,6 @@ overflow_sub-words c =
 
 pub returns : goal.returns
 returns c =
-    let n = length_word c.args.words.now c.args.values.now in let all = removes _ _ _ c.length_known-arg-2-1.given
-    c.values_length_known-arg-2-1.given _ _ (omega (arith, n, c.requires.place_bound))
-    (omega (arith, n, c.requires.values_bound)) c.shift.ensures c.shift_values.ensures in record { values_after = all.0; values_unchanged = all.1 }
+    let n = length_word c.args.words.now c.args.values.now in let all = removes _ _ _ c.told-words
+    c.told-values _ _ (omega (arith, n, c.requires.place_bound))
+    (omega (arith, n, c.requires.values_bound)) (c.shift.ensures 0) (c.shift-2.ensures 0) in record { values_after = all.0; values_unchanged = all.1 }
