@@ -1,25 +1,29 @@
 // Questions 2 to 6 in order, once the setup is in range. None of them reads the values.
-ghost use Rattle.std.specs.Prelude.{true, ◌≡◌};
+ghost use Rattle.std.specs.Prelude.{true, false, ◌≡◌, OnOk, IfErr};
 ghost use Rattle.protocol.specs.Setup.{in_range};
-ghost use Rattle.protocol.specs.Gate.{or_refuse, refusal_of_step};
+ghost use Rattle.protocol.specs.Gate.{refusal_of_step};
+ghost use Rattle.protocol.specs.Refusals.{refused_by};
 ghost use Rattle.state_words.specs.View.{tables_of};
 
+use gate_questions::growth::growable;
 use protocol::records::Request;
+use protocol::refusal::Refusal;
 use protocol::setup::Setup;
 use protocol::step::Step;
 use state_words::{Values, Words};
 
-// Returns `number` if the answer is "no", else the result of the later questions: "the first "no" gives its number".
-pub fn or_refuse(ok: bool, number: u8, next: u8) -> u8
-    ensures { result ≡ or_refuse ok number next }
+// Refuses with `why` if the answer to the question is "no": "the first "no" gives its number".
+pub fn ask(yes: bool, why: Refusal) -> Result<(), Refusal>
+    ensures ok { OnOk result (yes ≡ true) }
+    ensures err { IfErr result (λ e. (e ≡ why) × (yes ≡ false)) }
 {
-    if ok {
-        return next;
+    if yes {
+        return Ok(());
     }
-    number
+    Err(why)
 }
 
-// Returns the number of the first "no" to questions 2 ("Is the kind 1 to 9?") to 6 ("Is the version, every epoch or the next number ..?"), or 0: "the
+// Asks questions 2 ("Is the kind 1 to 9?") to 6 ("Is the version, every epoch or the next number ..?") in order, and refuses at the first "no": "the
 // first "no" gives its number". Only the contract needs `values`: it is about whole tables.
 pub fn refusal_of_step(
     setup: Setup,
@@ -27,18 +31,13 @@ pub fn refusal_of_step(
     values: &Values,
     request: Request,
     step: Step,
-) -> u8
+) -> Result<(), Refusal>
     requires { in_range setup ≡ true }
-    ensures { result ≡ refusal_of_step setup (tables_of words.now values.now) request step }
+    ensures { refused_by result ≡ refusal_of_step setup (tables_of words.now values.now) request step }
 {
-    let known = known_kinds::known(step);
-    let exists = gate_questions::exists(setup, words, step);
-    let timely = gate_questions::timely(words, step);
-    let vacant = gate_questions::vacant(words, step);
-    let growable = gate_questions::growth::growable(setup, words, request, step);
-    let sixth = or_refuse(growable, 6, 0);
-    let fifth = or_refuse(vacant, 5, sixth);
-    let fourth = or_refuse(timely, 4, fifth);
-    let third = or_refuse(exists, 3, fourth);
-    or_refuse(known, 2, third)
+    ask(known_kinds::known(step), Refusal::Kind)?;
+    ask(gate_questions::exists(setup, words, step), Refusal::Missing)?;
+    ask(gate_questions::timely(words, step), Refusal::Clock)?;
+    ask(gate_questions::vacant(words, step), Refusal::Standing)?;
+    ask(growable(setup, words, request, step), Refusal::Growth)
 }

@@ -1,2 +1,1 @@
-pub mod ByKind
 pub mod Members

@@ -14,23 +14,21 @@ fn kind_sound(setup: Setup, kind: Kind) -> bool
     ensures { result ≡ kind_sound setup kind }
 {
     match kind {
-        Kind::Renew { object, .. } => (object as u32) < setup.objects,
         Kind::Grant {
             object,
             volume_expiry,
             object_expiry,
             ..
-        } => ((object as u32) < setup.objects)
+        } => (u32::from(object) < setup.objects)
             & (volume_expiry <= limits::LAST_END)
             & (object_expiry <= limits::LAST_END),
-        Kind::Invalidate { object, .. } => (object as u32) < setup.objects,
-        Kind::Ack { object, .. } => (object as u32) < setup.objects,
-        Kind::Offer { volume, .. } => (volume as u32) < setup.volumes,
-        Kind::Dropped { volume, .. } => (volume as u32) < setup.volumes,
-        Kind::Batch { volume, set, .. } => ((volume as u32) < setup.volumes)
-            & set_sound(setup, volume as usize, set),
-        Kind::Cleared { volume, set, .. } => ((volume as u32) < setup.volumes)
-            & set_sound(setup, volume as usize, set),
+        Kind::Renew { object, .. } | Kind::Invalidate { object, .. } | Kind::Ack { object, .. } =>
+            u32::from(object) < setup.objects,
+        Kind::Offer { volume, .. } | Kind::Dropped { volume, .. } => u32::from(volume)
+            < setup.volumes,
+        Kind::Batch { volume, set, .. } | Kind::Cleared { volume, set, .. } => (u32::from(volume)
+            < setup.volumes)
+            & set_sound(setup, usize::from(volume), set),
     }
 }
 
@@ -40,6 +38,6 @@ pub fn message_sound(setup: Setup, message: Message) -> bool
     ensures { result ≡ message_sound setup message }
 {
     let kind = message.kind;
-    let named = (message.client as u32) < setup.clients;
+    let named = u32::from(message.client) < setup.clients;
     named & kind_sound(setup, kind)
 }

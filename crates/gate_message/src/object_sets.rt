@@ -12,10 +12,8 @@ fn objects_in(setup: Setup, volume: usize) -> u32
 {
     let objects = setup.objects as usize;
     let mut set = 0;
-    let mut object = 0;
-    while object < objects {
-        set = sets::with_if(set, object, setup.volume[object] as usize == volume);
-        object += 1;
+    for object in 0..objects {
+        set = sets::with_if(set, object, usize::from(setup.volume[object]) == volume);
     }
     set
 }

@@ -16,9 +16,9 @@ use state_words::{Words, network, server};
 pub fn exists(setup: Setup, words: &Words, step: Step) -> bool
     ensures { result ≡ exists setup (numbers_of words.now) step }
 {
-    (!known_kinds::uses_client(step) | ((step.client as u32) < setup.clients))
-        & (!known_kinds::uses_object(step) | ((step.object as u32) < setup.objects))
-        & (!known_kinds::uses_place(step) | ((step.place as u32) < words[network::LENGTH]))
+    (!known_kinds::uses_client(step) | (u32::from(step.client) < setup.clients))
+        & (!known_kinds::uses_object(step) | (u32::from(step.object) < setup.objects))
+        & (!known_kinds::uses_place(step) | (u32::from(step.place) < words[network::LENGTH]))
 }
 
 // Answers question 4: "Is T from the clock to 2,147,483,647?" Steps other than clock steps pass.
@@ -33,9 +33,9 @@ pub fn timely(words: &Words, step: Step) -> bool
 pub fn vacant(words: &Words, step: Step) -> bool
     ensures { result ≡ vacant (numbers_of words.now) step }
 {
-    let object = step.object as usize;
+    let object = usize::from(step.object);
     if object < limits::SLOTS {
-        return (step.kind != known_kinds::WRITE) | (words[server::STANDING + object] == 0);
+        return !known_kinds::uses_value(step) | (words[server::STANDING + object] == 0);
     }
     true
 }

@@ -1,4 +1,4 @@
-ghost use Rattle.std.specs.Prelude.{◌≡◌, ◌&&◌, eqb};
+ghost use Rattle.std.specs.Prelude.{◌≡◌, eqb};
 ghost use Rattle.protocol.specs.Sound.{request_sound};
 
 use protocol::records::Request;
@@ -8,21 +8,12 @@ use protocol::setup::Setup;
 pub fn request_sound(setup: Setup, request: Request) -> bool
     ensures { result ≡ request_sound setup request }
 {
-    (1 <= request.next) & (!request.standing | ((request.object as u32) < setup.objects))
+    (1 <= request.next) & (!request.standing | (u32::from(request.object) < setup.objects))
 }
 
 // Returns whether there is one request for each client; another length is unsound.
 pub fn as_many(setup: Setup, len: usize) -> bool
     ensures { result ≡ eqb len setup.clients }
 {
-    let clients = setup.clients as usize;
-    len == clients
-}
-
-// Returns the answer so far, updated with one more request.
-pub fn still_sound(ok: bool, r: Request, setup: Setup) -> bool
-    ensures { result ≡ (ok && request_sound setup r) }
-{
-    let fits = request_sound(setup, r);
-    ok & fits
+    len == setup.clients as usize
 }

@@ -20,11 +20,9 @@ pub fn queue_sound(setup: Setup, words: &Words, values: &Values) -> bool
     }
     let n = length as usize;
     let mut ok = true;
-    let mut i = 0;
-    while i < n {
+    for i in 0..n {
         let message = list::message_at(words, values, i);
-        ok = ok & message_sound(setup, message);
-        i += 1;
+        ok &= message_sound(setup, message);
     }
     ok
 }

@@ -1,4 +1,6 @@
 // Question 1 for all tables and messages, once the setup is in range. Each loop here covers only what exists, and its body has no branch.
+// Kept: a `for` with `&=` in place of `all`. `all` leaves the loop at the first "no", so it is not compiled to vector instructions: six instructions an item in
+// place of about two, and sound tables ask every item.
 ghost use Rattle.std.specs.Prelude.{true, ◌≡◌, ◌<◌, ◌≤◌};
 ghost use Rattle.laws.specs.Loop.{all_from};
 ghost use Rattle.protocol.specs.Setup.{in_range};
@@ -19,14 +21,11 @@ fn volumes_fit(words: &Words, n: usize) -> bool
     ensures { result ≡ all_from (volume_sound (numbers_of words.now)) 0 n }
 {
     let mut ok = true;
-    let mut volume = 0;
-    while volume < n {
+    for volume in 0..n {
         let epoch = words[server::VOLUME_EPOCH + volume];
         let volume_expiry = words[server::VOLUME_EXPIRY + volume];
         let guard = words[server::GUARD + volume];
-        ok = ok
-            & ((1 <= epoch) & (volume_expiry <= limits::LAST_END) & (guard <= limits::LAST_END));
-        volume += 1;
+        ok &= (1 <= epoch) & (volume_expiry <= limits::LAST_END) & (guard <= limits::LAST_END);
     }
     ok
 }
@@ -38,14 +37,12 @@ fn objects_fit(words: &Words, n: usize) -> bool
     ensures { result ≡ all_from (object_sound (numbers_of words.now)) 0 n }
 {
     let mut ok = true;
-    let mut object = 0;
-    while object < n {
+    for object in 0..n {
         let version = words[server::VERSION + object];
         let object_expiry = words[server::OBJECT_EXPIRY + object];
         let open = (words[server::END + object] <= limits::LAST_END) & (version < limits::LARGEST);
         let settled = (words[server::STANDING + object] == 0) | open;
-        ok = ok & ((1 <= version) & (object_expiry <= limits::LAST_END) & settled);
-        object += 1;
+        ok &= (1 <= version) & (object_expiry <= limits::LAST_END) & settled;
     }
     ok
 }
@@ -59,8 +56,7 @@ fn sessions_fit(setup: Setup, words: &Words, client: usize) -> bool
 {
     let volumes = setup.volumes as usize;
     let mut ok = true;
-    let mut volume = 0;
-    while volume < volumes {
+    for volume in 0..volumes {
         let granted = words[server::SESSION_EXPIRY + (client * VOLUMES + volume)];
         let known = words[client::VIEW_EXPIRY + (client * VOLUMES + volume)];
         let notes = set_sound(
@@ -68,8 +64,7 @@ fn sessions_fit(setup: Setup, words: &Words, client: usize) -> bool
             volume,
             words[server::NOTES + (client * VOLUMES + volume)],
         );
-        ok = ok & ((granted <= limits::LAST_END) & (known <= limits::LAST_END) & notes);
-        volume += 1;
+        ok &= (granted <= limits::LAST_END) & (known <= limits::LAST_END) & notes;
     }
     ok
 }
@@ -81,10 +76,8 @@ fn holders_fit(words: &Words, client: usize, n: usize) -> bool
     ensures { result ≡ all_from (holder_sound (numbers_of words.now) client) 0 n }
 {
     let mut ok = true;
-    let mut object = 0;
-    while object < n {
-        ok = ok & (words[server::LEASE + (client * SLOTS + object)] <= limits::LAST_END);
-        object += 1;
+    for object in 0..n {
+        ok &= words[server::LEASE + (client * SLOTS + object)] <= limits::LAST_END;
     }
     ok
 }
@@ -96,10 +89,8 @@ fn all_sessions_fit(setup: Setup, words: &Words) -> bool
 {
     let clients = setup.clients as usize;
     let mut ok = true;
-    let mut client = 0;
-    while client < clients {
-        ok = ok & sessions_fit(setup, words, client);
-        client += 1;
+    for client in 0..clients {
+        ok &= sessions_fit(setup, words, client);
     }
     ok
 }
@@ -111,10 +102,8 @@ fn all_holders_fit(setup: Setup, words: &Words) -> bool
 {
     let clients = setup.clients as usize;
     let mut ok = true;
-    let mut client = 0;
-    while client < clients {
-        ok = ok & holders_fit(words, client, setup.objects as usize);
-        client += 1;
+    for client in 0..clients {
+        ok &= holders_fit(words, client, setup.objects as usize);
     }
     ok
 }

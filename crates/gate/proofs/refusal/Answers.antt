@@ -1,15 +1,13 @@
-use Rattle.gate.proofs.Questions.{refusal_ranges, refusal_unranged}
-use mathlib.Core.Path.{sym, ◌∙◌}
+use Rattle.std.proofs.Common.{arith}
+use Rattle.std.proofs.lemmas.Grind.{common_steps}
+use Rattle.gate.proofs.Questions.{asked_first}
 use Rattle.gate.proofs.refusal.Goals as goal
 
-pub tables_sound-requires : goal.tables_sound-requires
-tables_sound-requires c = sym c.in_range.ensures ∙ c.if-in_range.true
+pub returns-in_err-ask : goal.returns-in_err-ask
+returns-in_err-ask c = rw asked_first (grind (arith, common_steps))
 
-pub refusal_of_step-next-requires : goal.refusal_of_step-next-requires
-refusal_of_step-next-requires c = sym c.in_range.ensures ∙ c.if-in_range.true
-
-pub returns-then-in_range : goal.returns-then-in_range
-returns-then-in_range c = search refusal_ranges
+pub returns-in_err-ask-2 : goal.returns-in_err-ask-2
+returns-in_err-ask-2 c = rw asked_first (grind (arith, common_steps))
 
 pub returns : goal.returns
-returns c = search refusal_unranged
+returns c = rw asked_first (grind (arith, common_steps))

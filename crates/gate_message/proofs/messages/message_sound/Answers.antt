@@ -1,4 +1,4 @@
 use Rattle.gate_message.proofs.messages.message_sound.Goals as goal
 
 pub returns : goal.returns
-returns c = rw c.kind_sound.ensures
+returns c = rw (c.from.ensures, c.kind_sound.ensures)

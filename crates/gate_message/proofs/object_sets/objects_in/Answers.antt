@@ -16,7 +16,7 @@ pub with_if-set-requires : goal.with_if-set-requires
 with_if-set-requires c = let k = ranges _ c.requires in search rules
 
 pub loop-object-preserved : goal.loop-object-preserved
-loop-object-preserved c = (search rules, search object_again)
+loop-object-preserved c = (search rules, object_again _ _ _ _ _ c.requires (search rules) c.loop-object.invariant.1 (rw c.from.ensures at c.with_if-set.ensures))
 
 pub returns : goal.returns
 returns c = search objects_end

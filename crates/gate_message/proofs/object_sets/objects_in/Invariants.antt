@@ -1,4 +1,4 @@
-use Prim.Native.Nat.{◌-◌, ◌≤◌}
+use Prim.Native.Nat.{◌≤◌}
 use mathlib.Core.Path.{◌≡◌}
 use Rattle.laws.specs.Sets.{set_of}
 use Rattle.protocol.specs.Setup.{in_volume}
@@ -6,6 +6,3 @@ use Rattle.gate_message.proofs.object_sets.objects_in.Given as goal
 
 abbrev pub invariant-loop-object : goal.invariant-loop-object
 invariant-loop-object l = (l.object ≤ l.setup.objects) × (l.set ≡ set_of (in_volume l.setup l.volume) l.object)
-
-abbrev pub decreases-loop-object : goal.decreases-loop-object
-decreases-loop-object l = l.setup.objects - l.object

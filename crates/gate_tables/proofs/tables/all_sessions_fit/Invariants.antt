@@ -1,4 +1,3 @@
-use Prim.Native.Nat.{◌-◌}
 use Rattle.laws.specs.Loop.{Scanning}
 use Rattle.protocol.specs.Sound.{sessions_sound}
 use Rattle.state_words.specs.View.{numbers_of}
@@ -6,6 +5,3 @@ use Rattle.gate_tables.proofs.tables.all_sessions_fit.Given as goal
 
 abbrev pub invariant-loop-client : goal.invariant-loop-client
 invariant-loop-client l = Scanning (sessions_sound l.setup (numbers_of l.words)) l.setup.clients l.ok l.client
-
-abbrev pub decreases-loop-client : goal.decreases-loop-client
-decreases-loop-client l = l.setup.clients - l.client

@@ -1,4 +1,3 @@
-use Prim.Native.Nat.{◌-◌}
 use Rattle.laws.specs.Loop.{Scanning}
 use Rattle.protocol.specs.Sound.{object_sound}
 use Rattle.state_words.specs.View.{numbers_of}
@@ -6,6 +5,3 @@ use Rattle.gate_tables.proofs.tables.objects_fit.Given as goal
 
 abbrev pub invariant-loop-object : goal.invariant-loop-object
 invariant-loop-object l = Scanning (object_sound (numbers_of l.words)) l.n l.ok l.object
-
-abbrev pub decreases-loop-object : goal.decreases-loop-object
-decreases-loop-object l = l.n - l.object

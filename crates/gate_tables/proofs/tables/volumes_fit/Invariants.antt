@@ -1,4 +1,3 @@
-use Prim.Native.Nat.{◌-◌}
 use Rattle.laws.specs.Loop.{Scanning}
 use Rattle.protocol.specs.Sound.{volume_sound}
 use Rattle.state_words.specs.View.{numbers_of}
@@ -6,6 +5,3 @@ use Rattle.gate_tables.proofs.tables.volumes_fit.Given as goal
 
 abbrev pub invariant-loop-volume : goal.invariant-loop-volume
 invariant-loop-volume l = Scanning (volume_sound (numbers_of l.words)) l.n l.ok l.volume
-
-abbrev pub decreases-loop-volume : goal.decreases-loop-volume
-decreases-loop-volume l = l.n - l.volume
