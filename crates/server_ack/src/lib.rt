@@ -23,9 +23,10 @@ fn ack_taken(setup: Setup, words: &Words, object: usize, epoch: u32, version: u3
     let volume = place::volume_of(setup, object);
     if words[server::STANDING + object] != 0 {
         let same = epoch == words[server::VOLUME_EPOCH + volume];
-        return same & (version == words[server::VERSION + object] + 1);
+        same & (version == words[server::VERSION + object] + 1)
+    } else {
+        false
     }
-    false
 }
 
 // Receives a client's ACK for an object: "Clear that dash's object lease and its waiting; complete if none waits and the clock is at or past guard."
@@ -49,7 +50,8 @@ pub fn receive_ack(
     if ack_taken(setup, &*words, object, epoch, version) {
         words[server::WAITING + object] = sets::without(words[server::WAITING + object], client);
         words[server::LEASE + (client * SLOTS + object)] = 0;
-        return server_complete::completion::settle_one(setup, &mut *words, &mut *values, object);
+        server_complete::completion::settle_one(setup, &mut *words, &mut *values, object)
+    } else {
+        0
     }
-    0
 }

@@ -1,8 +1,8 @@
 -- Sessions without notes, where nothing ages.
-use Rattle.std.specs.Prelude.{ℕ, ◌+◌, ◌*◌, ◌<◌, ◌≤◌, Bool, true, ◌≡◌, eqb, get_or}
-use Rattle.std.proofs.Common.{arith, sym, ◌∙◌}
+use Rattle.std.specs.Prelude.{ℕ, ◌*◌, ◌<◌, ◌≤◌, Bool, true, ◌≡◌, eqb, get_or}
+use Rattle.std.proofs.Common.{arith, ◌∙◌}
 use Rattle.std.proofs.Math.Path.{refl}
-use Rattle.laws.specs.Loop.{fold_from, all_from, all_each, fold_keeps_in}
+use Rattle.laws.specs.Loop.{all_from, all_each, fold_keeps_in}
 use Rattle.protocol.specs.declared.setup.Setup.{Setup}
 use Rattle.protocol.specs.declared.tables.Sessions.{Sessions}
 use Rattle.protocol.specs.Tables.{by_volume}

@@ -20,10 +20,8 @@ fn no_notes(words: &Words, n: usize) -> bool
     ensures { result ≡ all_from (none_at (sessions_of words.now)) 0 n }
 {
     let mut ok = true;
-    let mut i = 0;
-    while i < n {
-        ok = ok & (words[server::NOTES + i] == 0);
-        i += 1;
+    for i in 0..n {
+        ok &= words[server::NOTES + i] == 0;
     }
     ok
 }
@@ -42,7 +40,9 @@ fn age_at(setup: Setup, words: &mut Words, clock: u32, client: usize, volume: us
         words[server::SESSION_EXPIRY + i],
         setup.delay,
     );
-    server_marks::mark_if(&mut *words, old, client, volume);
+    if old {
+        server_marks::mark(&mut *words, client, volume);
+    }
 }
 
 // Does so in each volume.
@@ -52,11 +52,8 @@ fn age_client(setup: Setup, words: &mut Words, clock: u32, client: usize)
     ensures words_after { sessions_of words.new ≡ aged_in setup clock (sessions_of words.old) client }
     ensures only_sessions { OnlySessions words.old words.new }
 {
-    let n = setup.volumes as usize;
-    let mut volume = 0;
-    while volume < n {
+    for volume in 0..setup.volumes as usize {
         age_at(setup, &mut *words, clock, client, volume);
-        volume += 1;
     }
 }
 
@@ -70,9 +67,7 @@ pub fn age(setup: Setup, words: &mut Words, clock: u32)
     if no_notes(&*words, n * VOLUMES) {
         return;
     }
-    let mut client = 0;
-    while client < n {
+    for client in 0..n {
         age_client(setup, &mut *words, clock, client);
-        client += 1;
     }
 }

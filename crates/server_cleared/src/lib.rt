@@ -1,21 +1,18 @@
 // CLEARED received at the server (02, A6).
 #![tactic(auto)]
 
-ghost use Rattle.std.specs.Prelude.{List, ◌≡◌, true, ℕ, ◌+◌, ◌≤◌, ◌<◌};
-ghost use Rattle.laws.specs.Sets.{bit_at};
-ghost use Rattle.laws.specs.Store.{store_each};
+ghost use Rattle.std.specs.Prelude.{List, ◌≡◌, true, ℕ, ◌<◌};
 ghost use Rattle.protocol.specs.Setup.{in_range};
 ghost use Rattle.protocol.specs.Server.{clear_taken, notes_cleared};
-ghost use Rattle.protocol.specs.Tables.{by_object};
-ghost use Rattle.setup.specs.Limits.{CLIENTS, OBJECTS, VOLUMES};
-ghost use Rattle.state_words.specs.Fields.{at, LEASE};
+ghost use Rattle.setup.specs.Limits.{CLIENTS, VOLUMES};
 ghost use Rattle.state_words.specs.View.{tables_of, numbers_of, records_of};
 
 use protocol::setup::Setup;
-use setup::limits::{SLOTS, VOLUMES};
-use state_words::{Words, pass, server};
+use setup::limits::VOLUMES;
+use state_words::{Words, server};
 
 // Returns whether the CLEARED answers the batch last sent: "only if number and epoch match the batch last sent". 0 is none.
+// Kept: `clear_taken`, and `drop_taken` of DROPPED: one function for both would take the field as a parameter, with a bound on it, and be no shorter.
 fn clear_taken(words: &Words, client: usize, volume: usize, number: u32, epoch: u32) -> bool
     requires client_bound { client < CLIENTS }
     requires volume_bound { volume < VOLUMES }
@@ -25,23 +22,9 @@ fn clear_taken(words: &Words, client: usize, volume: usize, number: u32, epoch: 
     (epoch == words[server::VOLUME_EPOCH + volume]) & ((number != 0) & (number == batch))
 }
 
-// Zeroes the client's leases on those of the first n objects that are in the set: "drops the notes and leases of the set in CLEARED".
-fn clear_leases(words: &mut Words, client: usize, set: u32, n: usize)
-    requires client_bound { client < CLIENTS }
-    requires n_bound { n ≤ OBJECTS }
-    ensures { words.new ≡ store_each (bit_at set) (λ (o : ℕ). at LEASE + by_object client o) (λ (o : ℕ). 0) words.old n }
-{
-    let mut object = 0;
-    while object < n {
-        let yes = sets::contains(set, object);
-        let i = server::LEASE + (client * SLOTS + object);
-        pass::put_if(&mut *words, yes, i, 0);
-        object += 1;
-    }
-}
-
 // Receives a client's CLEARED: "The server drops the notes and leases of the set in CLEARED only if number and epoch match the batch last sent; .. an accepted
 // CLEARED ends it." It completes nothing.
+// Kept: seven parameters, since nothing else is handed these fields: a struct of them would be taken apart at once.
 pub fn receive_cleared(
     setup: Setup,
     words: &mut Words,
@@ -62,7 +45,9 @@ pub fn receive_cleared(
         let notes = sets::less(words[server::NOTES + i], set);
         words[server::NOTES + i] = notes;
         words[server::BATCH + i] = 0;
-        clear_leases(&mut *words, client, set, setup.objects as usize);
-        return;
+        let objects = setup.objects as usize;
+        server_leases::clear(&mut *words, client, objects, |object| {
+            sets::has(set, object)
+        });
     }
 }

@@ -1,15 +1,14 @@
 -- Completing writes in object order, and the clock step.
-use Prim.Native.Nat.{ℕ, ◌+◌, ◌-◌, ◌<◌, ◌≤◌}
+use Prim.Native.Nat.{ℕ, ◌+◌, ◌-◌, ◌<◌}
 use native.Mathlib.Omega.{arith}
-use mathlib.Core.Bool.{true, false}
+use mathlib.Core.Bool.{Bool, true, false}
 use mathlib.Core.List.{List}
-use mathlib.Core.Path.{◌≡◌, refl, ap, ◌∙◌, fun_ext}
+use mathlib.Core.Path.{◌≡◌, refl, sym, ap, ◌∙◌, fun_ext}
 use lib.ListN.{length, set}
 use lib.Seq.{get_or-set_same}
 use Rattle.laws.specs.Choice.{and-true}
-use Rattle.laws.specs.Loop.{fold_from, fold_again, fold_end}
+use Rattle.laws.specs.Loop.{fold_from, fold_again}
 use Rattle.laws.specs.Parts.{parts, part_length, stored}
-use Rattle.laws.specs.Skip.{Found, fold_skip, first_is}
 use Rattle.protocol.specs.declared.setup.Setup.{Setup}
 use Rattle.protocol.specs.declared.tables.Tables.{Tables}
 use Rattle.protocol.specs.Tables.{standing_at, version_at, with_clock, with_sessions}
@@ -37,32 +36,25 @@ module _ (s : Setup) (p : Trigger) where
   stands Clock t o e = (and-true (standing_at t o) _ e).0
   stands (Volume v) t o e = (and-true (standing_at t o) _ (and-true (of_volume s v o) _ e).1).0
 
-  idle : (c : Counted) (j : ℕ) → triggered s p c.tables j ≡ false → complete_if (triggered s p) s c j ≡ c
-  idle c j h = rw h
+  -- r says whether the write of o completes, as found in the words
+  module _ (w x : List ℕ) (o : ℕ) (r : Bool) (e : r ≡ triggered s p (numbers_of w) o) where
+    tested : r ≡ triggered s p (tables_of w x) o
+    tested = rw (← triggered_same s p w x) e
 
-  -- o is the next object whose write completes, as found in the words
-  module _ (w x : List ℕ) (from o : ℕ) (l : from ≤ s.objects) (f : Found (triggered s p (numbers_of w)) from s.objects o) where
-    found : Found (triggered s p (tables_of w x)) from s.objects o
-    found = rw (← triggered_same s p w x) f
+    pub settle_version : r ≡ true → Growing s (tables_of w x).objects → o < s.objects → version_at (tables_of w x) o < 4294967295
+    settle_version h g l = g.below o l (stands p (tables_of w x) o (sym tested ∙ h))
 
-    hits : o < s.objects → triggered s p (tables_of w x) o ≡ true
-    hits h = first_is (triggered s p (tables_of w x)) s.objects from o l found.is h
-
-    pub settle_version : Growing s (tables_of w x).objects → o < s.objects → version_at (tables_of w x) o < 4294967295
-    settle_version g h = g.below o h (stands p (tables_of w x) o (hits h))
-
-    module _ (n : ℕ) (A : Counted) (i : fold_from (complete_if (triggered s p) s) (record { count = n; tables = tables_of w x }) from (s.objects - from) ≡ A) where
-      skipped : fold_from (complete_if (triggered s p) s) (record { count = n; tables = tables_of w x }) o (s.objects - o) ≡ A
-      skipped = fold_skip (complete_if (triggered s p) s) (λ (c : Counted). triggered s p c.tables) idle s.objects from o (record { count = n; tables = tables_of w x }) A l found.is i
-
-      pub settle_end : s.objects ≤ o → record { count = n; tables = tables_of w x } ≡ A
-      settle_end h = fold_end (complete_if (triggered s p) s) s.objects o (record { count = n; tables = tables_of w x }) A h skipped
-
-      pub settle_again : (t : Tables) → o < s.objects → t ≡ completed s (tables_of w x) o
+    module _ (n : ℕ) (A : Counted) (l : o < s.objects) (i : fold_from (complete_if (triggered s p) s) (record { count = n; tables = tables_of w x }) o (s.objects - o) ≡ A) where
+      pub settle_done : (t : Tables) → r ≡ true → t ≡ completed s (tables_of w x) o
           → fold_from (complete_if (triggered s p) s) (record { count = n + 1; tables = t }) (o + 1) (s.objects - (o + 1)) ≡ A
-      settle_again t h e =
-          fold_again (complete_if (triggered s p) s) s.objects o (record { count = n; tables = tables_of w x }) (record { count = n + 1; tables = t }) A h
-          (rw (hits h, e)) skipped
+      settle_done t h f =
+          fold_again (complete_if (triggered s p) s) s.objects o (record { count = n; tables = tables_of w x }) (record { count = n + 1; tables = t }) A l
+          (rw (sym tested ∙ h, f)) i
+
+      pub settle_passed : r ≡ false → fold_from (complete_if (triggered s p) s) (record { count = n; tables = tables_of w x }) (o + 1) (s.objects - (o + 1)) ≡ A
+      settle_passed h =
+          let c : Counted = record { count = n; tables = tables_of w x } in
+          fold_again (complete_if (triggered s p) s) s.objects o c c A l (rw (sym tested ∙ h)) i
 
 pub settle_grows : (s : Setup) (t u : Tables) (o : ℕ) → Growing s t.objects → u ≡ completed s t o → Growing s u.objects
 settle_grows s t u o g e = rw e (completed_keeps s t o g)

@@ -8,8 +8,8 @@ ghost use Rattle.server_due.specs.Triggers.{trigger_staged};
 
 use crate::completion::complete;
 use protocol::setup::Setup;
-use server_due::{Trigger, next_triggered};
-use state_words::{Values, Words, network, pass};
+use server_due::{Trigger, triggered};
+use state_words::{Values, Words, network};
 
 // Completes the writes that the trigger selects: "In object order, complete each standing write". Returns how many completed.
 pub fn settle(setup: Setup, trigger: Trigger, words: &mut Words, values: &mut Values) -> u32
@@ -18,17 +18,12 @@ pub fn settle(setup: Setup, trigger: Trigger, words: &mut Words, values: &mut Va
     ensures values_after { record { count = result; tables = tables_of words.new values.new } ≡ settled setup (trigger_staged setup trigger (tables_of words.old values.old)) }
     ensures values_unchanged { records_of words.new values.new ≡ records_of words.old values.old }
 {
-    let n = setup.objects as usize;
-    let mut count: u32 = 0;
-    let mut from = 0;
-    loop {
-        let object = next_triggered(setup, trigger, &*words, from);
-        if n <= object {
-            break;
+    let mut count = 0;
+    for object in 0..setup.objects as usize {
+        if triggered(setup, trigger, &*words, object) {
+            complete(setup, &mut *words, &mut *values, object);
+            count += 1;
         }
-        complete(setup, &mut *words, &mut *values, object);
-        count += 1;
-        from = object + 1;
     }
     count
 }
@@ -40,7 +35,6 @@ pub fn pass_time(setup: Setup, words: &mut Words, values: &mut Values, clock: u3
     ensures values_after { record { count = result; tables = tables_of words.new values.new } ≡ settled setup (clock_staged setup (tables_of words.old values.old) clock) }
     ensures values_unchanged { records_of words.new values.new ≡ records_of words.old values.old }
 {
-    pass::length_known(&*words);
     words[network::CLOCK] = clock;
     server_ageing::age(setup, &mut *words, clock);
     settle(setup, Trigger::Clock, &mut *words, &mut *values)

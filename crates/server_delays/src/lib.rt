@@ -1,7 +1,7 @@
 // The notes that a write makes (02, A6): whose invalidation is put off instead of being waited for.
 #![tactic(auto)]
 
-ghost use Rattle.std.specs.Prelude.{◌≡◌, true, cond, ◌<◌};
+ghost use Rattle.std.specs.Prelude.{◌≡◌, true, ◌<◌};
 ghost use Rattle.protocol.specs.Setup.{in_range};
 ghost use Rattle.protocol.specs.Writes.{put_off, delay_if, delayed};
 ghost use Rattle.server_marks.specs.SessionWords.{sessions_of, OnlySessions};
@@ -13,21 +13,18 @@ use protocol::setup::Setup;
 use setup::limits::{SLOTS, VOLUMES};
 use state_words::{Words, network, server};
 
-// Notes the object for the client if `yes` is true: "the object goes on its list of notes for that volume"; "a later note voids that batch".
-fn put_off_if(words: &mut Words, yes: bool, client: usize, volume: usize, object: usize)
+// Notes the object for the client: "the object goes on its list of notes for that volume"; "a later note voids that batch".
+fn put_off(words: &mut Words, client: usize, volume: usize, object: usize)
     requires client_bound { client < CLIENTS }
     requires volume_bound { volume < VOLUMES }
     requires object_bound { object < SLOTS }
-    ensures words_after { sessions_of words.new ≡ cond yes (put_off (sessions_of words.old) client volume object) (sessions_of words.old) }
+    ensures words_after { sessions_of words.new ≡ put_off (sessions_of words.old) client volume object }
     ensures only_sessions { OnlySessions words.old words.new }
 {
-    if yes {
-        let i = client * VOLUMES + volume;
-        let notes = sets::with_if(words[server::NOTES + i], object, true);
-        words[server::NOTES + i] = notes;
-        words[server::BATCH + i] = 0;
-        return;
-    }
+    let i = client * VOLUMES + volume;
+    let notes = sets::with_if(words[server::NOTES + i], object, true);
+    words[server::NOTES + i] = notes;
+    words[server::BATCH + i] = 0;
 }
 
 // Notes the object for the client if its invalidation is put off: "a reachable dash with a live object lease and a dead volume lease".
@@ -46,7 +43,9 @@ fn delay_one(setup: Setup, words: &mut Words, object: usize, client: usize)
         words[server::UNREACHABLE + i] != 0,
         words[server::SESSION_EXPIRY + i],
     );
-    put_off_if(&mut *words, yes, client, volume, object);
+    if yes {
+        put_off(&mut *words, client, volume, object);
+    }
 }
 
 // Notes the object for each client whose invalidation is put off.
@@ -56,10 +55,7 @@ pub fn delay(setup: Setup, words: &mut Words, object: usize)
     ensures words_after { sessions_of words.new ≡ delayed setup (numbers_of words.old) object }
     ensures only_sessions { OnlySessions words.old words.new }
 {
-    let n = setup.clients as usize;
-    let mut client = 0;
-    while client < n {
+    for client in 0..setup.clients as usize {
         delay_one(setup, &mut *words, object, client);
-        client += 1;
     }
 }

@@ -3,7 +3,7 @@ use Prim.Native.Nat.{ℕ, ◌+◌, ◌-◌, ◌<◌, ◌≤◌}
 use native.Mathlib.Omega.{arith}
 use mathlib.Core.Bool.{Bool, true, false, cond, not, ◌&&◌}
 use mathlib.Core.List.{List}
-use mathlib.Core.Path.{◌≡◌, refl, sym, ◌∙◌}
+use mathlib.Core.Path.{◌≡◌, refl, sym, ap, ◌∙◌}
 use lib.Dec.{eqb}
 use lib.ListN.{get_or, set}
 use lib.Seq.{get_or-set_other}
@@ -19,6 +19,7 @@ use Rattle.protocol.specs.SoundLaws.{Growing}
 use Rattle.protocol.specs.Tables.{by_volume, by_object}
 use Rattle.protocol.specs.Writes.{Counted, settled}
 use Rattle.protocol.specs.Server.{of_volume, disowned, dropped, drop_taken, drop_staged}
+use Rattle.lease_tests.specs.Parts.{Placed}
 use Rattle.state_words.specs.Fields.{word_lengths, at, VOLUME_EPOCH, SESSION_EXPIRY, UNREACHABLE, OFFER, LEASE, WAITING}
 use Rattle.state_words.specs.View.{tables_of, numbers_of, records_of}
 use Rattle.server_due.specs.declared.Trigger.TheVariants.{Volume}
@@ -34,6 +35,10 @@ drop_takes w d v n e h l = rw (part_at word_lengths w VOLUME_EPOCH v l, part_at 
 drop_same : (w x : List ℕ) (d v n e : ℕ) → drop_taken (numbers_of w) d v n e ≡ drop_taken (tables_of w x) d v n e
 unfolding drop_taken tables_of
 drop_same w x d v n e = refl
+
+-- the test of the volume that the code makes
+pub in_volume : (s : Setup) (o v u : ℕ) (r : Bool) → Placed s o u → r ≡ eqb u v → r ≡ of_volume s v o
+in_volume s o v u r p e = e ∙ ap (λ (x : ℕ). eqb x v) p.is
 
 -- one iteration of the loop over the objects' sets: those from o on are as they were
 module _ (w₀ w u : List ℕ) (b : Bool) (o m : ℕ) (a : Above w₀ w (at WAITING + o)) (e : u ≡ cond b (set w (at WAITING + o) m) w) where

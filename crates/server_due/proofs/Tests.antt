@@ -4,6 +4,7 @@ use native.Mathlib.Omega.{arith}
 use mathlib.Core.Bool.{Bool, true, false, not, ◌&&◌, ◌||◌}
 use mathlib.Core.List.{List}
 use mathlib.Core.Path.{◌≡◌, refl, sym, ◌∙◌}
+use lib.Dec.{eqb}
 use lib.ListN.{get_or}
 use borrow.Author.Tests.{eq-eqb, ne_eqb}
 use Rattle.laws.specs.Choice.{not_both}
@@ -66,6 +67,6 @@ module _ (s : Setup) (p : Trigger) (t : Tables) (o : ℕ) where
   unfolding triggered
   by_volume_law r v u a b c e = rw (a, eq-eqb (volume_of s o) v (sym b.is ∙ c)) e
 
-  pub by_other : (v u : ℕ) → p ≡ Volume v → Placed s o u → (u ≡ v → ⊥) → false ≡ triggered s p t o
+  pub by_other : (v u : ℕ) → p ≡ Volume v → Placed s o u → (u ≡ v → ⊥) → eqb u v ≡ triggered s p t o
   unfolding triggered
-  by_other v u a b c = rw (a, ne_eqb (volume_of s o) v (λ e. c (b.is ∙ e)))
+  by_other v u a b c = rw (a, ne_eqb u v c, ne_eqb (volume_of s o) v (λ e. c (b.is ∙ e)))

@@ -1,8 +1,7 @@
 // Finding the standing writes that may complete (01, "Steps" 1 and 4): those that are ready and, at a clock step, those past their latest end.
 #![tactic(auto)]
 
-ghost use Rattle.std.specs.Prelude.{◌≡◌, true, ◌≤◌, ◌<◌};
-ghost use Rattle.laws.specs.Skip.{Found};
+ghost use Rattle.std.specs.Prelude.{◌≡◌, true, ◌<◌};
 ghost use Rattle.protocol.specs.Setup.{in_range};
 ghost use Rattle.protocol.specs.Writes.{ready, due};
 ghost use Rattle.state_words.specs.View.{numbers_of};
@@ -14,6 +13,7 @@ use server_waiting::clients;
 use state_words::{Words, network, server};
 
 // The event that makes the server look for writes to complete. A clock step completes all that are due; a DROPPED, those of its volume that are ready.
+// Kept: it has the shape of Option<usize>, but None would not say that the clock was set.
 #[derive(Clone, Copy)]
 pub enum Trigger {
     Clock,
@@ -57,29 +57,7 @@ pub fn triggered(setup: Setup, trigger: Trigger, words: &Words, object: usize) -
     match trigger {
         Trigger::Clock => due(setup, words, object),
         Trigger::Volume(volume) => {
-            if place::volume_of(setup, object) == volume {
-                return ready(setup, words, object);
-            }
-            false
+            place::volume_of(setup, object) == volume && ready(setup, words, object)
         }
-    }
-}
-
-// Returns the first object from `from` on whose write the trigger completes, or the number of objects if there is none.
-pub fn next_triggered(setup: Setup, trigger: Trigger, words: &Words, from: usize) -> usize
-    requires setup_value { in_range setup ≡ true }
-    requires from_le_objects { from ≤ setup.objects }
-    ensures { Found (triggered setup trigger (numbers_of words.now)) from setup.objects result }
-{
-    let n = setup.objects as usize;
-    let mut object = from;
-    loop {
-        if n <= object {
-            break object;
-        }
-        if triggered(setup, trigger, words, object) {
-            break object;
-        }
-        object += 1;
     }
 }

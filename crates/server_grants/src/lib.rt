@@ -11,6 +11,7 @@ ghost use Rattle.setup.specs.Limits.{CLIENTS, VOLUMES};
 use lease_tests::place;
 use network_send::push;
 use protocol::setup::Setup;
+use server_replies::Renew;
 use setup::limits::{SLOTS, VOLUMES};
 use state_words::{Values, Words, network, server};
 
@@ -40,29 +41,21 @@ pub fn batch(words: &mut Words, values: &mut Values, client: usize, volume: usiz
 }
 
 // Renews both leases and answers with a GRANT: "volume expiry and VE := clock + tv, object expiry and OE := clock + t, send GRANT".
-pub fn grant(
-    setup: Setup,
-    words: &mut Words,
-    values: &mut Values,
-    client: usize,
-    object: usize,
-    number: u32,
-    held: u32,
-)
+pub fn grant(setup: Setup, words: &mut Words, values: &mut Values, renew: Renew)
     requires setup_value { in_range setup ≡ true }
     requires values_bound { (tables_of words.old values.old).clock ≤ clock_limit }
-    requires client_bound { client < CLIENTS }
-    requires object_lt_objects { object < setup.objects }
-    ensures values_after { tables_of words.new values.new ≡ granted setup (tables_of words.old values.old) client object number held }
+    requires client_bound { renew.client < CLIENTS }
+    requires object_lt_objects { renew.object < setup.objects }
+    ensures values_after { tables_of words.new values.new ≡ granted setup (tables_of words.old values.old) renew.client renew.object renew.number renew.held }
     ensures values_unchanged { records_of words.new values.new ≡ records_of words.old values.old }
 {
-    let volume = place::volume_of(setup, object);
-    let message = server_replies::granting(setup, &*words, &*values, client, object, number, held);
+    let volume = place::volume_of(setup, renew.object);
+    let message = server_replies::granting(setup, &*words, &*values, renew);
     let volume_expiry = words[network::CLOCK] + setup.tv;
     let object_expiry = words[network::CLOCK] + setup.t;
     words[server::VOLUME_EXPIRY + volume] = volume_expiry;
-    words[server::SESSION_EXPIRY + (client * VOLUMES + volume)] = volume_expiry;
-    words[server::OBJECT_EXPIRY + object] = object_expiry;
-    words[server::LEASE + (client * SLOTS + object)] = object_expiry;
+    words[server::SESSION_EXPIRY + (renew.client * VOLUMES + volume)] = volume_expiry;
+    words[server::OBJECT_EXPIRY + renew.object] = object_expiry;
+    words[server::LEASE + (renew.client * SLOTS + renew.object)] = object_expiry;
     push(&mut *words, &mut *values, message);
 }

@@ -1,13 +1,11 @@
 -- Storing a mark.
 use Prim.Native.Nat.{ℕ, ◌+◌, ◌<◌}
 use native.Mathlib.Omega.{arith}
-use mathlib.Core.Bool.{true, false, cond}
 use mathlib.Core.List.{List}
-use mathlib.Core.Path.{◌≡◌, refl}
+use mathlib.Core.Path.{◌≡◌}
 use lib.ListN.{set}
 use Rattle.laws.specs.Flags.{flags_set}
 use Rattle.laws.specs.Parts.{parts, stored}
-use Rattle.protocol.specs.declared.tables.Sessions.{Sessions}
 use Rattle.protocol.specs.Tables.{by_volume}
 use Rattle.protocol.specs.Writes.{marked}
 use Rattle.state_words.specs.Fields.{word_lengths, at, UNREACHABLE, NOTES, BATCH}

@@ -1,7 +1,7 @@
 // Marking a client unreachable in a volume, for every rule that does.
 #![tactic(auto)]
 
-ghost use Rattle.std.specs.Prelude.{◌≡◌, cond, ◌<◌};
+ghost use Rattle.std.specs.Prelude.{◌≡◌, ◌<◌};
 ghost use Rattle.protocol.specs.Writes.{marked};
 ghost use Rattle.server_marks.specs.SessionWords.{sessions_of, OnlySessions};
 ghost use Rattle.setup.specs.Limits.{CLIENTS, VOLUMES};
@@ -20,17 +20,4 @@ pub fn mark(words: &mut Words, client: usize, volume: usize)
     words[server::UNREACHABLE + i] = 1;
     words[server::NOTES + i] = 0;
     words[server::BATCH + i] = 0;
-}
-
-// Does so if `yes` is true.
-pub fn mark_if(words: &mut Words, yes: bool, client: usize, volume: usize)
-    requires client_bound { client < CLIENTS }
-    requires volume_bound { volume < VOLUMES }
-    ensures words_after { sessions_of words.new ≡ cond yes (marked (sessions_of words.old) client volume) (sessions_of words.old) }
-    ensures only_sessions { OnlySessions words.old words.new }
-{
-    if yes {
-        mark(&mut *words, client, volume);
-        return;
-    }
 }

@@ -1,22 +1,23 @@
 -- The replies to a RENEW, and the test whether the write of an object waits for the client.
-use Prim.Native.Nat.{ℕ, ◌+◌, ◌<◌}
+use Rattle.std.specs.Prelude.{Option, None, Some, MatchOption, unwrap_or}
+use Rattle.std.proofs.Common.{zero-add}
+use Prim.Native.Nat.{ℕ, ◌+◌, ◌<◌, ◌≤◌}
 use native.Mathlib.Omega.{arith}
-use mathlib.Core.Bool.{Bool, ◌&&◌}
+use mathlib.Core.Bool.{Bool, true, false, ◌&&◌}
 use mathlib.Core.List.{List}
 use mathlib.Core.Path.{◌≡◌, sym, ◌∙◌}
 use lib.Dec.{eqb}
 use lib.ListN.{get_or}
 use borrow.Author.Tests.{eq-eqb, ne_eqb}
+use Rattle.laws.specs.First.{first_known, first_nothing}
 use Rattle.laws.specs.Flags.{flag, flag_at}
+use Rattle.laws.specs.Loop.{first_from}
 use Rattle.laws.specs.Parts.{part_at}
 use Rattle.laws.specs.Sets.{bit_at}
-use Rattle.protocol.specs.declared.message.Payload.{Payload}
-use Rattle.protocol.specs.declared.message.Kind.TheVariants.{Grant, Invalidate, Offer, Batch}
-use Rattle.protocol.specs.declared.message.Payload.TheVariants.{Same, Value}
+use Rattle.protocol.specs.declared.message.Kind.TheVariants.{Grant, Offer, Batch}
 use Rattle.protocol.specs.declared.setup.Setup.{Setup}
 use Rattle.protocol.specs.Messages.{message}
 use Rattle.protocol.specs.Tables.{by_volume, version_at}
-use Rattle.protocol.specs.Writes.{invalidation}
 use Rattle.protocol.specs.Server.{offering, batching, waited_in, payload_for, granting}
 use Rattle.lease_tests.specs.Parts.{Placed}
 use Rattle.state_words.specs.Fields.{word_lengths, value_lengths, at, at_value, CLOCK, VOLUME_EPOCH, VERSION, STANDING, WAITING, NOTES, VALUE}
@@ -29,15 +30,15 @@ module _ (w : List ℕ) where
   waits_in_law s d v o u r p h = rw (flag_at word_lengths w STANDING o p.object, h, part_at word_lengths w WAITING o p.object, p.is)
 
 module _ (w x : List ℕ) where
-  pub pays_same : (o held : ℕ) → o < 32 → get_or w (at VERSION + o) 0 ≡ held → Same ≡ payload_for (tables_of w x) o held
+  pub pays_same : (o held : ℕ) → o < 32 → get_or w (at VERSION + o) 0 ≡ held → None ≡ payload_for (tables_of w x) o held
   unfolding tables_of
   pays_same o held l e = rw (eq-eqb (version_at (tables_of w x) o) held (sym (part_at word_lengths w VERSION o l) ∙ e))
 
-  pub pays_value : (o held : ℕ) → o < 32 → (get_or w (at VERSION + o) 0 ≡ held → ⊥) → Value (get_or x (at_value VALUE + o) 0) ≡ payload_for (tables_of w x) o held
+  pub pays_value : (o held : ℕ) → o < 32 → (get_or w (at VERSION + o) 0 ≡ held → ⊥) → Some (get_or x (at_value VALUE + o) 0) ≡ payload_for (tables_of w x) o held
   unfolding tables_of
   pays_value o held l n = rw (ne_eqb (version_at (tables_of w x) o) held (λ e. n (part_at word_lengths w VERSION o l ∙ e)), part_at value_lengths x VALUE o l)
 
-  pub sends_grant : (s : Setup) (d o n held v : ℕ) (y : Payload) → Placed s o v → y ≡ payload_for (tables_of w x) o held
+  pub sends_grant : (s : Setup) (d o n held v : ℕ) (y : Option ℕ) → Placed s o v → y ≡ payload_for (tables_of w x) o held
       → message d (Grant o n (get_or w 0 0 + s.tv) (get_or w (at VOLUME_EPOCH + v) 0) (get_or w (at VERSION + o) 0) (get_or w 0 0 + s.t) y) ≡ granting s (tables_of w x) d o n held
   unfolding tables_of
   sends_grant s d o n held v y p e =
@@ -52,7 +53,9 @@ pub sends_batch : (w : List ℕ) (d v n : ℕ) → d < 16 → v < 8
 unfolding tables_of
 sends_batch w d v n g h = rw (part_at word_lengths w VOLUME_EPOCH v h, part_at word_lengths w NOTES (by_volume d v) (omega arith))
 
-pub resends : (s : Setup) (w : List ℕ) (d o v : ℕ) → Placed s o v
-    → message d (Invalidate o (get_or w (at VOLUME_EPOCH + v) 0) (get_or w (at VERSION + o) 0 + 1)) ≡ invalidation s (numbers_of w) o d
-unfolding tables_of
-resends s w d o v p = rw (part_at word_lengths w VOLUME_EPOCH v p.volume, part_at word_lengths w VERSION o p.object, p.is)
+-- the first number below n that passes, as a search over a range gives it
+pub first_or_end : (p : ℕ → Bool) (n : ℕ) (r : Option ℕ)
+    → MatchOption r ((k : ℕ) → 0 ≤ k → k < n → p k ≡ false) (λ i. (0 ≤ i) × (i < n) × (p i ≡ true) × ((k : ℕ) → 0 ≤ k → k < i → p k ≡ false))
+    → unwrap_or r n ≡ first_from p 0 n
+first_or_end p n None h = sym (first_nothing p 0 n (λ k a b. h k a (omega arith)) ∙ zero-add n)
+first_or_end p n (Some i) (a, b, e, h) = sym (first_known p 0 n i a (omega arith) e h)

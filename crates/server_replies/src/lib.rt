@@ -13,10 +13,23 @@ ghost use Rattle.setup.specs.Limits.{largest, CLIENTS, SLOTS, VOLUMES};
 ghost use Rattle.state_words.specs.View.{tables_of, numbers_of};
 
 use lease_tests::place;
-use protocol::message::{Kind, Message, Payload};
+use protocol::message::{Kind, Message};
 use protocol::setup::Setup;
+use server_write::invalidates;
 use setup::limits::VOLUMES;
 use state_words::{Values, Words, network, server};
+
+// What a client's RENEW asks: a lease on an object. `epoch` is the one that the client knows, `held` the version that it holds.
+#[derive(Clone, Copy)]
+pub struct Renew {
+    pub client: usize,
+    pub object: usize,
+    pub number: u32,
+    pub epoch: u32,
+    pub held: u32,
+}
+
+// Kept: `offering` and `batching` share the client, the number and the epoch; the fields that differ would make one function for both no shorter.
 
 // Returns the OFFER, with the volume's epoch: "send OFFER". Like the GRANT it repeats the RENEW's number: "replies repeat a request number".
 pub fn offering(words: &Words, client: usize, volume: usize, number: u32) -> Message
@@ -59,51 +72,40 @@ pub fn resending(setup: Setup, words: &Words, client: usize, object: usize) -> M
     requires object_bound { version_at (numbers_of words.now) object < largest }
     ensures { result ≡ invalidation setup (numbers_of words.now) object client }
 {
-    let volume = place::volume_of(setup, object);
     Message {
         client: client as u8,
-        kind: Kind::Invalidate {
-            object: object as u8,
-            epoch: words[server::VOLUME_EPOCH + volume],
-            version: words[server::VERSION + object] + 1,
-        },
+        kind: invalidates::invalidation(setup, words, object),
     }
 }
 
-// Returns the object's value, or `Same` if the client holds this version already: "with value unless versions are equal".
-fn payload<'a>(words: &'a Words, values: &'a Values, object: usize, held: u32) -> Payload
+// Returns the object's value, or none if the client holds this version already: "with value unless versions are equal".
+fn payload<'a>(words: &'a Words, values: &'a Values, object: usize, held: u32) -> Option<u64>
     requires { object < SLOTS }
     ensures { result ≡ payload_for (tables_of words.now values.now) object held }
 {
     if words[server::VERSION + object] == held {
-        return Payload::Same;
+        None
+    } else {
+        Some(values[server::VALUE + object])
     }
-    Payload::Value(values[server::VALUE + object])
 }
 
 // Returns the GRANT, with the RENEW's number ("replies repeat a request number") and the new expiry of each lease: "send GRANT".
-pub fn granting<'a>(
-    setup: Setup,
-    words: &'a Words,
-    values: &'a Values,
-    client: usize,
-    object: usize,
-    number: u32,
-    held: u32,
-) -> Message
+pub fn granting<'a>(setup: Setup, words: &'a Words, values: &'a Values, renew: Renew) -> Message
     requires setup_value { in_range setup ≡ true }
     requires values_bound { (tables_of words.now values.now).clock ≤ clock_limit }
-    requires client_bound { client < CLIENTS }
-    requires object_lt_objects { object < setup.objects }
-    ensures { result ≡ granting setup (tables_of words.now values.now) client object number held }
+    requires client_bound { renew.client < CLIENTS }
+    requires object_lt_objects { renew.object < setup.objects }
+    ensures { result ≡ granting setup (tables_of words.now values.now) renew.client renew.object renew.number renew.held }
 {
+    let object = renew.object;
     let volume = place::volume_of(setup, object);
-    let payload = payload(words, values, object, held);
+    let payload = payload(words, values, object, renew.held);
     Message {
-        client: client as u8,
+        client: renew.client as u8,
         kind: Kind::Grant {
             object: object as u8,
-            number,
+            number: renew.number,
             volume_expiry: words[network::CLOCK] + setup.tv,
             epoch: words[server::VOLUME_EPOCH + volume],
             version: words[server::VERSION + object],

@@ -1,5 +1,5 @@
 // The object whose INVALIDATE is resent (01, "Messages received", RENEW).
-ghost use Rattle.std.specs.Prelude.{◌≡◌, true, ◌<◌};
+ghost use Rattle.std.specs.Prelude.{◌≡◌, true, ◌<◌, IfSome, unwrap_or};
 ghost use Rattle.protocol.specs.Setup.{in_range};
 ghost use Rattle.protocol.specs.Server.{waited_in, lowest_waited};
 ghost use Rattle.state_words.specs.View.{numbers_of};
@@ -20,21 +20,12 @@ fn waited_in(setup: Setup, words: &Words, client: usize, volume: usize, object: 
     (own == volume) & ((words[server::STANDING + object] != 0) & waited)
 }
 
-// Returns the first object of the volume whose standing write waits for the client, "its lowest such object", or the number of objects if there is none.
-pub fn lowest_waited(setup: Setup, words: &Words, client: usize, volume: usize) -> usize
+// Returns the first object of the volume whose standing write waits for the client, "its lowest such object", or none.
+pub fn lowest_waited(setup: Setup, words: &Words, client: usize, volume: usize) -> Option<usize>
     requires setup_value { in_range setup ≡ true }
     requires client_lt_clients { client < setup.clients }
-    ensures { result ≡ lowest_waited setup (numbers_of words.now) client volume }
+    ensures lowest { unwrap_or result setup.objects ≡ lowest_waited setup (numbers_of words.now) client volume }
+    ensures object_lt_objects { IfSome result (λ o. o < setup.objects) }
 {
-    let n = setup.objects as usize;
-    let mut object = 0;
-    loop {
-        if n <= object {
-            break object;
-        }
-        if waited_in(setup, words, client, volume, object) {
-            break object;
-        }
-        object += 1;
-    }
+    (0..setup.objects as usize).find(|object| waited_in(setup, words, client, volume, *object))
 }

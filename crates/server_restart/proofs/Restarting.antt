@@ -2,14 +2,18 @@
 use Prim.Native.Nat.{ℕ, ◌+◌, ◌-◌, ◌<◌, ◌≤◌}
 use native.Mathlib.Omega.{arith}
 use mathlib.Core.List.{List}
-use mathlib.Core.Path.{◌≡◌, refl, ap, ◌∙◌}
+use mathlib.Core.Path.{◌≡◌, refl, sym, ap, ◌∙◌}
 use lib.ListN.{length, get_or, set, replicate}
 use lib.Seq.{get_or-set_other}
+use borrow.Author.Tests.{ltb-true, ltb-false}
+use Rattle.std.specs.Prelude.{true, false, ◌⊎◌, ltb}
+use Rattle.std.proofs.Common.{inl, inr, ext_get_or}
+use Rattle.laws.specs.Choice.{true_or_false}
 use Rattle.laws.specs.Flags.{flags_zero}
 use Rattle.laws.specs.Loop.{fold_from, fold_again}
-use Rattle.laws.specs.Parts.{parts, with_part, part_at, part_length, stored_each, filling, length_filled, filled_field, copied, Only}
+use Rattle.laws.specs.Parts.{parts, with_part, part_at, part_length, stored_each, filling, length_filled, filled_field, copied}
 use Rattle.laws.specs.Shift.{Above}
-use Rattle.laws.specs.Store.{store_at, store_each, always, length_store}
+use Rattle.laws.specs.Store.{store_at, store_each, always, length_store, store_hit, store_other}
 use Rattle.protocol.specs.declared.setup.Setup.{Setup}
 use Rattle.protocol.specs.Server.{server_restarted}
 use Rattle.state_words.specs.Fields.{word_lengths, value_lengths, at, at_value, WORDS, VALUES, VOLUME_EPOCH, VOLUME_EXPIRY, GUARD, SEEN}
@@ -42,13 +46,40 @@ module _ (w₀ w : List ℕ) (v n : ℕ) (i : n ≤ 8) (h : v < n) where
       fold_again (store_at always (λ (v : ℕ). at VOLUME_EPOCH + v) (λ (v : ℕ). get_or (parts word_lengths w₀ VOLUME_EPOCH) v 0 + 1)) n v w _ A h
       (rw (a.same (at VOLUME_EPOCH + v) (omega arith), part_at word_lengths w₀ VOLUME_EPOCH v (omega arith))) f
 
-  pub guard_again : (A : List ℕ) → Only word_lengths GUARD w₀ w
-      → fold_from (store_at always (λ (v : ℕ). at GUARD + v) (λ (v : ℕ). get_or (parts word_lengths w₀ VOLUME_EXPIRY) v 0)) w v (n - v) ≡ A
-      → fold_from (store_at always (λ (v : ℕ). at GUARD + v) (λ (v : ℕ). get_or (parts word_lengths w₀ VOLUME_EXPIRY) v 0))
-      (set w (at GUARD + v) (get_or w (at VOLUME_EXPIRY + v) 0)) (v + 1) (n - (v + 1)) ≡ A
-  guard_again A o f =
-      fold_again (store_at always (λ (v : ℕ). at GUARD + v) (λ (v : ℕ). get_or (parts word_lengths w₀ VOLUME_EXPIRY) v 0)) n v w _ A h
-      (rw (part_at word_lengths w VOLUME_EXPIRY v (omega arith), o.others VOLUME_EXPIRY (λ e. omega arith))) f
+-- ---- the guards copied
+
+-- w is copied to u, but for the guards, which become the volume expiries
+module _ (w u : List ℕ) (h : length w ≡ WORDS) (l : length u ≡ length w)
+    (copy : (k d : ℕ) → at GUARD ≤ k → k < at GUARD + 8 → get_or u k d ≡ get_or w (at VOLUME_EXPIRY + (k - at GUARD)) d)
+    (low : (k d : ℕ) → k < at GUARD → get_or u k d ≡ get_or w k d) (high : (k d : ℕ) → at GUARD + 8 ≤ k → get_or u k d ≡ get_or w k d) where
+  abbrev place : ℕ → ℕ
+  place v = at GUARD + v
+
+  abbrev expiry : ℕ → ℕ
+  expiry v = get_or (parts word_lengths w VOLUME_EXPIRY) v 0
+
+  guard : (v : ℕ) → v < 8 → get_or u (at GUARD + v) 0 ≡ get_or (store_each always place expiry w 8) (at GUARD + v) 0
+  guard v b =
+      let e : at GUARD + v - at GUARD ≡ v = omega arith in
+      let c : get_or u (at GUARD + v) 0 ≡ get_or w (at VOLUME_EXPIRY + (at GUARD + v - at GUARD)) 0 = copy (at GUARD + v) 0 (omega arith) (omega arith) in
+      rw e at c ∙ part_at word_lengths w VOLUME_EXPIRY v (omega arith) ∙ sym (store_hit always place expiry (λ a b c. omega arith) w 8 v 0 b refl (omega (arith, h)))
+
+  each : (i : ℕ) → (ltb i 594 ≡ true) ⊎ (ltb i 594 ≡ false) → (ltb i 602 ≡ true) ⊎ (ltb i 602 ≡ false) → get_or u i 0 ≡ get_or (store_each always place expiry w 8) i 0
+  each i (inl e) q =
+      let a = ltb-true i 594 e in
+      low i 0 (omega arith) ∙ sym (store_other always place expiry w 8 i 0 (λ k b c f. omega arith))
+  each i (inr e) (inl q) =
+      let a = ltb-false i 594 e in
+      let b = ltb-true i 602 q in
+      let z : i ≡ at GUARD + (i - at GUARD) = omega arith in
+      rw z (guard (i - at GUARD) (omega arith))
+  each i (inr e) (inr q) =
+      let a = ltb-false i 602 q in
+      high i 0 (omega arith) ∙ sym (store_other always place expiry w 8 i 0 (λ k b c f. omega arith))
+
+  pub guards_copied : u ≡ store_each always place expiry w 8
+  guards_copied =
+      ext_get_or 0 u (store_each always place expiry w 8) (l ∙ sym (length_store always place expiry w 8)) (λ i b. each i (true_or_false (ltb i 594)) (true_or_false (ltb i 602)))
 
 -- ---- clearing fields
 

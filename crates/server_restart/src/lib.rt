@@ -21,10 +21,8 @@ fn grow_epochs(words: &mut Words, n: usize)
     requires epochs_grow { EpochsGrow n (numbers_of words.old) }
     ensures { words.new ≡ store_each always (λ (v : ℕ). at VOLUME_EPOCH + v) (λ (v : ℕ). get_or (parts word_lengths words.old VOLUME_EPOCH) v 0 + 1) words.old n }
 {
-    let mut volume = 0;
-    while volume < n {
-        words[server::VOLUME_EPOCH + volume] = words[server::VOLUME_EPOCH + volume] + 1;
-        volume += 1;
+    for volume in 0..n {
+        words[server::VOLUME_EPOCH + volume] += 1;
     }
 }
 
@@ -32,11 +30,10 @@ fn grow_epochs(words: &mut Words, n: usize)
 fn guard_expiries(words: &mut Words)
     ensures { words.new ≡ store_each always (λ (v : ℕ). at GUARD + v) (λ (v : ℕ). get_or (parts word_lengths words.old VOLUME_EXPIRY) v 0) words.old VOLUMES }
 {
-    let mut volume = 0;
-    while volume < VOLUMES {
-        words[server::GUARD + volume] = words[server::VOLUME_EXPIRY + volume];
-        volume += 1;
-    }
+    words.copy_within(
+        server::VOLUME_EXPIRY..server::VOLUME_EXPIRY + VOLUMES,
+        server::GUARD,
+    );
 }
 
 // Zeroes what the server knows of each client: highest number seen, volume leases, unreachable marks and offers ("its other fields become fresh"), notes and
@@ -76,12 +73,10 @@ pub fn restart(setup: Setup, words: &mut Words, values: &mut Values)
     ensures values_after { tables_of words.new values.new ≡ server_restarted setup (tables_of words.old values.old) }
     ensures values_unchanged { records_of words.new values.new ≡ records_of words.old values.old }
 {
-    pass::length_known(&*words);
-    pass::values_length_known(&*values);
     grow_epochs(&mut *words, setup.volumes as usize);
     guard_expiries(&mut *words);
     clear_sessions(&mut *words);
     clear_objects(&mut *words);
     clear_holders(&mut *words);
-    pass::fill_values(&mut *values, server::PENDING, SLOTS, 0);
+    pass::fill(&mut *values, server::PENDING, SLOTS, 0);
 }

@@ -19,10 +19,8 @@ pub fn clear_leases(words: &mut Words, object: usize, n: usize)
     requires n_bound { n ≤ CLIENTS }
     ensures { words.new ≡ store_each always (λ (d : ℕ). at LEASE + by_object d object) (λ (d : ℕ). 0) words.old n }
 {
-    let mut client = 0;
-    while client < n {
+    for client in 0..n {
         words[server::LEASE + (client * SLOTS + object)] = 0;
-        client += 1;
     }
 }
 
@@ -36,11 +34,10 @@ pub fn mark_waiting(words: &mut Words, waiting: u32, volume: usize, n: usize)
     if waiting == 0 {
         return;
     }
-    let mut client = 0;
-    while client < n {
-        let yes = sets::has(waiting, client);
-        server_marks::mark_if(&mut *words, yes, client, volume);
-        client += 1;
+    for client in 0..n {
+        if sets::has(waiting, client) {
+            server_marks::mark(&mut *words, client, volume);
+        }
     }
 }
 
@@ -62,15 +59,13 @@ pub fn awaited(words: &Words, volume: usize, object: usize, n: usize) -> u32
     ensures { result ≡ set_of (waits_in words.now volume object) n }
 {
     let mut waiting = 0;
-    let mut client = 0;
-    while client < n {
+    for client in 0..n {
         let yes = time::waits(
             words[network::CLOCK],
             words[server::LEASE + (client * SLOTS + object)],
             words[server::SESSION_EXPIRY + (client * VOLUMES + volume)],
         );
         waiting = sets::with_if(waiting, client, yes);
-        client += 1;
     }
     waiting
 }

@@ -27,15 +27,13 @@ pub fn latest_end(
         return least;
     }
     let mut end = least;
-    let mut client = 0;
-    while client < n {
+    for client in 0..n {
         end = time::outlast(
             end,
             sets::has(waiting, client),
             words[server::SESSION_EXPIRY + (client * VOLUMES + volume)],
             words[server::LEASE + (client * SLOTS + object)],
         );
-        client += 1;
     }
     end
 }

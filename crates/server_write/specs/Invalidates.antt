@@ -1,17 +1,12 @@
--- The INVALIDATEs that a write sends to the clients it waits for.
-use Rattle.std.specs.Prelude.{ℕ, cond}
-use Rattle.laws.specs.Loop.{fold_from}
-use Rattle.laws.specs.Sets.{bit_at}
+-- The INVALIDATE that a write sends to each client it waits for.
+use Rattle.std.specs.Prelude.{ℕ, ◌+◌}
+use Rattle.protocol.specs.declared.message.Kind.{Kind}
 use Rattle.protocol.specs.declared.message.Kind.TheVariants.{Invalidate}
-use Rattle.protocol.specs.declared.message.Queue.{Queue}
+use Rattle.protocol.specs.declared.setup.Setup.{Setup}
 use Rattle.protocol.specs.declared.tables.Tables.{Tables}
-use Rattle.protocol.specs.Messages.{message, pushed}
-use Rattle.protocol.specs.Tables.{with_queue}
+use Rattle.protocol.specs.Setup.{volume_of}
+use Rattle.protocol.specs.Tables.{epoch_at, version_at}
 
--- the message list q after an INVALIDATE for object o to client d, if d is in the set m
-abbrev pub notify_one : ℕ → ℕ → ℕ → ℕ → Queue → ℕ → Queue
-notify_one m o e z q d = cond (bit_at m d) (pushed q (message d (Invalidate o e z))) q
-
--- the tables t after an INVALIDATE for object o with epoch e and new version z to each of the first n clients that are in m
-abbrev pub invalidated : Tables → ℕ → ℕ → ℕ → ℕ → ℕ → Tables
-invalidated t m o e z n = with_queue t (fold_from (notify_one m o e z) t.queue 0 n)
+-- what `invalidation` sends, with no client named yet
+abbrev pub invalidate_kind : Setup → Tables → ℕ → Kind
+invalidate_kind s t o = Invalidate o (epoch_at t (volume_of s o)) (version_at t o + 1)

@@ -8,7 +8,7 @@ ghost use Rattle.setup.specs.Limits.{largest};
 ghost use Rattle.state_words.specs.View.{tables_of, records_of};
 
 use crate::invalidates::notify;
-use lease_tests::{place, time};
+use lease_tests::place;
 use protocol::setup::Setup;
 use server_waiting::clients;
 use server_waiting::end::latest_end;
@@ -26,10 +26,7 @@ fn begin(setup: Setup, words: &mut Words, values: &mut Values, object: usize, va
     let volume = place::volume_of(setup, object);
     let n = setup.clients as usize;
     let waiting = clients::awaited(&*words, volume, object, n);
-    let least = time::larger(
-        words[network::CLOCK] + setup.m,
-        words[server::GUARD + volume],
-    );
+    let least = (words[network::CLOCK] + setup.m).max(words[server::GUARD + volume]);
     let end = latest_end(&*words, waiting, volume, object, least, n);
     server_delays::delay(setup, &mut *words, object);
     words[server::WAITING + object] = waiting;

@@ -12,5 +12,5 @@ overflow_add-result-then-words-object-ne0 c =
 pub returns-then-words-object-ne0 : goal.returns-then-words-object-ne0
 returns-then-words-object-ne0 c = ack_stands _ _ _ _ _ _ c.volume_of-volume.ensures c.if-words-object-ne0.true
 
-pub returns : goal.returns
-returns c = ack_rests _ _ _ _ _ c.volume_of-volume.ensures.object c.if-words-object-ne0.false
+pub returns-else-words-object-ne0 : goal.returns-else-words-object-ne0
+returns-else-words-object-ne0 c = ack_rests _ _ _ _ _ c.volume_of-volume.ensures.object c.if-words-object-ne0.false

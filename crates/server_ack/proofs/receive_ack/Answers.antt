@@ -36,5 +36,5 @@ returns-then-ack_taken c = let all = ack_yes _ _ _
     (omega (arith, c.requires.object_lt_objects, (ranges _ c.requires.setup_value).objects.1))
     c.without.ensures _ _ _ c.if-ack_taken.true (c.settle_one.ensures.values_after, c.settle_one.ensures.values_unchanged) in record { values_after = all.0; values_unchanged = all.1 }
 
-pub returns : goal.returns
-returns c = let all = ack_no _ _ _ _ _ _ _ _ c.ack_taken.ensures c.if-ack_taken.false in record { values_after = all.0; values_unchanged = all.1 }
+pub returns-else-ack_taken : goal.returns-else-ack_taken
+returns-else-ack_taken c = let all = ack_no _ _ _ _ _ _ _ _ c.ack_taken.ensures c.if-ack_taken.false in record { values_after = all.0; values_unchanged = all.1 }

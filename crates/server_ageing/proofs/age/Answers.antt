@@ -17,21 +17,17 @@ pub returns-then-no_notes : goal.returns-then-no_notes
 returns-then-no_notes c = record { words_after = none_age _ _ _ (ranges _ c.requires).volumes.1 (sym c.no_notes.ensures ∙ c.if-no_notes.true); only_sessions = only_start _ }
 
 pub loop-client-init : goal.loop-client-init
-loop-client-init c = (search rules, (only_start _, rw sub-zero))
+loop-client-init c = (only_start _, rw sub-zero)
 
 pub age_client-requires : goal.age_client-requires
 age_client-requires c = record { setup_value = search rules; client_bound = omega (arith, (ranges _ c.requires).clients.1) }
 
 pub loop-client-preserved : goal.loop-client-preserved
 loop-client-preserved c = (
-  search rules,
-  (
-    only_again _ _ _ c.loop-client.invariant.1.0 c.age_client.ensures.only_sessions,
-    fold_again _ _ _ _ _ _
-        (search rules) c.age_client.ensures.words_after c.loop-client.invariant.1.1,
-  ),
+  only_again _ _ _ c.loop-client.invariant.0 c.age_client.ensures.only_sessions,
+  fold_again _ _ _ _ _ _ (search rules) c.age_client.ensures.words_after c.loop-client.invariant.1,
 )
 
 pub returns : goal.returns
 unfolding aged
-returns c = record { words_after = fold_end _ _ _ _ _ (search rules) c.loop-client.invariant.1.1; only_sessions = c.loop-client.invariant.1.0 }
+returns c = record { words_after = fold_end _ _ _ _ _ (search rules) c.loop-client.invariant.1; only_sessions = c.loop-client.invariant.0 }

@@ -1,5 +1,5 @@
 use mathlib.Core.Path.{◌≡◌}
-use Prim.Native.Nat.{◌≤◌, ◌-◌}
+use Prim.Native.Nat.{◌-◌}
 use Rattle.laws.specs.Loop.{fold_from}
 use Rattle.protocol.specs.Writes.{aged_in}
 use Rattle.server_marks.specs.SessionWords.{sessions_of, OnlySessions}
@@ -8,9 +8,5 @@ use Rattle.server_ageing.proofs.age.Given as goal
 abbrev pub invariant-loop-client : goal.invariant-loop-client
 invariant-loop-client l =
     let one-turn = aged_in l.setup l.clock in
-    (l.client ≤ l.setup.clients)
-    × (OnlySessions l.initial.words l.words × (fold_from one-turn (sessions_of l.words) l.client (l.setup.clients - l.client)
-    ≡ fold_from one-turn (sessions_of l.initial.words) 0 l.setup.clients))
-
-abbrev pub decreases-loop-client : goal.decreases-loop-client
-decreases-loop-client l = l.setup.clients - l.client
+    OnlySessions l.initial.words l.words
+    × (fold_from one-turn (sessions_of l.words) l.client (l.setup.clients - l.client) ≡ fold_from one-turn (sessions_of l.initial.words) 0 l.setup.clients)

@@ -1,5 +1,5 @@
 use mathlib.Core.Path.{◌≡◌}
-use Prim.Native.Nat.{◌≤◌, ◌-◌}
+use Prim.Native.Nat.{◌-◌}
 use Rattle.laws.specs.Loop.{fold_from}
 use Rattle.protocol.specs.Writes.{age_at}
 use Rattle.server_marks.specs.SessionWords.{sessions_of, OnlySessions}
@@ -8,9 +8,5 @@ use Rattle.server_ageing.proofs.age_client.Given as goal
 abbrev pub invariant-loop-volume : goal.invariant-loop-volume
 invariant-loop-volume l =
     let one-turn = age_at l.setup l.clock l.client in
-    (l.volume ≤ l.setup.volumes)
-    × (OnlySessions l.initial.words l.words × (fold_from one-turn (sessions_of l.words) l.volume (l.setup.volumes - l.volume)
-    ≡ fold_from one-turn (sessions_of l.initial.words) 0 l.setup.volumes))
-
-abbrev pub decreases-loop-volume : goal.decreases-loop-volume
-decreases-loop-volume l = l.setup.volumes - l.volume
+    OnlySessions l.initial.words l.words
+    × (fold_from one-turn (sessions_of l.words) l.volume (l.setup.volumes - l.volume) ≡ fold_from one-turn (sessions_of l.initial.words) 0 l.setup.volumes)

@@ -1,4 +1,3 @@
-use Prim.Native.Nat.{◌-◌}
 use Rattle.laws.specs.Loop.{Scanning}
 use Rattle.server_marks.specs.SessionWords.{sessions_of}
 use Rattle.server_ageing.specs.NoNotes.{none_at}
@@ -6,6 +5,3 @@ use Rattle.server_ageing.proofs.no_notes.Given as goal
 
 abbrev pub invariant-loop-i : goal.invariant-loop-i
 invariant-loop-i l = Scanning (none_at (sessions_of l.words)) l.n l.ok l.i
-
-abbrev pub decreases-loop-i : goal.decreases-loop-i
-decreases-loop-i l = l.n - l.i

@@ -9,21 +9,18 @@ use borrow.Author.Rules.{rules}
 use Rattle.server_delays.proofs.delay.Goals as goal
 
 pub loop-client-init : goal.loop-client-init
-loop-client-init c = (search rules, (only_start _, rw sub-zero))
+loop-client-init c = (only_start _, rw sub-zero)
 
 pub delay_one-requires : goal.delay_one-requires
 delay_one-requires c = record { setup_value = c.requires.setup_value; object_lt_objects = c.requires.object_lt_objects; client_bound = omega (arith, (ranges _ c.requires.setup_value).clients.1) }
 
 pub loop-client-preserved : goal.loop-client-preserved
 loop-client-preserved c =
-    let l = c.loop-client in (
-      search rules,
-      (
-        only_again _ _ _ l.invariant.1.0 c.delay_one.ensures.only_sessions,
-        fold_again _ _ _ _ _ _ (search rules) (delays_still _ _ _ _ _ _ l.invariant.1.0 c.delay_one.ensures.words_after) l.invariant.1.1,
-      ),
+    let i = c.loop-client.invariant in (
+      only_again _ _ _ i.0 c.delay_one.ensures.only_sessions,
+      fold_again _ _ _ _ _ _ (search rules) (delays_still _ _ _ _ _ _ i.0 c.delay_one.ensures.words_after) i.1,
     )
 
 pub returns : goal.returns
 unfolding delayed
-returns c = record { words_after = fold_end _ _ _ _ _ (search rules) c.loop-client.invariant.1.1; only_sessions = c.loop-client.invariant.1.0 }
+returns c = record { words_after = fold_end _ _ _ _ _ (search rules) c.loop-client.invariant.1; only_sessions = c.loop-client.invariant.0 }

@@ -1,29 +1,33 @@
-use mathlib.Core.Path.{refl, ap}
-use Prim.Native.Nat.{ℕ}
+use mathlib.Core.Bool.{true, false}
+use mathlib.Core.Path.{refl, sym}
 use native.Mathlib.Nat.{sub-zero}
-use lib.Dec.{eqb}
+use borrow.Author.Tests.{eq-eqb, ne_eqb}
 use Rattle.laws.specs.Loop.{fold_end}
 use Rattle.laws.specs.Store.{store_each}
-use Rattle.server_dropped.proofs.Dropping.{stop_keeps, stop_again}
-use borrow.Author.Rules.{rules}
+use Rattle.server_dropped.proofs.Dropping.{in_volume, stop_keeps, stop_again}
 use Rattle.server_dropped.proofs.stop_waiting.Goals as goal
+use Rattle.server_dropped.proofs.stop_waiting.Goals.{then-volume_of-volume, else-volume_of-volume}
 
 pub loop-object-init : goal.loop-object-init
-loop-object-init c = (search rules, (record { same = λ q k. refl }, rw sub-zero))
+loop-object-init c = (record { same = λ q k. refl }, rw sub-zero)
 
 pub loop-object-preserved : goal.loop-object-preserved
 loop-object-preserved c =
-    let l = c.loop-object.invariant in
+    let i = c.loop-object.invariant in
     let a = c.args in
-    let p = c.volume_of-own.ensures in (
-      search rules,
-      (
-        search stop_keeps,
-        stop_again _ _ _ _ _ _
-            l.1.0 c.put_if.ensures a.setup a.client a.volume _ p.object c.loop-object-test.true
-            (ap (λ (v : ℕ). eqb v a.volume) p.is) c.without-waiting.ensures l.1.1,
-      ),
-    )
+    let p = c.volume_of.ensures in
+    elim c.if-volume_of-volume.branch [
+      | then-volume_of-volume w ↦ (
+        stop_keeps _ _ _ true _ _ i.0 w.words-is,
+        stop_again _ _ _ true _ _ i.0 w.words-is a.setup a.client a.volume _ p.object c.loop-object-test.true
+            (in_volume _ _ _ _ true p (sym (eq-eqb _ _ w.if-volume_of-volume.true))) w.without.ensures i.1,
+      )
+      | else-volume_of-volume w ↦ (
+        stop_keeps _ _ _ false _ 0 i.0 w.words-is,
+        stop_again _ _ _ false _ _ i.0 w.words-is a.setup a.client a.volume _ p.object c.loop-object-test.true
+            (in_volume _ _ _ _ false p (sym (ne_eqb _ _ w.if-volume_of-volume.false))) refl i.1,
+      )
+    ]
 
 pub returns : goal.returns
 unfolding store_each

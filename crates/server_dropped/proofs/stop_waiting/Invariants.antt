@@ -1,5 +1,5 @@
 use mathlib.Core.Path.{◌≡◌}
-use Prim.Native.Nat.{ℕ, ◌+◌, ◌≤◌, ◌-◌}
+use Prim.Native.Nat.{ℕ, ◌+◌, ◌-◌}
 use Rattle.laws.specs.Loop.{fold_from}
 use Rattle.laws.specs.Sets.{removed}
 use Rattle.laws.specs.Shift.{Above}
@@ -12,8 +12,5 @@ use Rattle.server_dropped.proofs.stop_waiting.Given as goal
 abbrev pub invariant-loop-object : goal.invariant-loop-object
 invariant-loop-object l =
     let one-turn = store_at (of_volume l.setup l.volume) (λ (o : ℕ). at WAITING + o) (λ (o : ℕ). removed (awaited_in l.initial.words o) l.client) in
-    (l.object ≤ l.setup.objects) × (Above l.initial.words l.words (at WAITING + l.object)
-    × (fold_from one-turn l.words l.object (l.setup.objects - l.object) ≡ fold_from one-turn l.initial.words 0 l.setup.objects))
-
-abbrev pub decreases-loop-object : goal.decreases-loop-object
-decreases-loop-object l = l.setup.objects - l.object
+    Above l.initial.words l.words (at WAITING + l.object)
+    × (fold_from one-turn l.words l.object (l.setup.objects - l.object) ≡ fold_from one-turn l.initial.words 0 l.setup.objects)

@@ -1,5 +1,5 @@
 use mathlib.Core.Path.{◌≡◌}
-use Prim.Native.Nat.{ℕ, ◌+◌, ◌≤◌, ◌-◌}
+use Prim.Native.Nat.{ℕ, ◌+◌, ◌-◌}
 use lib.ListN.{get_or}
 use Rattle.laws.specs.Loop.{fold_from}
 use Rattle.laws.specs.Parts.{parts}
@@ -11,7 +11,4 @@ use Rattle.server_restart.proofs.grow_epochs.Given as goal
 abbrev pub invariant-loop-volume : goal.invariant-loop-volume
 invariant-loop-volume l =
     let one-turn = store_at always (λ (v : ℕ). at VOLUME_EPOCH + v) (λ (v : ℕ). get_or (parts word_lengths l.initial.words VOLUME_EPOCH) v 0 + 1) in
-    (l.volume ≤ l.n) × (Above l.initial.words l.words (at VOLUME_EPOCH + l.volume) × (fold_from one-turn l.words l.volume (l.n - l.volume) ≡ fold_from one-turn l.initial.words 0 l.n))
-
-abbrev pub decreases-loop-volume : goal.decreases-loop-volume
-decreases-loop-volume l = l.n - l.volume
+    Above l.initial.words l.words (at VOLUME_EPOCH + l.volume) × (fold_from one-turn l.words l.volume (l.n - l.volume) ≡ fold_from one-turn l.initial.words 0 l.n)

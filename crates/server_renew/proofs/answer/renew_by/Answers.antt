@@ -22,26 +22,27 @@ pub resending-message-requires : goal.resending-message-requires
 resending-message-requires c = record {
   setup_value = c.requires.setup_value;
   client_bound = (omega (arith, c.requires.client_lt_clients, (ranges _ c.requires.setup_value).clients.1));
-  object_lt_objects = c.if-low-setup.true;
+  object_lt_objects = c.in-Some.ensures.object_lt_objects;
   object_bound = low_version c.args.words.now c.args.values.now
-      _ _ _ _ c.lowest_waited-low.ensures c.requires.growing c.if-low-setup.true;
+      _ _ _ _ c.in-Some.ensures.lowest c.requires.growing c.in-Some.ensures.object_lt_objects;
 }
 
-pub returns-then-low-setup : goal.returns-then-low-setup
-returns-then-low-setup c =
+pub returns-in-Some : goal.returns-in-Some
+returns-in-Some c =
     let p = c.volume_of-volume.ensures in let all = by_resend _ _ _ _ _ _ _ _ _ _ p
     c.must_drop.ensures
     _ c.if-must_drop.false (not_noted _ _ _ _ (omega (arith, c.requires.client_lt_clients, (ranges _ c.requires.setup_value).clients.1))
-    p.volume c.if-words-client-ne0.false) c.lowest_waited-low.ensures
-    _ _ _ c.if-low-setup.true c.resending-message.ensures (c.push.ensures.values_after, c.push.ensures.values_unchanged) in record { values_after = all.0; values_unchanged = all.1 }
+    p.volume c.if-words-client-ne0.false) c.in-Some.ensures.lowest
+    _ _ _ c.in-Some.ensures.object_lt_objects c.resending-message.ensures (c.push.ensures.values_after, c.push.ensures.values_unchanged) in
+    record { values_after = all.0; values_unchanged = all.1 }
 
-pub returns-then-words-object-ne0 : goal.returns-then-words-object-ne0
-returns-then-words-object-ne0 c =
+pub returns-else-words-renew-eq0 : goal.returns-else-words-renew-eq0
+returns-else-words-renew-eq0 c =
     let p = c.volume_of-volume.ensures in let all = by_hold _ _ _ _ _ _ _ _ _ _ p
     c.must_drop.ensures
     _ c.if-must_drop.false (not_noted _ _ _ _ (omega (arith, c.requires.client_lt_clients, (ranges _ c.requires.setup_value).clients.1))
-    p.volume c.if-words-client-ne0.false) c.lowest_waited-low.ensures
-    c.if-low-setup.false (stands _ _ _ p.object c.if-words-object-ne0.true) in record { values_after = all.0; values_unchanged = all.1 }
+    p.volume c.if-words-client-ne0.false) c.in_default.ensures.lowest
+    (omega arith) (stands _ _ _ p.object c.if-words-renew-eq0.false) in record { values_after = all.0; values_unchanged = all.1 }
 
 pub grant-requires : goal.grant-requires
 grant-requires c = record {
@@ -51,13 +52,13 @@ grant-requires c = record {
   object_lt_objects = c.requires.object_lt_objects;
 }
 
-pub returns : goal.returns
-returns c =
+pub returns-then-words-renew-eq0 : goal.returns-then-words-renew-eq0
+returns-then-words-renew-eq0 c =
     let p = c.volume_of-volume.ensures in let all = by_grant _ _ _ _ _ _ _ _ _ _ p
     c.must_drop.ensures
     _ c.if-must_drop.false (not_noted _ _ _ _ (omega (arith, c.requires.client_lt_clients, (ranges _ c.requires.setup_value).clients.1))
-    p.volume c.if-words-client-ne0.false) c.lowest_waited-low.ensures _ _
-    c.if-low-setup.false (rests _ _ _ p.object c.if-words-object-ne0.false) (c.grant.ensures.values_after, c.grant.ensures.values_unchanged) in record {
+    p.volume c.if-words-client-ne0.false) c.in_default.ensures.lowest _ _
+    (omega arith) (rests _ _ _ p.object c.if-words-renew-eq0.true) (c.grant.ensures.values_after, c.grant.ensures.values_unchanged) in record {
       values_after = all.0;
       values_unchanged = all.1;
     }

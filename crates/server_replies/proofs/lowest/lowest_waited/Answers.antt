@@ -1,19 +1,16 @@
-use native.Mathlib.Nat.{sub-zero}
-use Rattle.laws.specs.Loop.{first_again, first_end, first_stop}
-use Rattle.protocol.specs.Server.{waited_in, lowest_waited}
 use borrow.Author.Rules.{rules}
+use mathlib.Core.Bool.{true, false}
+use mathlib.Core.Path.{◌≡◌}
+use Rattle.std.proofs.lemmas.Iterator.{first_from_Range}
+use Rattle.protocol.specs.Server.{waited_in, lowest_waited}
+use Rattle.state_words.specs.View.{numbers_of}
+use Rattle.server_replies.proofs.Replies.{first_or_end}
 use Rattle.server_replies.proofs.lowest.lowest_waited.Goals as goal
 
-pub loop-object-init : goal.loop-object-init
-loop-object-init c = (search rules, rw sub-zero)
-
-pub loop-object-preserved : goal.loop-object-preserved
-loop-object-preserved c = (search rules, first_again _ _ _ _ _ (search rules) c.waited_in.ensures c.if-waited_in.false c.loop-object.invariant.1)
-
-pub returns-then-n-object : goal.returns-then-n-object
+pub returns-clause-lowest : goal.returns-clause-lowest
 unfolding lowest_waited
-returns-then-n-object c = first_end _ _ _ _ c.if-n-object.true c.loop-object.invariant.1
-
-pub returns-then-waited_in : goal.returns-then-waited_in
-unfolding lowest_waited
-returns-then-waited_in c = first_stop _ _ _ _ _ (search rules) c.waited_in.ensures c.if-waited_in.true c.loop-object.invariant.1
+returns-clause-lowest c =
+    let a = c.args in
+    let sought = waited_in a.setup (numbers_of a.words.now) a.client a.volume in
+    first_or_end sought _ _
+    (first_from_Range _ _ _ _ (λ o. sought o ≡ true) (λ o. sought o ≡ false) c.find.ensures.ran (λ o q k. search rules) (λ o q k. search rules))

@@ -6,15 +6,11 @@ use Rattle.server_waiting.proofs.clients.awaited.Goals as goal
 
 pub loop-client-init : goal.loop-client-init
 unfolding set_of
-loop-client-init c = (search rules, refl)
+loop-client-init c = refl
 
 pub loop-client-preserved : goal.loop-client-preserved
-loop-client-preserved c = (
-  search rules,
-  await_again _ _ _ _ (search rules)
-      (search rules) (search rules) _ _ _ c.loop-client.invariant.1
-      c.waits-yes.ensures c.with_if-waiting.ensures,
-)
+loop-client-preserved c =
+    await_again _ _ _ _ (search rules) (search rules) (search rules) _ _ _ c.loop-client.invariant c.waits-yes.ensures c.with_if-waiting.ensures
 
 pub returns : goal.returns
 returns c = search set_end

@@ -1,5 +1,5 @@
 use mathlib.Core.Path.{◌≡◌}
-use Prim.Native.Nat.{◌≤◌, ◌-◌}
+use Prim.Native.Nat.{◌-◌}
 use Rattle.laws.specs.Loop.{fold_from}
 use Rattle.server_marks.specs.SessionWords.{sessions_of, OnlySessions}
 use Rattle.server_waiting.specs.Waiting.{mark_if_in}
@@ -8,7 +8,5 @@ use Rattle.server_waiting.proofs.clients.mark_waiting.Given as goal
 abbrev pub invariant-loop-client : goal.invariant-loop-client
 invariant-loop-client l =
     let one-turn = mark_if_in l.waiting l.volume in
-    (l.client ≤ l.n) × (OnlySessions l.initial.words l.words × (fold_from one-turn (sessions_of l.words) l.client (l.n - l.client) ≡ fold_from one-turn (sessions_of l.initial.words) 0 l.n))
-
-abbrev pub decreases-loop-client : goal.decreases-loop-client
-decreases-loop-client l = l.n - l.client
+    OnlySessions l.initial.words l.words
+    × (fold_from one-turn (sessions_of l.words) l.client (l.n - l.client) ≡ fold_from one-turn (sessions_of l.initial.words) 0 l.n)

@@ -1,4 +1,3 @@
-use native.Mathlib.Nat.{sub-zero}
 use Rattle.laws.specs.Greatest.{greatest}
 use Rattle.laws.specs.Loop.{fold_end}
 use Rattle.server_waiting.proofs.Passes.{end_again, end_none}
@@ -8,12 +7,9 @@ use Rattle.server_waiting.proofs.end.latest_end.Goals as goal
 pub returns-then-waiting-eq0 : goal.returns-then-waiting-eq0
 returns-then-waiting-eq0 c = search end_none
 
-pub loop-client-init : goal.loop-client-init
-loop-client-init c = (search rules, rw sub-zero)
-
 pub loop-client-preserved : goal.loop-client-preserved
 loop-client-preserved c =
-    (search rules, end_again _ _ _ _ (search rules) (search rules) (search rules) _ _ _ _ _ _ (search rules) c.has.ensures c.outlast-end.ensures c.loop-client.invariant.1)
+    end_again _ _ _ _ (search rules) (search rules) (search rules) _ _ _ _ _ _ (search rules) c.has.ensures c.outlast-end.ensures c.loop-client.invariant
 
 pub returns : goal.returns
 unfolding greatest
