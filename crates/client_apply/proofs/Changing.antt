@@ -6,21 +6,18 @@ use native.Mathlib.Omega.{arith}
 use mathlib.Core.Bool.{true}
 use mathlib.Core.List.{List}
 use mathlib.Core.Path.{◌≡◌, refl, sym, ap, ◌∙◌}
-use lib.ListN.{length, get_or, set, take, length-take, get_or-eq_default}
-use lib.Seq.{set-get_or, take-set-lt, set_out, get_or-take}
+use lib.ListN.{length, get_or, take, length-take}
+use lib.Seq.{take-set-lt, get_or-take}
 use Rattle.laws.specs.Loop.{fold_from}
 use Rattle.laws.specs.Store.{pass_past}
 use Rattle.protocol.specs.declared.records.Copy.{Copy}
 use Rattle.protocol.specs.declared.records.Request.{Request}
 use Rattle.protocol.specs.declared.setup.Setup.{Setup}
 use Rattle.protocol.specs.declared.step.Change.{Change}
-use Rattle.protocol.specs.declared.step.CopyChange.{CopyChange}
-use Rattle.protocol.specs.declared.step.CopyChange.TheVariants as copy
 use Rattle.protocol.specs.declared.step.Sweep.{Sweep}
 use Rattle.protocol.specs.declared.step.Sweep.TheVariants as sweep
 use Rattle.protocol.specs.declared.step.Target.{Target}
 use Rattle.protocol.specs.declared.step.Turn.{Turn}
-use Rattle.protocol.specs.declared.step.Turn.TheVariants as request
 use Rattle.protocol.specs.Setup.{in_range}
 use Rattle.protocol.proofs.Ranges.{ranges}
 use Rattle.protocol.specs.Tables.{no_copy, no_request}
@@ -34,9 +31,6 @@ use Rattle.client_records.specs.Requests.{request_stored_law}
 
 -- the words have room for the setup's records
 module _ (s : Setup) (i : in_range s ≡ true) where
-  pub copy_there : (place : ℕ) → place < s.clients * s.objects → place < 512
-  copy_there place h = omega (arith, few_copies s i)
-
   pub client_there : (d : ℕ) → d < s.clients → d < 16
   client_there d h = omega (arith, (ranges s i).clients.1)
 
@@ -54,12 +48,6 @@ module _ {A : Type 0} (n : ℕ) (l : List A) (i : ℕ) where
   past : n ≤ i → length (take n l) ≤ i
   past h = omega (arith, length-take n l)
 
-  none_past : (d : A) → n ≤ i → d ≡ get_or (take n l) i d
-  none_past d h = sym (get_or-eq_default (take n l) d (past h))
-
-  set_past : (a : A) → n ≤ i → take n l ≡ set (take n l) i a
-  set_past a h = sym (set_out (take n l) i a (past h))
-
 abbrev with_ones : World → List Copy → World
 with_ones u l = record { tables = u.tables; copies = l; requests = u.requests }
 
@@ -71,25 +59,9 @@ module _ (s : Setup) (w x : List ℕ) (place : ℕ) where
   pub copy_inside : (c : Copy) → place < all → c ≡ get_or (records_of w x).copies place no_copy → c ≡ get_or (world_of s w x).copies place no_copy
   copy_inside c h e = e ∙ sym (get_or-take all (records_of w x).copies place no_copy h)
 
-  pub copy_past : (c : Copy) → all ≤ place → c ≡ no_copy → c ≡ get_or (world_of s w x).copies place no_copy
-  copy_past c h e = e ∙ none_past all (records_of w x).copies place no_copy h
-
   pub put_inside : (u y : List ℕ) (c : Copy) → place < all → (tables_of u y ≡ tables_of w x) × (records_of u y ≡ with_copy (records_of w x) place c)
       → world_of s u y ≡ copy_put (world_of s w x) place c
   put_inside u y c h e = rw (e.0, e.1, take-set-lt all (records_of w x).copies place c h)
-
-  pub put_past : (c : Copy) → all ≤ place → world_of s w x ≡ copy_put (world_of s w x) place c
-  put_past c h = ap (with_ones (world_of s w x)) (set_past all (records_of w x).copies place c h)
-
-pub copy_kept : (u : World) (place : ℕ) (g : CopyChange) → g ≡ copy.Keep → u ≡ copy_changed u place g
-copy_kept u place g e = rw (e, set-get_or u.copies place no_copy)
-
-module _ (u v : World) (place : ℕ) (g : CopyChange) where
-  pub copy_filled : (c : Copy) → g ≡ copy.Fill c → v ≡ copy_put u place c → v ≡ copy_changed u place g
-  copy_filled c e f = rw e f
-
-  pub copy_erased : (c : Copy) → g ≡ copy.Erase → c ≡ no_copy → v ≡ copy_put u place c → v ≡ copy_changed u place g
-  copy_erased c e n f = rw (e, ← n) f
 
 -- ---- the sweep
 module _ (s : Setup) (g : Sweep) (first : ℕ) where
@@ -118,16 +90,6 @@ module _ (s : Setup) (g : Sweep) (first : ℕ) where
   unfolding fold_from
   sweep_kept u e = rw e
 
-  module _ (u v : World) where
-    pub sweep_expired : (o : ℕ) → g ≡ sweep.Expire o → v ≡ swept_of s g first s.objects u → v ≡ swept_of s g first (sweeps g s.objects) u
-    sweep_expired o e f = f ∙ rw e
-
-    pub sweep_forgotten : (m : ℕ) → g ≡ sweep.Forget m → v ≡ swept_of s g first s.objects u → v ≡ swept_of s g first (sweeps g s.objects) u
-    sweep_forgotten m e f = f ∙ rw e
-
-    pub sweep_erased : g ≡ sweep.Erase → v ≡ swept_of s g first s.objects u → v ≡ swept_of s g first (sweeps g s.objects) u
-    sweep_erased e f = f ∙ rw e
-
 -- ---- the request
 own_requests : (w x : List ℕ) → requests_of w ≡ (records_of w x).requests
 unfolding records_of
@@ -138,9 +100,6 @@ module _ (s : Setup) (w x : List ℕ) (d : ℕ) where
   request_inside r h e =
       e ∙ ap (λ (l : List Request). get_or l d no_request) (own_requests w x) ∙ sym (get_or-take s.clients (records_of w x).requests d no_request h)
 
-  pub request_past : s.clients ≤ d → no_request ≡ get_or (world_of s w x).requests d no_request
-  request_past h = none_past s.clients (records_of w x).requests d no_request h
-
   module _ (g : Turn) where
     pub can_turn : (r : Request) → d < s.clients → r ≡ get_or (requests_of w) d no_request → CanTurn (get_or (world_of s w x).requests d no_request) g → CanTurn r g
     can_turn r h e t = rw (request_inside r h e) t
@@ -150,14 +109,6 @@ module _ (s : Setup) (w x : List ℕ) (d : ℕ) where
     turn_inside u r q k h e f p =
         let m = request_stored_law w u x d q k p in
         rw (m.0, m.1, take-set-lt s.clients (records_of w x).requests d q h, f, request_inside r h e)
-
-    pub turn_past : s.clients ≤ d → world_of s w x ≡ request_turned (world_of s w x) d g
-    turn_past h =
-        ap (λ (l : List Request). record { tables = tables_of w x; copies = (world_of s w x).copies; requests = l })
-        (set_past s.clients (records_of w x).requests d _ h)
-
-pub turn_kept : (u : World) (d : ℕ) (g : Turn) → g ≡ request.Keep → u ≡ request_turned u d g
-turn_kept u d g e = rw (e, set-get_or u.requests d no_request)
 
 -- ---- all three
 module _ (s : Setup) (a : Target) (g : Change) (w x : List ℕ) (u v : World) (e : u ≡ copy_changed (world_of s w x) a.copy g.copy)

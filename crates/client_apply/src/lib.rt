@@ -18,35 +18,39 @@ use setup::fresh;
 use state_words::{Values, Words};
 
 // Returns the copy that the step can touch.
-pub fn copy_of<'a>(setup: Setup, words: &'a Words, values: &'a Values, at: Target) -> Copy
+#[tactic(auto, using(crate::proofs::Changing::copy_inside, state_words::proofs::Worlds::few_copies))]
+pub fn copy_of(setup: Setup, words: &Words, values: &Values, at: Target) -> Copy
     requires { in_range setup ≡ true }
     ensures { result ≡ get_or (world_of setup words.now values.now).copies at.copy no_copy }
 {
     if at.copy < setup.clients as usize * setup.objects as usize {
-        return copies::copy_at(words, values, at.copy);
+        copies::copy_at(words, values, at.copy)
+    } else {
+        fresh::fresh_copy()
     }
-    fresh::fresh_copy()
 }
 
 // Returns the request that the step can touch. Only the contract needs the values.
-pub fn request_of<'a>(setup: Setup, words: &'a Words, values: &'a Values, at: Target) -> Request
+#[tactic(auto, using(crate::proofs::Changing::request_inside))]
+pub fn request_of(setup: Setup, words: &Words, values: &Values, at: Target) -> Request
     requires { in_range setup ≡ true }
     ensures { result ≡ get_or (world_of setup words.now values.now).requests at.client no_request }
 {
     if at.client < setup.clients as usize {
-        return requests::request_at(words, at.client);
+        requests::request_at(words, at.client)
+    } else {
+        fresh::no_request()
     }
-    fresh::no_request()
 }
 
 // Stores a copy if its place is within the setup.
+#[tactic(auto, using(crate::proofs::Changing::put_inside, state_words::proofs::Worlds::few_copies))]
 fn put_copy(setup: Setup, words: &mut Words, values: &mut Values, place: usize, c: Copy)
     requires { in_range setup ≡ true }
     ensures { world_of setup words.new values.new ≡ copy_put (world_of setup words.old values.old) place c }
 {
     if place < setup.clients as usize * setup.objects as usize {
-        copies::put_copy(&mut *words, &mut *values, place, c);
-        return;
+        copies::put_copy(words, values, place, c);
     }
 }
 
@@ -57,27 +61,20 @@ fn change_copy(setup: Setup, words: &mut Words, values: &mut Values, place: usiz
 {
     match u {
         CopyChange::Keep => {}
-        CopyChange::Fill(c) => put_copy(setup, &mut *words, &mut *values, place, c),
-        CopyChange::Erase => put_copy(setup, &mut *words, &mut *values, place, fresh::fresh_copy()),
+        CopyChange::Fill(c) => put_copy(setup, words, values, place, c),
+        CopyChange::Erase => put_copy(setup, words, values, place, fresh::fresh_copy()),
     }
 }
 
 // Sweeps all copies of a client if the setup has that client.
+#[tactic(auto, using(crate::proofs::Changing::own_there, crate::proofs::Changing::sweep_own, crate::proofs::Changing::sweep_past))]
 fn sweep_client(setup: Setup, words: &mut Words, values: &mut Values, at: Target, g: Sweep)
     requires setup_value { in_range setup ≡ true }
     requires first_value { at.first ≡ at.client * setup.objects }
     ensures { world_of setup words.new values.new ≡ swept_of setup g at.first setup.objects (world_of setup words.old values.old) }
 {
     if at.client < setup.clients as usize {
-        copies::sweep(
-            setup,
-            &mut *words,
-            &mut *values,
-            g,
-            at.first,
-            setup.objects as usize,
-        );
-        return;
+        copies::sweep(setup, words, values, g, at.first, setup.objects as usize);
     }
 }
 
@@ -89,23 +86,21 @@ fn sweep(setup: Setup, words: &mut Words, values: &mut Values, at: Target, g: Sw
 {
     match g {
         Sweep::Keep => {}
-        Sweep::Expire(_) => sweep_client(setup, &mut *words, &mut *values, at, g),
-        Sweep::Forget(_) => sweep_client(setup, &mut *words, &mut *values, at, g),
-        Sweep::Erase => sweep_client(setup, &mut *words, &mut *values, at, g),
+        _ => sweep_client(setup, words, values, at, g),
     }
 }
 
 // Applies a turn to a client's request if the setup has that client. Only the contract needs the values.
+#[tactic(auto, using(crate::proofs::Changing::can_turn))]
 fn turn_client(setup: Setup, words: &mut Words, values: &Values, client: usize, u: Turn)
     requires setup_value { in_range setup ≡ true }
     requires can_turn { CanTurn (get_or (world_of setup words.old values.now).requests client no_request) u }
     ensures { world_of setup words.new values.now ≡ request_turned (world_of setup words.old values.now) client u }
 {
     if client < setup.clients as usize {
-        let r = requests::request_at(&*words, client);
+        let r = requests::request_at(words, client);
         let turned = request::turn(r, u);
-        requests::put_request(&mut *words, client, turned);
-        return;
+        requests::put_request(words, client, turned);
     }
 }
 
@@ -117,22 +112,19 @@ fn turn(setup: Setup, words: &mut Words, values: &Values, client: usize, u: Turn
 {
     match u {
         Turn::Keep => {}
-        Turn::Take(_) => turn_client(setup, &mut *words, values, client, u),
-        Turn::End => turn_client(setup, &mut *words, values, client, u),
+        _ => turn_client(setup, words, values, client, u),
     }
 }
 
 // Applies a change to the records of the target's client.
+#[tactic(auto, using(crate::proofs::Changing::still_turns))]
 pub fn change(setup: Setup, words: &mut Words, values: &mut Values, at: Target, g: Change)
     requires setup_value { in_range setup ≡ true }
     requires first_value { at.first ≡ at.client * setup.objects }
     requires can_turn { CanTurn (get_or (world_of setup words.old values.old).requests at.client no_request) g.request }
     ensures { world_of setup words.new values.new ≡ changed_at setup (world_of setup words.old values.old) at g }
 {
-    let copy = g.copy;
-    let all = g.sweep;
-    let request = g.request;
-    change_copy(setup, &mut *words, &mut *values, at.copy, copy);
-    sweep(setup, &mut *words, &mut *values, at, all);
-    turn(setup, &mut *words, &*values, at.client, request);
+    change_copy(setup, words, values, at.copy, g.copy);
+    sweep(setup, words, values, at, g.sweep);
+    turn(setup, words, values, at.client, g.request);
 }

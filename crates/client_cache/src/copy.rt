@@ -8,9 +8,9 @@ use protocol::records::Copy;
 use protocol::setup::Setup;
 use protocol::step::Sweep;
 use setup::fresh::fresh_copy;
-use setup::limits::OBJECTS;
 
 // Returns whether a lease is alive by the client's clock: "A lease is alive when its expiry is greater than the clock."
+#[tactic(auto, unfolding(protocol::specs::Leases::client_alive))]
 fn alive(clock: u32, expiry: u32) -> bool
     ensures { result ≡ client_alive clock expiry }
 {
@@ -18,6 +18,7 @@ fn alive(clock: u32, expiry: u32) -> bool
 }
 
 // Step 2: returns whether "copy present and both leases alive" holds. `lease` is the expiry of the client's volume lease.
+#[tactic(auto, unfolding(crate::specs::Shown::shown_at))]
 pub fn showable(clock: u32, lease: u32, c: Copy) -> bool
     ensures { result ≡ shown_at clock lease c }
 {
@@ -30,14 +31,12 @@ pub fn showable(clock: u32, lease: u32, c: Copy) -> bool
 fn volume_of(setup: Setup, o: usize) -> u8
     ensures { result ≡ volume_of setup o }
 {
-    if o < OBJECTS {
-        return setup.volume[o];
-    }
-    0
+    setup.volume.get(o).copied().unwrap_or(0)
 }
 
 // Returns a client's copy of an object after a sweep. `Expire`, for an OFFER, keeps version and value: "all its object expiries to 0". `Forget`, for a BATCH
 // (02, A6), "erases those copies".
+#[tactic(auto, unfolding(protocol::specs::Client::swept))]
 pub fn sweep(setup: Setup, g: Sweep, c: Copy, object: usize) -> Copy
     ensures { result ≡ swept setup g c object }
 {
@@ -45,19 +44,17 @@ pub fn sweep(setup: Setup, g: Sweep, c: Copy, object: usize) -> Copy
         Sweep::Keep => c,
         Sweep::Expire(v) => {
             if volume_of(setup, object) == v {
-                return Copy {
-                    version: c.version,
-                    value: c.value,
-                    expiry: 0,
-                };
+                Copy { expiry: 0, ..c }
+            } else {
+                c
             }
-            c
         }
         Sweep::Forget(set) => {
             if sets::contains(set, object) {
-                return fresh_copy();
+                fresh_copy()
+            } else {
+                c
             }
-            c
         }
         Sweep::Erase => fresh_copy(),
     }

@@ -15,7 +15,7 @@ pub fn number(r: Request, object: u8) -> Request
         next: r.next + 1,
         standing: true,
         number: r.next,
-        object: object,
+        object,
     }
 }
 
@@ -39,6 +39,7 @@ pub fn turn(r: Request, u: Turn) -> Request
 }
 
 // Returns whether this is the number of the standing request: "needs the standing number".
+#[tactic(auto, unfolding(protocol::specs::Client::stands))]
 pub fn stands(r: Request, number: u32) -> bool
     ensures { result ≡ stands r number }
 {
@@ -46,11 +47,13 @@ pub fn stands(r: Request, number: u32) -> bool
 }
 
 // Returns the turn that an INVALIDATE makes: "forget a standing request for that object".
+#[tactic(auto, unfolding(protocol::specs::Client::forgotten))]
 pub fn forget(r: Request, object: u8) -> Turn
     ensures { result ≡ forgotten r object }
 {
     if r.standing & (r.object == object) {
-        return Turn::End;
+        Turn::End
+    } else {
+        Turn::Keep
     }
-    Turn::Keep
 }

@@ -1,14 +1,16 @@
 -- Indices past the end are neither read nor written, so a sweep may stop at the end of the list.
 use Prim.Native.Nat.{ℕ, zero, suc, ◌+◌, ◌-◌, ◌≤◌, ◌<◌}
 use native.Mathlib.Omega.{arith}
-use mathlib.Core.List.{List}
+use mathlib.Core.Bool.{Bool, true, false, ◌&&◌}
+use mathlib.Core.List.{List, [], ◌∷◌}
 use mathlib.Core.Logic.{⊎_elim}
-use mathlib.Core.Path.{◌≡◌, sym, ap}
+use mathlib.Core.Path.{◌≡◌, refl, sym, ap, ◌∙◌}
 use lib.ListN.{length, get_or, length-set}
-use lib.Dec.{ltb}
+use lib.Dec.{ltb, eqb}
 use borrow.Author.Tests.{ltb-true, ltb-false}
 use Rattle.laws.specs.Choice.{true_or_false}
-use Rattle.laws.specs.Loop.{fold_from}
+use Rattle.std.specs.List.{list_all}
+use Rattle.laws.specs.Loop.{fold_from, all_from}
 use Rattle.laws.specs.Store.{pass_past}
 use Rattle.protocol.specs.declared.records.Copy.{Copy}
 use Rattle.protocol.specs.declared.setup.Setup.{Setup}
@@ -47,3 +49,25 @@ module _ (s : Setup) (g : Sweep) (first : ℕ) where
 
       cut : first < length l → length l - first ≤ n → Same (stop_of first n (length l) - first)
       cut h k = rw (← stop_end first n (length l) h k) (pass_cut l first (length l - first) n k (omega arith))
+
+-- a test of each record of a list, as a pass over the list's indices
+module _ {A : Type 0} (p : A → Bool) (d : A) where
+  all_shifted : (l : List A) (q : ℕ → Bool) (j : ℕ) → ((k : ℕ) → k < length l → q (j + k) ≡ p (get_or l k d)) → list_all p l ≡ all_from q j (length l)
+  unfolding all_from
+  all_shifted [] q j h = refl
+  all_shifted (x ∷ l) q j h =
+      let e : q j ≡ p x = ap q (omega arith) ∙ h 0 (omega arith) in
+      let f : list_all p l ≡ all_from q (j + 1) (length l) = all_shifted l q (j + 1) (λ k i. ap q (omega arith) ∙ h (suc k) (omega arith)) in
+      rw (e, f)
+
+  all_listed : (l : List A) → list_all p l ≡ all_from (λ k. p (get_or l k d)) 0 (length l)
+  all_listed l = all_shifted l (λ k. p (get_or l k d)) 0 (λ k i. ap (λ n. p (get_or l n d)) (omega arith))
+
+  module _ (l : List A) (n : ℕ) (b : Bool) (e : b ≡ eqb (length l) n) where
+    -- as many records as there should be
+    pub counted_yes : (r : Bool) → b ≡ true → r ≡ list_all p l → r ≡ (eqb (length l) n && all_from (λ k. p (get_or l k d)) 0 (length l))
+    counted_yes r f g = rw (sym e ∙ f) (g ∙ all_listed l)
+
+    -- more or fewer
+    pub counted_no : b ≡ false → b ≡ (eqb (length l) n && all_from (λ k. p (get_or l k d)) 0 (length l))
+    counted_no f = rw (sym e ∙ f) f

@@ -2,6 +2,7 @@
 #![tactic(auto)]
 
 pub mod copies;
+pub mod list;
 pub mod requests;
 pub mod sweep;
 pub mod turn;

@@ -1,11 +1,13 @@
 ghost use Rattle.std.specs.Prelude.{◌≡◌, ◌<◌, get_or, set};
+ghost use Rattle.std.specs.List.{list_all};
 ghost use Rattle.protocol.specs.Tables.{no_request};
-ghost use Rattle.protocol.specs.Sound.{requests_sound};
+ghost use Rattle.protocol.specs.Sound.{request_sound, requests_sound};
 ghost use Rattle.protocol.specs.Client.{numbered, ended};
 ghost use Rattle.setup.specs.Limits.{largest};
 
+use crate::list;
 use client_cache::request::{end, number};
-use gate_records::requests::{as_many, still_sound};
+use gate_records::requests::{as_many, request_sound};
 use protocol::records::Request;
 use protocol::setup::Setup;
 use setup::fresh::no_request;
@@ -14,19 +16,7 @@ use setup::fresh::no_request;
 pub fn look(requests: &[Request], i: usize) -> Request
     ensures { result ≡ get_or requests.now i no_request }
 {
-    if i < requests.len() {
-        return requests[i];
-    }
-    no_request()
-}
-
-// Stores a request for client i, or does nothing if there is no such client.
-pub fn store(requests: &mut [Request], i: usize, r: Request)
-    ensures { requests.new ≡ set requests.old i r }
-{
-    if i < requests.len() {
-        requests[i] = r;
-    }
+    list::look(requests, i, no_request())
 }
 
 // Takes the next number for a request for the object, which becomes the standing request: "one record, lent and updated". Returns the number.
@@ -34,9 +24,8 @@ pub fn take_number(r: &mut Request, object: u8) -> u32
     requires { r.old.next < largest }
     ensures { (result ≡ r.old.next) × (r.new ≡ numbered r.old object) }
 {
-    let n = number(*r, object);
-    *r = n;
-    n.number
+    *r = number(*r, object);
+    r.number
 }
 
 // Ends the standing request of the record: "one record, lent and updated".
@@ -46,16 +35,17 @@ pub fn end_request(r: &mut Request)
     *r = end(*r);
 }
 
+// Returns whether every request is sound.
+fn all_sound(requests: &[Request], setup: Setup) -> bool
+    ensures { result ≡ list_all (request_sound setup) requests.now }
+{
+    requests.iter().all(|r| request_sound(setup, *r))
+}
+
 // Answers question 1 for the requests: there is one per client ("another length is unsound"), next numbers are at least 1, and the object of a standing
 // request exists.
 pub fn sound(requests: &[Request], setup: Setup) -> bool
     ensures { result ≡ requests_sound setup requests.now }
 {
-    let mut ok = as_many(setup, requests.len());
-    let mut k = 0;
-    while k < requests.len() {
-        ok = still_sound(ok, requests[k], setup);
-        k += 1;
-    }
-    ok
+    as_many(setup, requests.len()) && all_sound(requests, setup)
 }

@@ -1,7 +1,6 @@
 ghost use Rattle.std.specs.Prelude.{◌≡◌};
 ghost use Rattle.protocol.specs.Client as client;
 
-use crate::copies::{look, store};
 use client_sweeps::{stop_at, swept_at};
 use protocol::records::Copy;
 use protocol::setup::Setup;
@@ -13,11 +12,7 @@ pub fn sweep(copies: &mut [Copy], setup: Setup, g: Sweep, first: usize)
     ensures { copies.new ≡ client.swept_all setup g first copies.old }
 {
     let to = stop_at(setup, g, first, copies.len());
-    let mut k = first;
-    while k < to {
-        let c = look(&*copies, k);
-        let f = swept_at(setup, g, c, k, first);
-        store(&mut *copies, k, f);
-        k += 1;
+    for k in first..to {
+        copies[k] = swept_at(setup, g, copies[k], k, first);
     }
 }

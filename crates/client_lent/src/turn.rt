@@ -14,15 +14,14 @@ pub fn apply(r: &mut Request, u: Turn)
     match u {
         Turn::Keep => {}
         Turn::Take(object) => {
-            take_number(&mut *r, object);
+            take_number(r, object);
         }
-        Turn::End => {
-            end_request(&mut *r);
-        }
+        Turn::End => end_request(r),
     }
 }
 
 // Applies a turn to the request of client i ("one record, lent and updated"), or does nothing if i is past the end.
+// Kept: an index below the length, as in `store` of list.rt.
 pub fn update(requests: &mut [Request], i: usize, u: Turn)
     requires { CanTurn (get_or requests.old i no_request) u }
     ensures { requests.new ≡ set requests.old i (turned (get_or requests.old i no_request) u) }

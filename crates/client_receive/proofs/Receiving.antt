@@ -2,24 +2,23 @@
 -- Letters: s setup, w and x the words and values before, d client, o object, v volume, c copy, r request.
 use Prim.Native.Nat.{ℕ, ◌<◌}
 use native.Mathlib.Omega.{arith}
-use mathlib.Core.Bool.{Bool, true, false}
+use mathlib.Core.Bool.{Bool, true}
 use mathlib.Core.List.{List}
-use mathlib.Core.Path.{◌≡◌, refl, sym, ◌∙◌}
+use mathlib.Core.Path.{◌≡◌, sym, ◌∙◌}
 use Rattle.laws.specs.Parts.{stored}
-use Rattle.protocol.specs.declared.message.Kind.TheVariants.{Ack, Dropped, Cleared}
+use Rattle.protocol.specs.declared.message.Kind.TheVariants.{Dropped}
 use Rattle.protocol.specs.declared.records.Copy.{Copy}
 use Rattle.protocol.specs.declared.records.Request.{Request}
 use Rattle.protocol.specs.declared.setup.Setup.{Setup}
 use Rattle.protocol.specs.declared.step.Change.{Change}
 use Rattle.protocol.specs.declared.step.CopyChange.TheVariants as copy
 use Rattle.protocol.specs.declared.step.Sweep.TheVariants as sweep
-use Rattle.protocol.specs.declared.step.Turn.{Turn}
 use Rattle.protocol.specs.declared.step.Turn.TheVariants as request
 use Rattle.protocol.specs.Messages.{message}
 use Rattle.protocol.specs.Tables.{by_volume, with_views}
 use Rattle.protocol.specs.Server.{sent}
-use Rattle.protocol.specs.Client.{viewed, stands, forgotten, grant_stored}
-use Rattle.protocol.specs.Decide.{kept, by_client, grant_received, invalidate_received, offer_received, batch_received}
+use Rattle.protocol.specs.Client.{viewed, stands, grant_stored}
+use Rattle.protocol.specs.Decide.{by_client, grant_received, offer_received}
 use Rattle.lease_tests.specs.Parts.{Placed}
 use Rattle.state_words.specs.Fields.{word_lengths, VIEW_EPOCH, VIEW_EXPIRY}
 use Rattle.state_words.specs.View.{tables_of, records_of}
@@ -51,42 +50,12 @@ module _ (s : Setup) (w x : List ℕ) (c : Copy) (r : Request) (d o : ℕ) (g : 
       let l : d < 16 = omega (arith, p.clients) in
       (rw (sym k ∙ m, tables_viewed w x a d v g.epoch g.volume_expiry l p.volume i, j, p.is), records_viewed w x a d v g.epoch g.volume_expiry l p.volume i)
 
-  pub grant_no : (u : Change) → b ≡ false → u ≡ kept → (by_client u (tables_of w x) ≡ grant_heard s (tables_of w x) c r d o g) × (records_of w x ≡ records_of w x)
-  unfolding grant_received
-  grant_no u m i = (rw (sym k ∙ m, i), refl)
-
--- ---- INVALIDATE
-
-pub invalidated : (w x a z : List ℕ) (r : Request) (d o e n : ℕ) (u : Turn) → (tables_of a z ≡ sent (tables_of w x) (message d (Ack o e n))) × (records_of a z ≡ records_of w x)
-    → u ≡ forgotten r o
-    → (by_client (record { copy = copy.Erase; request = u; sweep = sweep.Keep }) (tables_of a z) ≡ invalidate_received (tables_of w x) r d o e n) × (records_of a z ≡ records_of w x)
-unfolding invalidate_received
-invalidated w x a z r d o e n u i j = (rw (i.0, j), i.1)
-
 -- ---- OFFER
 
 module _ (w x : List ℕ) (r : Request) (d v n e : ℕ) (b : Bool) (k : b ≡ stands r n) where
-  pub offer_yes : (a y z : List ℕ) → d < 16 → v < 8 → b ≡ true → a ≡ view_stored w (by_volume d v) e 0
+  pub offer_yes : (a y z : List ℕ) (u : Change) → d < 16 → v < 8 → b ≡ true → a ≡ view_stored w (by_volume d v) e 0
       → (tables_of y z ≡ sent (tables_of a x) (message d (Dropped v n e))) × (records_of y z ≡ records_of a x)
-      → (by_client (record { copy = copy.Keep; request = request.End; sweep = sweep.Expire v }) (tables_of y z) ≡ offer_received (tables_of w x) r d v n e)
-      × (records_of y z ≡ records_of w x)
+      → u ≡ record { copy = copy.Keep; request = request.End; sweep = sweep.Expire v }
+      → (by_client u (tables_of y z) ≡ offer_received (tables_of w x) r d v n e) × (records_of y z ≡ records_of w x)
   unfolding offer_received
-  offer_yes a y z h l m i j = (rw (sym k ∙ m, j.0, tables_viewed w x a d v e 0 h l i), j.1 ∙ records_viewed w x a d v e 0 h l i)
-
-  pub offer_no : (u : Change) → b ≡ false → u ≡ kept → (by_client u (tables_of w x) ≡ offer_received (tables_of w x) r d v n e) × (records_of w x ≡ records_of w x)
-  unfolding offer_received
-  offer_no u m i = (rw (sym k ∙ m, i), refl)
-
--- ---- BATCH
-
-module _ (w x : List ℕ) (r : Request) (d v n e m : ℕ) (b : Bool) (k : b ≡ stands r n) where
-  pub batch_yes : (y z : List ℕ) → b ≡ true
-      → (tables_of y z ≡ sent (tables_of w x) (message d (Cleared v n e m))) × (records_of y z ≡ records_of w x)
-      → (by_client (record { copy = copy.Keep; request = request.End; sweep = sweep.Forget m }) (tables_of y z) ≡ batch_received (tables_of w x) r d v n e m)
-      × (records_of y z ≡ records_of w x)
-  unfolding batch_received
-  batch_yes y z i j = (rw (sym k ∙ i, j.0), j.1)
-
-  pub batch_no : (u : Change) → b ≡ false → u ≡ kept → (by_client u (tables_of w x) ≡ batch_received (tables_of w x) r d v n e m) × (records_of w x ≡ records_of w x)
-  unfolding batch_received
-  batch_no u i j = (rw (sym k ∙ i, j), refl)
+  offer_yes a y z u h l m i j q = (rw (sym k ∙ m, q, j.0, tables_viewed w x a d v e 0 h l i), j.1 ∙ records_viewed w x a d v e 0 h l i)

@@ -8,9 +8,11 @@ use client_cache::copy;
 use protocol::records::Copy;
 use protocol::setup::Setup;
 use protocol::step::Sweep;
-use state_words::{Values, Words, client as fields, pass};
+use state_words::{Values, Words, client as fields};
 
-pub fn copy_at<'a>(words: &'a Words, values: &'a Values, place: usize) -> Copy
+// Returns the copy at a place of the list of all copies.
+#[tactic(auto, using(crate::proofs::Reading::copy_read))]
+pub fn copy_at(words: &Words, values: &Values, place: usize) -> Copy
     requires { place < CLIENT_OBJECTS }
     ensures { result ≡ get_or (records_of words.now values.now).copies place no_copy }
 {
@@ -21,13 +23,12 @@ pub fn copy_at<'a>(words: &'a Words, values: &'a Values, place: usize) -> Copy
     }
 }
 
+// Stores a copy at a place of the list of all copies.
 pub fn put_copy(words: &mut Words, values: &mut Values, place: usize, c: Copy)
     requires { place < CLIENT_OBJECTS }
     ensures values_unchanged { tables_of words.new values.new ≡ tables_of words.old values.old }
     ensures values_after { records_of words.new values.new ≡ with_copy (records_of words.old values.old) place c }
 {
-    pass::length_known(&*words);
-    pass::values_length_known(&*values);
     words[fields::COPY_VERSION + place] = c.version;
     values[fields::COPY_VALUE + place] = c.value;
     words[fields::COPY_EXPIRY + place] = c.expiry;
@@ -40,12 +41,9 @@ pub fn sweep(setup: Setup, words: &mut Words, values: &mut Values, g: Sweep, fir
     ensures values_unchanged { tables_of words.new values.new ≡ tables_of words.old values.old }
     ensures values_after { records_of words.new values.new ≡ swept_over setup g first n (records_of words.old values.old) }
 {
-    let end = first + n;
-    let mut place = first;
-    while place < end {
-        let c = copy_at(&*words, &*values, place);
+    for place in first..first + n {
+        let c = copy_at(words, values, place);
         let swept = copy::sweep(setup, g, c, place - first);
-        put_copy(&mut *words, &mut *values, place, swept);
-        place += 1;
+        put_copy(words, values, place, swept);
     }
 }

@@ -27,9 +27,10 @@ pub fn read(setup: Setup, words: &Words, c: Copy, client: u8, object: u8) -> Ans
     let clock = words[network::CLOCK];
     let expiry = words[client::VIEW_EXPIRY + (client as usize * VOLUMES + volume)];
     if copy::showable(clock, expiry, c) {
-        return Answer::Shown(c.value);
+        Answer::Shown(c.value)
+    } else {
+        Answer::AskFirst
     }
-    Answer::AskFirst
 }
 
 // Step 3: "send RENEW with number, known epoch and held version"; "RENEW's epoch is the known one, its version the held one".
@@ -57,7 +58,7 @@ pub fn ask(
         epoch,
         version: c.version,
     };
-    push(&mut *words, &mut *values, Message { client, kind });
+    push(words, values, Message { client, kind });
 }
 
 // Step 9: "only its next request number remains". Clears what the client knows of each volume. Only the contract needs the values.
@@ -69,6 +70,6 @@ pub fn restart(setup: Setup, words: &mut Words, values: &Values, client: u8)
 {
     let n = setup.volumes as usize;
     let first = client as usize * VOLUMES;
-    pass::fill(&mut *words, client::VIEW_EPOCH + first, n, 0);
-    pass::fill(&mut *words, client::VIEW_EXPIRY + first, n, 0);
+    pass::fill(words, client::VIEW_EPOCH + first, n, 0);
+    pass::fill(words, client::VIEW_EXPIRY + first, n, 0);
 }

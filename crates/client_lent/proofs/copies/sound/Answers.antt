@@ -1,15 +1,14 @@
-use native.Mathlib.Nat.{sub-zero}
-use mathlib.Core.Path.{refl}
-use Rattle.laws.specs.Loop.{all_by, all_end}
-use Rattle.protocol.specs.Sound.{copies_sound}
+use Rattle.protocol.specs.declared.records.Copy.{Copy}
+use Rattle.protocol.specs.Tables.{no_copy}
+use Rattle.protocol.specs.Sound.{time_fits, copies_sound}
+use Rattle.client_lent.proofs.Laws.{counted_yes, counted_no}
 use Rattle.client_lent.proofs.copies.sound.Goals as goal
 
-pub loop-k-init : goal.loop-k-init
+pub returns-then-as_many : goal.returns-then-as_many
 unfolding copies_sound
-loop-k-init c = rw (c.as_many-ok.ensures, sub-zero)
+returns-then-as_many c =
+    counted_yes (λ (y : Copy). time_fits y.expiry) no_copy _ _ _ c.as_many.ensures _ c.if-as_many.true c.all_sound.ensures
 
-pub loop-k-preserved : goal.loop-k-preserved
-loop-k-preserved c = rw c.still_sound-ok.ensures (all_by _ _ _ _ _ _ c.loop-k-test.true refl c.loop-k.invariant)
-
-pub returns : goal.returns
-returns c = search all_end
+pub returns-else-as_many : goal.returns-else-as_many
+unfolding copies_sound
+returns-else-as_many c = counted_no (λ (y : Copy). time_fits y.expiry) no_copy _ _ _ c.as_many.ensures c.if-as_many.false

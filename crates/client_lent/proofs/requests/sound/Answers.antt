@@ -1,15 +1,14 @@
-use native.Mathlib.Nat.{sub-zero}
-use mathlib.Core.Path.{refl}
-use Rattle.laws.specs.Loop.{all_by, all_end}
-use Rattle.protocol.specs.Sound.{requests_sound}
+use Rattle.protocol.specs.declared.records.Request.{Request}
+use Rattle.protocol.specs.Tables.{no_request}
+use Rattle.protocol.specs.Sound.{request_sound, requests_sound}
+use Rattle.client_lent.proofs.Laws.{counted_yes, counted_no}
 use Rattle.client_lent.proofs.requests.sound.Goals as goal
 
-pub loop-k-init : goal.loop-k-init
+pub returns-then-as_many : goal.returns-then-as_many
 unfolding requests_sound
-loop-k-init c = rw (c.as_many-ok.ensures, sub-zero)
+returns-then-as_many c =
+    counted_yes (λ (y : Request). request_sound c.args.setup y) no_request _ _ _ c.as_many.ensures _ c.if-as_many.true c.all_sound.ensures
 
-pub loop-k-preserved : goal.loop-k-preserved
-loop-k-preserved c = rw c.still_sound-ok.ensures (all_by _ _ _ _ _ _ c.loop-k-test.true refl c.loop-k.invariant)
-
-pub returns : goal.returns
-returns c = search all_end
+pub returns-else-as_many : goal.returns-else-as_many
+unfolding requests_sound
+returns-else-as_many c = counted_no (λ (y : Request). request_sound c.args.setup y) no_request _ _ _ c.as_many.ensures c.if-as_many.false

@@ -5,6 +5,3 @@ use Rattle.client_lent.proofs.sweep.sweep.Given as goal
 
 abbrev pub invariant-loop-k : goal.invariant-loop-k
 invariant-loop-k l = fold_from (sweep_at l.setup l.g l.first) l.copies l.k (l.to - l.k) ≡ swept_all l.setup l.g l.first l.fn.copies
-
-abbrev pub decreases-loop-k : goal.decreases-loop-k
-decreases-loop-k l = l.to - l.k
