@@ -1,16 +1,17 @@
 -- One lemma for each path through a step, on a machine whose states are all sound.
--- Letters: s setup, w words, x values, ws and xs the words and the values under each name, v, z, vs and zs the same afterwards, y a step, a its answer.
-use Prim.Native.Nat.{ℕ, ◌<◌, ◌≤◌}
-use mathlib.Core.Bool.{true, false, cond}
-use mathlib.Core.List.{List, []}
-use mathlib.Core.Path.{◌≡◌, sym, ◌∙◌}
-use lib.ListN.{get_or}
-use borrow.Author.Tests.{lt-ltb, le-ltb, ne_eqb}
+-- Letters: s setup, w words, x values, ws and xs the words and the values under each name, v, z, vs and zs the same afterwards, y a step, a its answer or
+-- the act of a save or a return.
+use Rattle.std.proofs.Common.{◌≡◌, sym, ◌∙◌, subst, ⊎_elim, ℕ, ◌<◌, true, false, cond, List, [], Some, Result, Ok, Err, ltb, get_or}
+use Rattle.laws.specs.Choice.{cond_keeps, not_both, or_true}
 use Rattle.laws.specs.Line.{never, state, saved_under}
+use borrow.Author.Tests.{eqb-true, ltb-true}
+use Rattle.protocol.specs.declared.refusal.Refusal.{Refusal}
+use Rattle.protocol.specs.declared.refusal.Refusal.TheVariants.{Name}
 use Rattle.protocol.specs.declared.setup.Setup.{Setup}
 use Rattle.protocol.specs.declared.step.Answer.{Answer}
 use Rattle.protocol.specs.declared.step.Answer.TheVariants.{Done, Refused}
 use Rattle.protocol.specs.declared.step.Step.{Step}
+use Rattle.protocol.specs.Refusals.{number_of}
 use Rattle.protocol.specs.Setup.{in_range}
 use Rattle.protocol.specs.World.{answer_of, stepped}
 use Rattle.protocol.proofs.Soundness.Question.{sounds}
@@ -20,7 +21,11 @@ use Rattle.protocol.proofs.SavedLaws.{saved_sounds, ordinary_answer, ordinary_mo
 use Rattle.state_words.specs.View.{world_of}
 use Rattle.state_words.specs.Saved.{is_saved, machine_of}
 use Rattle.state_words.proofs.SavedLaws.{saved_at}
-use Rattle.saved_states.specs.Stored.{Saves, Restores, saves_world, restores_world}
+use Rattle.saved_states.specs.Stored.{saves_world, restores_world}
+use Rattle.step_saved.specs.declared.plan.Act.{Act}
+use Rattle.step_saved.specs.declared.plan.Act.TheVariants.{Save, Return}
+use Rattle.step_saved.specs.Applied.{Applied}
+use Rattle.step_saved.specs.Plan.{act_by_name}
 use Rattle.run_saved.specs.ByName.{CalledByName}
 
 module _ (w x : List ℕ) (ws xs : List (List ℕ)) (y : Step) where
@@ -36,11 +41,12 @@ module _ (w x : List ℕ) (ws xs : List (List ℕ)) (y : Step) where
       q : Machine
       q = machine_of s w x ws xs
 
-  module _ (u : uses_name y ≡ true) where
-    -- a return, for it is no save
-    returns : (y.kind ≡ 10 → ⊥) → is_return y ≡ true
-    returns k = rw (ne_eqb y.kind 10 k) at u
+  -- what a save or a return leaves, by its act; refused, it leaves all as it is
+  abbrev pub Does : Result Act Refusal → Type 0
+  Does (Ok a) = (v z : List ℕ) (vs zs : List (List ℕ)) → Applied (Some a) w x ws xs v z vs zs → CalledByName w x ws xs y Done v z vs zs
+  Does (Err e) = CalledByName w x ws xs y (Refused (number_of e)) w x ws xs
 
+  module _ (u : uses_name y ≡ true) where
     -- questions 1 and 11 decide, and the answer to 1 is never "no"
     module _ (s : Setup) (i : in_range s ≡ true) (o : SoundMachine s (machine_of s w x ws xs)) where
       abbrev before : Machine
@@ -58,28 +64,46 @@ module _ (w x : List ℕ) (ws xs : List (List ℕ)) (y : Step) where
         moves = sym (name_move s before y u ∙ rw (sounds s (world_of s w x) o.now i, saved_sounds s i before o, n));
       }
 
-    pub above : names ≤ y.place → CalledByName w x ws xs y (Refused 11) w x ws xs
+    above : ltb y.place names ≡ false → Does (Err Name)
     unfolding named
-    above h s i o = refused s i o (rw (u, le-ltb y.place names h))
+    above h s i o = refused s i o (rw (u, h))
 
-    module _ (h : y.place < names) where
-      pub saves : y.kind ≡ 10 → (vs zs : List (List ℕ)) → Saves w x ws xs y.place vs zs → CalledByName w x ws xs y Done w x vs zs
-      unfolding named
-      saves k vs zs e s i o = accepted s i o (rw (u, lt-ltb y.place names h, k)) _ (rw (saves_world s w x ws xs y.place vs zs h e, k))
+    module _ (h : ltb y.place names ≡ true) where
+      below : y.place < names
+      below = ltb-true _ _ h
 
-      module _ (k : y.kind ≡ 10 → ⊥) where
-        pub restores : is_saved (get_or ws y.place []) ≡ true → (v z : List ℕ) → Restores v z ws xs y.place → CalledByName w x ws xs y Done v z ws xs
-        unfolding named
-        restores t v z e s i o =
-            accepted s i o (rw (u, lt-ltb y.place names h, returns k, under)) _
-            (rw (ne_eqb y.kind 10 k, under, restores_world s v z ws xs y.place e))
+      saves : is_save y ≡ true → Does (Ok (Save y.place))
+      unfolding named Applied
+      saves k v z vs zs d s i o =
+          accepted s i o (rw (u, h, no_return)) _
+          (rw (d.0.words, d.0.values, saves_world s w x ws xs y.place vs zs below d.1, k))
+        where
+          no_return : is_return y ≡ false
+          no_return = rw (eqb-true y.kind 10 k)
+
+      module _ (k : is_save y ≡ false) where
+        -- a return, for it is no save
+        returns : is_return y ≡ true
+        returns = ⊎_elim (λ t. not_both t k) (λ t. t) (or_true _ _ u)
+
+        restores : is_saved (get_or ws y.place []) ≡ true → Does (Ok (Return y.place))
+        unfolding named Applied
+        restores t v z vs zs d s i o =
+            accepted s i o (rw (u, h, returns, under)) _ (rw (d.1.words, d.1.values, k, under, restores_world s v z ws xs y.place d.0))
           where
             under : saved_under (machine_of s w x ws xs) y.place ≡ state (world_of s (get_or ws y.place []) (get_or xs y.place []))
-            under = saved_at s ws xs y.place h ∙ rw t
+            under = saved_at s ws xs y.place below ∙ rw t
 
-        pub nothing_saved : is_saved (get_or ws y.place []) ≡ false → CalledByName w x ws xs y (Refused 11) w x ws xs
+        nothing_saved : is_saved (get_or ws y.place []) ≡ false → Does (Err Name)
         unfolding named
-        nothing_saved t s i o = refused s i o (rw (u, lt-ltb y.place names h, returns k, under))
+        nothing_saved t s i o = refused s i o (rw (u, h, returns, under))
           where
             under : saved_under (machine_of s w x ws xs) y.place ≡ never
-            under = saved_at s ws xs y.place h ∙ rw t
+            under = saved_at s ws xs y.place below ∙ rw t
+
+    pub does : (r : Result Act Refusal) → r ≡ act_by_name ws y → Does r
+    unfolding act_by_name
+    does r e =
+        subst Does (sym e)
+        (cond_keeps Does (ltb y.place names)
+        (λ h. cond_keeps Does (is_save y) (saves h) (λ k. cond_keeps Does (is_saved (get_or ws y.place [])) (restores h k) (nothing_saved h k))) above)

@@ -11,8 +11,10 @@ ghost use Rattle.run_saved.specs.ByName.{CalledByName};
 
 use protocol::setup::Setup;
 use protocol::step::{Answer, Step};
-use state_words::saved::{NAMES, SavedValues, SavedWords};
+use state_words::saved::{SavedValues, SavedWords};
 use state_words::{Values, Words};
+use step_saved::apply::apply;
+use step_saved::plan::act_by_name;
 
 // Saves or restores the state, by "the name in the place field". Returns the answer: "11 when the name is above 3 or, for a return, was never saved".
 fn by_name(
@@ -25,18 +27,13 @@ fn by_name(
     requires { uses_name step ≡ true }
     ensures { CalledByName words.old values.old saved.old saved_values.old step result words.new values.new saved.new saved_values.new }
 {
-    let name = step.place as usize;
-    if name < NAMES {
-        if step.kind == known_kinds::SAVE {
-            saved_states::save(&*words, &*values, &mut *saved, &mut *saved_values, name);
-            return Answer::Done;
+    match act_by_name(&*saved, step) {
+        Ok(act) => {
+            apply(words, values, saved, saved_values, Some(act));
+            Answer::Done
         }
-        if saved_states::is_saved(&*saved, name) {
-            saved_states::restore(&mut *words, &mut *values, &*saved, &*saved_values, name);
-            return Answer::Done;
-        }
+        Err(why) => Answer::Refused(u8::from(why)),
     }
-    Answer::Refused(11)
 }
 
 // Performs one step on a machine whose states are all sound. Returns the answer.

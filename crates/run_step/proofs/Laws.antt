@@ -1,11 +1,11 @@
 -- One lemma for each path through a step, on a sound world.
 use Prim.Native.Nat.{ℕ, ◌*◌}
-use mathlib.Core.Bool.{true, ◌&&◌}
+use mathlib.Core.Bool.{true, false, ◌&&◌}
 use mathlib.Core.List.{List}
 use mathlib.Core.Path.{◌≡◌, refl, sym, ap, ◌∙◌}
 use lib.ListN.{get_or}
 use lib.Seq.{set-get_or}
-use borrow.Author.Tests.{ne_eqb}
+use lib.Dec.{eqb}
 use Rattle.laws.specs.Choice.{cond_keeps, and-true}
 use Rattle.laws.specs.Loop.{fold_from}
 use Rattle.protocol.specs.declared.records.Copy.{Copy}
@@ -52,10 +52,10 @@ module _ (s : Setup) (w v : List ℕ) (i : in_range s ≡ true) (o : SoundWorld 
     unfolding decision decided refusal
     decides = rw (en, ec, er, ea, sounds s before o i)
 
-    pub refused : (no ≡ 0 → ⊥) → (Refused no ≡ answer_of s before x) × (before ≡ stepped s before x)
+    pub refused : eqb no 0 ≡ false → (Refused no ≡ answer_of s before x) × (before ≡ stepped s before x)
     unfolding stepped swept_all fold_from
     refused h =
-        let d : refused_with (tables_of w v) no ≡ decision s before x = rw (ne_eqb no 0 h) at decides in (
+        let d : refused_with (tables_of w v) no ≡ decision s before x = rw h at decides in (
           ap (λ (d : Decision). d.outcome.answer) d,
           rw (
             ← d,

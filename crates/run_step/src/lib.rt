@@ -24,12 +24,12 @@ pub fn advance(setup: Setup, words: &mut Words, values: &mut Values, step: Step)
     let at = target(setup, &*words, &*values, step);
     let c = client_apply::copy_of(setup, &*words, &*values, at);
     let r = client_apply::request_of(setup, &*words, &*values, at);
-    let refusal = gate::steps::refusal_of_step(setup, &*words, &*values, r, step);
-    if refusal == 0 {
-        let verdict = perform(setup, &mut *words, &mut *values, c, r, step);
-        let g = verdict.change;
-        client_apply::change(setup, &mut *words, &mut *values, at, g);
-        return verdict.answer;
+    match gate::steps::refusal_of_step(setup, &*words, &*values, r, step) {
+        Ok(()) => {
+            let verdict = perform(setup, &mut *words, &mut *values, c, r, step);
+            client_apply::change(setup, words, values, at, verdict.change);
+            verdict.answer
+        }
+        Err(why) => Answer::Refused(u8::from(why)),
     }
-    Answer::Refused(refusal)
 }

@@ -26,7 +26,7 @@ use Rattle.protocol.proofs.Ranges.{ranges}
 use Rattle.protocol.specs.Sound.{copies_sound, requests_sound, records_sound, tables_sound, sound}
 use Rattle.protocol.specs.Tables.{no_copy, no_request}
 use Rattle.protocol.specs.Answers.{answer_number, is_refused}
-use Rattle.protocol.specs.Gate.{known, or_refuse, refusal, refusal_of_step}
+use Rattle.protocol.specs.Gate.{or_refuse}
 use Rattle.protocol.specs.Ledger.{accepts}
 use Rattle.protocol.specs.World.{World, stepped, answer_of}
 use Rattle.protocol.specs.Saved.{Machine, names, is_save, is_return, uses_name, world_sound, saved_sound, named, refusal_in, answer_to, moved, Called}
@@ -41,20 +41,14 @@ use Rattle.saved_states.specs.Stored.{Saves, Restores, saves_world, restores_wor
 use Rattle.client_records.specs.Stores.{with_copies, with_requests}
 use Rattle.step_saved.specs.declared.plan.Plan.{Plan}
 use Rattle.step_saved.specs.Sound.{all_sound, all_sound_law}
-use Rattle.step_saved.specs.Plan.{idle, passed, staying, saving, returning, name_plan, plan_of}
+use Rattle.step_saved.specs.Plan.{staying, saving, returning, name_plan, plan_of}
 use Rattle.step_saved.specs.Applied.{Same, SameSaved, Applied}
 use Rattle.step_lent.specs.Lent.{world}
 use Rattle.step.specs.Lent.{machine, Unchanged}
 
--- ---- what the calls are asked and answer
-abbrev pub asked : Setup → List (List ℕ) → List (List ℕ) → Step → Step
-asked s ws xs y = passed (all_sound s ws xs) y
-
-abbrev pub answered : Setup → World → List (List ℕ) → List (List ℕ) → Step → Answer
-answered s w ws xs y = answer_of s w (asked s ws xs y)
-
-abbrev pub planned : Setup → World → List (List ℕ) → List (List ℕ) → Step → Plan
-planned s w ws xs y = plan_of s (all_sound s ws xs) (answered s w ws xs y) ws y
+-- ---- what is planned, once the rules of 01 have answered
+abbrev pub planned : Setup → World → List (List ℕ) → Step → Plan
+planned s w ws y = plan_of s (answer_of s w y) ws y
 
 -- ---- what they leave
 pub record Left (s : Setup) (w x : List ℕ) (l : List Copy) (k : List Request) (ws xs : List (List ℕ)) (y : Step)
@@ -66,20 +60,20 @@ pub record Left (s : Setup) (w x : List ℕ) (l : List Copy) (k : List Request) 
   pub w₂ : List ℕ
   pub x₂ : List ℕ
   pub w₃ : List ℕ
-  pub steps : world w₁ x₁ l₁ k₁ ≡ stepped s (world w x l k) (asked s ws xs y)
-  pub refuses : answer_number (answered s (world w x l k) ws xs y) ≡ 4 → (w₁ ≡ w) × ((x₁ ≡ x) × ((l₁ ≡ l) × (k₁ ≡ k)))
+  pub steps : world w₁ x₁ l₁ k₁ ≡ stepped s (world w x l k) y
+  pub refuses : answer_number (answer_of s (world w x l k) y) ≡ 4 → (w₁ ≡ w) × ((x₁ ≡ x) × ((l₁ ≡ l) × (k₁ ≡ k)))
   pub keeps : records_of w₁ x₁ ≡ records_of w x
   pub copies_tables : tables_of w₂ x₂ ≡ tables_of w₁ x₁
   pub copies_records : records_of w₂ x₂
-      ≡ with_copies (records_of w₁ x₁) (overlay no_copy (records_of w₁ x₁).copies l₁ (planned s (world w x l k) ws xs y).copies_saved)
-  pub copies_none : (planned s (world w x l k) ws xs y).copies_saved ≡ 0 → (w₂ ≡ w₁) × (x₂ ≡ x₁)
+      ≡ with_copies (records_of w₁ x₁) (overlay no_copy (records_of w₁ x₁).copies l₁ (planned s (world w x l k) ws y).copies_saved)
+  pub copies_none : (planned s (world w x l k) ws y).copies_saved ≡ 0 → (w₂ ≡ w₁) × (x₂ ≡ x₁)
   pub requests_tables : (z : List ℕ) → tables_of w₃ z ≡ tables_of w₂ z
   pub requests_records : (z : List ℕ) → records_of w₃ z
-      ≡ with_requests (records_of w₂ z) (overlay no_request (records_of w₂ z).requests k₁ (planned s (world w x l k) ws xs y).requests_saved)
-  pub requests_none : (planned s (world w x l k) ws xs y).requests_saved ≡ 0 → w₃ ≡ w₂
-  pub applied : Applied (planned s (world w x l k) ws xs y).act w₃ x₂ ws xs w₄ x₄ ws₄ xs₄
-  pub copies : l₄ ≡ overlay no_copy l₁ (records_of w₄ x₄).copies (planned s (world w x l k) ws xs y).copies_restored
-  pub requests : k₄ ≡ overlay no_request k₁ (requests_of w₄) (planned s (world w x l k) ws xs y).requests_restored
+      ≡ with_requests (records_of w₂ z) (overlay no_request (records_of w₂ z).requests k₁ (planned s (world w x l k) ws y).requests_saved)
+  pub requests_none : (planned s (world w x l k) ws y).requests_saved ≡ 0 → w₃ ≡ w₂
+  pub applied : Applied (planned s (world w x l k) ws y).act w₃ x₂ ws xs w₄ x₄ ws₄ xs₄
+  pub copies : l₄ ≡ overlay no_copy l₁ (records_of w₄ x₄).copies (planned s (world w x l k) ws y).copies_restored
+  pub requests : k₄ ≡ overlay no_request k₁ (requests_of w₄) (planned s (world w x l k) ws y).requests_restored
 
 -- ---- the records in the words
 module _ {A : Type 0} (d : A) (l m : List A) (n : ℕ) where
@@ -127,10 +121,6 @@ not_zero : (b : Bool) → eqb (or_refuse b 1 2) 0 ≡ false
 not_zero true = refl
 not_zero false = refl
 
-idle_refused : (s : Setup) (w : World) → accepts s w idle ≡ false
-unfolding refusal refusal_of_step known
-idle_refused s w = not_zero (world_sound s w)
-
 module _ (s : Setup) (q : Machine) (y : Step) (u : uses_name y ≡ true) where
   name_refused : accepts s q.now y ≡ false
   name_refused = rw (name_unknown s q y u) (not_zero (world_sound s q.now))
@@ -154,13 +144,21 @@ module _ (s : Setup) (w x : List ℕ) (l : List Copy) (k : List Request) (ws xs 
   q = machine s w x l k ws xs
 
   abbrev a : Answer
-  a = answered s q.now ws xs y
+  a = answer_of s q.now y
 
   abbrev p : Plan
-  p = planned s q.now ws xs y
+  p = planned s q.now ws y
 
   saved_same : saved_sound s q ≡ all_sound s ws xs
   saved_same = sym (all_sound_law s q.now ws xs)
+
+  -- a saved state is unsound: the step is refused, and nothing changes
+  pub unsound_called : all_sound s ws xs ≡ false → Called s q y (Refused 1) q
+  unfolding answer_to refusal_in
+  unsound_called f = record { answers = one; moves = sym (refused_moves_nothing s q y (sym (ap is_refused one))) }
+    where
+      one : Refused 1 ≡ answer_to s q y
+      one = rw (saved_same, f, and_no (world_sound s q.now))
 
   -- what the step's contract says
   pub record Met (w₄ x₄ : List ℕ) (l₄ : List Copy) (k₄ : List Request) (ws₄ xs₄ : List (List ℕ)) : Type 0 where
@@ -214,52 +212,32 @@ module _ (s : Setup) (w x : List ℕ) (l : List Copy) (k : List Request) (ws xs 
       keeps = λ _. same_records (unchanged (Refused n) e r);
     }
 
-    -- a saved state is unsound
-    unsound_met : all_sound s ws xs ≡ false → Met w₄ x₄ l₄ k₄ ws₄ xs₄
-    unfolding plan_of answer_to refusal_in
-    unsound_met f = refused_met 1 plan four one
-      where
-        plan : p ≡ staying (Refused 1)
-        plan = rw f
-
-        four : answer_number a ≡ 4
-        four = rw f (rw (refused_answer s q.now idle (idle_refused s q.now)))
-
-        one : Refused 1 ≡ answer_to s q y
-        one = rw (saved_same, f, and_no (world_sound s q.now))
-
     module _ (f : all_sound s ws xs ≡ true) where
       sound_q : saved_sound s q ≡ true
       sound_q = saved_same ∙ f
-
-      a_is : a ≡ answer_of s q.now y
-      a_is = rw f
 
       -- ---- a step of 01's kinds
       ordinary_met : uses_name y ≡ false → Met w₄ x₄ l₄ k₄ ws₄ xs₄
       unfolding plan_of
       ordinary_met u = record {
         calls = record {
-          answers = answer ∙ a_is ∙ sym (ordinary_answer s q y u sound_q);
-          moves = same_machine (stays a plan) ∙ ap (λ (z : World). record { now = z; saved = saved_of s ws xs }) moves ∙ sym (ordinary_move s q y u sound_q);
+          answers = answer ∙ sym (ordinary_answer s q y u sound_q);
+          moves = same_machine (stays a plan) ∙ ap (λ (z : World). record { now = z; saved = saved_of s ws xs }) h.steps ∙ sym (ordinary_move s q y u sound_q);
         };
         refuses = λ r. unchanged a plan (sym (ap answer_number answer) ∙ r);
         keeps = λ _. same_records (stays a plan) ∙ h.keeps;
       }
         where
           plan : p ≡ staying a
-          plan = rw (f, u)
+          plan = rw u
 
           answer : p.answer ≡ a
           answer = ap (λ (g : Plan). g.answer) plan
 
-          moves : world h.w₁ h.x₁ h.l₁ h.k₁ ≡ stepped s q.now y
-          moves = h.steps ∙ ap (λ (b : Bool). stepped s q.now (passed b y)) f
-
       -- ---- a save or a return
       module _ (u : uses_name y ≡ true) where
         a_told : a ≡ Refused (or_refuse (world_sound s q.now) 1 2)
-        a_told = a_is ∙ name_answered s q y u
+        a_told = name_answered s q y u
 
         four : answer_number a ≡ 4
         four = ap answer_number a_told
@@ -269,12 +247,12 @@ module _ (s : Setup) (w x : List ℕ) (l : List Copy) (k : List Request) (ws xs 
         now_unsound_met g = refused_met 1 plan four (sym (name_answer s q y u ∙ rw g))
           where
             plan : p ≡ staying (Refused 1)
-            plan = rw (a_told, f, u, g)
+            plan = rw (a_told, u, g)
 
         module _ (g : world_sound s q.now ≡ true) where
           plan_named : p ≡ name_plan s ws y
           unfolding plan_of
-          plan_named = rw (a_told, f, u, g)
+          plan_named = rw (a_told, u, g)
 
           answered_by : (b : Bool) → named q y ≡ b → answer_to s q y ≡ cond b Done (Refused 11)
           answered_by b e = name_answer s q y u ∙ rw (g, sound_q, e)
@@ -432,27 +410,21 @@ module _ (s : Setup) (w x : List ℕ) (l : List Copy) (k : List Request) (ws xs 
               ⊎_elim (λ e. ⊎_elim (save_met e) (λ i. ⊎_elim (return_met e i) (never_met e i) (true_or_false (is_saved (get_or ws y.place [])))) (true_or_false (is_save y)))
               above_met (true_or_false (ltb y.place names))
 
-    -- ---- all steps
-    pub met : Met w₄ x₄ l₄ k₄ ws₄ xs₄
-    met = ⊎_elim (λ f. ⊎_elim (named_met f) (ordinary_met f) (true_or_false (uses_name y))) unsound_met (true_or_false (all_sound s ws xs))
-      where
-        named_met : all_sound s ws xs ≡ true → uses_name y ≡ true → Met w₄ x₄ l₄ k₄ ws₄ xs₄
-        named_met f u = ⊎_elim (name_met f u) (now_unsound_met f u) (true_or_false (world_sound s q.now))
+      -- ---- all steps
+      pub met : Met w₄ x₄ l₄ k₄ ws₄ xs₄
+      met = ⊎_elim named_met ordinary_met (true_or_false (uses_name y))
+        where
+          named_met : uses_name y ≡ true → Met w₄ x₄ l₄ k₄ ws₄ xs₄
+          named_met u = ⊎_elim (name_met u) (now_unsound_met u) (true_or_false (world_sound s q.now))
 
--- ---- what each call promises, in the order of the calls: i is the step that the rules of 01 are asked, b their answer, p the plan
-module _ (s : Setup) (w x : List ℕ) (l : List Copy) (k : List Request) (ws xs : List (List ℕ)) (y i : Step) (kept : Bool) (b : Answer) (p : Plan)
-    (e : kept ≡ all_sound s ws xs) (f : i ≡ passed kept y) (g : b ≡ answer_of s (world w x l k) i) (h : p ≡ plan_of s kept b ws y) where
-  inner_is : i ≡ asked s ws xs y
-  inner_is = f ∙ ap (λ (z : Bool). passed z y) e
-
-  answer_is : b ≡ answered s (world w x l k) ws xs y
-  answer_is = g ∙ ap (answer_of s (world w x l k)) inner_is
-
-  pub plan_is : p ≡ planned s (world w x l k) ws xs y
-  plan_is = h ∙ ap (λ (z : Bool). plan_of s z b ws y) e ∙ ap (λ (z : Answer). plan_of s (all_sound s ws xs) z ws y) answer_is
+-- ---- what each call promises, in the order of the calls: b is the answer by the rules of 01, p the plan
+module _ (s : Setup) (w x : List ℕ) (l : List Copy) (k : List Request) (ws xs : List (List ℕ)) (y : Step) (b : Answer) (p : Plan)
+    (g : b ≡ answer_of s (world w x l k) y) (h : p ≡ plan_of s b ws y) where
+  pub plan_is : p ≡ planned s (world w x l k) ws y
+  plan_is = h ∙ ap (λ (z : Answer). plan_of s z ws y) g
 
   module _ (w₁ x₁ : List ℕ) (l₁ : List Copy) (k₁ : List Request) (w₂ x₂ w₃ w₄ x₄ : List ℕ) (l₄ : List Copy) (k₄ : List Request) (ws₄ xs₄ : List (List ℕ)) where
-    pub leaves : world w₁ x₁ l₁ k₁ ≡ stepped s (world w x l k) i → (answer_number b ≡ 4 → (w₁ ≡ w) × ((x₁ ≡ x) × ((l₁ ≡ l) × (k₁ ≡ k))))
+    pub leaves : world w₁ x₁ l₁ k₁ ≡ stepped s (world w x l k) y → (answer_number b ≡ 4 → (w₁ ≡ w) × ((x₁ ≡ x) × ((l₁ ≡ l) × (k₁ ≡ k))))
         → records_of w₁ x₁ ≡ records_of w x → tables_of w₂ x₂ ≡ tables_of w₁ x₁
         → records_of w₂ x₂ ≡ with_copies (records_of w₁ x₁) (overlay no_copy (records_of w₁ x₁).copies l₁ p.copies_saved)
         → (p.copies_saved ≡ 0 → (w₂ ≡ w₁) × (x₂ ≡ x₁)) → ((z : List ℕ) → tables_of w₃ z ≡ tables_of w₂ z)
@@ -468,8 +440,8 @@ module _ (s : Setup) (w x : List ℕ) (l : List Copy) (k : List Request) (ws xs 
       w₂ = w₂;
       x₂ = x₂;
       w₃ = w₃;
-      steps = b₀ ∙ ap (stepped s (world w x l k)) inner_is;
-      refuses = λ r. b₁ (ap answer_number answer_is ∙ r);
+      steps = b₀;
+      refuses = λ r. b₁ (ap answer_number g ∙ r);
       keeps = b₂;
       copies_tables = b₃;
       copies_records = rw (← plan_is) b₄;

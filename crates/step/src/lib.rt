@@ -11,6 +11,7 @@ ghost use Rattle.step.specs.Lent.{machine, Unchanged};
 
 use client_transfer::{copies, requests};
 use protocol::records::{Copy, Request};
+use protocol::refusal::Refusal;
 use protocol::setup::Setup;
 use protocol::step::{Answer, Step};
 use state_words::saved::{SavedValues, SavedWords};
@@ -37,17 +38,18 @@ pub fn step(
     ensures refuses { answer_number result ≡ 4 → Unchanged words.old values.old copies.old requests.old saved.old saved_values.old words.new values.new copies.new requests.new saved.new saved_values.new }
     ensures keeps { uses_name step ≡ false → records_of words.new values.new ≡ records_of words.old values.old }
 {
-    let kept = sound::all(setup, &*saved, &*saved_values);
-    let inner = plan::inner(kept, step);
+    if !sound::all(setup, &*saved, &*saved_values) {
+        return Answer::Refused(u8::from(Refusal::Unsound));
+    }
     let a = step_lent::step(
         setup,
         &mut *words,
         &mut *values,
         &mut *copies,
         &mut *requests,
-        inner,
+        step,
     );
-    let p = plan::planned(setup, kept, a, &*saved, step);
+    let p = plan::planned(setup, a, &*saved, step);
     copies::to_words(&*copies, &mut *words, &mut *values, p.copies_saved);
     requests::to_words(&*requests, &mut *words, p.requests_saved);
     apply(

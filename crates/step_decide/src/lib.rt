@@ -27,9 +27,8 @@ pub fn decide(
     ensures words_unchanged { answer_number result.answer ≡ 4 → (words.new ≡ words.old) × (values.new ≡ values.old) }
     ensures values_unchanged { records_of words.new values.new ≡ records_of words.old values.old }
 {
-    let no = gate::refusal(setup, &*words, &*values, records, r, step);
-    if no == 0 {
-        return step_perform::perform(setup, &mut *words, &mut *values, c, r, step);
+    match gate::refusal(setup, &*words, &*values, records, r, step) {
+        Ok(()) => step_perform::perform(setup, words, values, c, r, step),
+        Err(why) => step_verdict::keeping(Answer::Refused(u8::from(why))),
     }
-    step_verdict::keeping(Answer::Refused(no))
 }

@@ -1,5 +1,6 @@
 -- Receiving a message of kind k at the server and at client d, and step 5.
 -- Letters as in `Decide`; t are the tables before, u after.
+use Rattle.std.specs.Prelude.{Option}
 use Prim.Native.Nat.{ℕ, ◌<◌}
 use native.Mathlib.Omega.{arith}
 use mathlib.Core.Bool.{true, ◌&&◌}
@@ -13,7 +14,6 @@ use Rattle.protocol.specs.contracts.message.Kind.{the_type}
 use Rattle.protocol.specs.declared.message.Kind.{Kind}
 use Rattle.protocol.specs.declared.message.Kind.TheVariants.{Renew, Grant, Invalidate, Ack, Offer, Dropped, Batch, Cleared}
 use Rattle.protocol.specs.declared.message.Message.{Message}
-use Rattle.protocol.specs.declared.message.Payload.{Payload}
 use Rattle.protocol.specs.declared.records.Copy.{Copy}
 use Rattle.protocol.specs.declared.records.Request.{Request}
 use Rattle.protocol.specs.declared.setup.Setup.{Setup}
@@ -32,7 +32,7 @@ module _ (s : Setup) (k : Kind) (h : kind_sound s k ≡ true) where
   pub renew_in : (o n e w : ℕ) → k ≡ Renew o n e w → o < s.objects
   renew_in o n e w q = ltb-true _ _ (rw q at h)
 
-  pub grant_in : (o n x e w y : ℕ) (p : Payload) → k ≡ Grant o n x e w y p → o < s.objects
+  pub grant_in : (o n x e w y : ℕ) (p : Option ℕ) → k ≡ Grant o n x e w y p → o < s.objects
   grant_in o n x e w y p q = ltb-true _ _ (and-true _ _ (and-true (ltb o s.objects && time_fits x) (time_fits y) (rw q at h)).0).0
 
   pub ack_in : (o e w : ℕ) → k ≡ Ack o e w → o < s.objects
@@ -82,7 +82,7 @@ serves_none s t d (Cleared v n e m) h = absurd (⊎_elim (λ e. omega arith) (λ
 -- ---- at the client
 
 module _ (s : Setup) (t : Tables) (c : Copy) (r : Request) (d : ℕ) (k : Kind) where
-  pub hears_grant : (o n x e w y : ℕ) (p : Payload) (g : Received) → k ≡ Grant o n x e w y p → g ≡ grant_received s t c r d o n x e w y p → g ≡ heard s t c r d k
+  pub hears_grant : (o n x e w y : ℕ) (p : Option ℕ) (g : Received) → k ≡ Grant o n x e w y p → g ≡ grant_received s t c r d o n x e w y p → g ≡ heard s t c r d k
   unfolding heard
   hears_grant o n x e w y p g q h = rw q h
 

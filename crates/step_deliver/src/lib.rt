@@ -21,6 +21,7 @@ use server_ack::receive_ack;
 use server_cleared::receive_cleared;
 use server_dropped::receive_dropped;
 use server_renew::receive::receive_renew;
+use server_replies::Renew;
 use state_words::{Values, Words};
 use step_verdict::Verdict;
 
@@ -41,8 +42,14 @@ fn by_server(setup: Setup, words: &mut Words, values: &mut Values, client: usize
             epoch,
             version,
         } => {
-            let o = object as usize;
-            receive_renew(setup, words, values, client, o, number, epoch, version);
+            let renew = Renew {
+                client,
+                object: object as usize,
+                number,
+                epoch,
+                held: version,
+            };
+            receive_renew(setup, words, values, renew);
             0
         }
         Kind::Ack {

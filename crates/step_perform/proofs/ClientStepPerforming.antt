@@ -1,7 +1,5 @@
 -- An accepted step x of one client, by its kind: a function that turns the tables t into u and returns the change g does what the decision says.
-use mathlib.Core.Bool.{true}
 use mathlib.Core.Path.{◌≡◌}
-use borrow.Author.Tests.{eqb-true, ne_eqb}
 use Rattle.protocol.specs.declared.records.Copy.{Copy}
 use Rattle.protocol.specs.declared.records.Request.{Request}
 use Rattle.protocol.specs.declared.setup.Setup.{Setup}
@@ -12,7 +10,6 @@ use Rattle.protocol.specs.declared.step.Step.{Step}
 use Rattle.protocol.specs.declared.step.Sweep.TheVariants as sweep
 use Rattle.protocol.specs.declared.step.Turn.TheVariants as request
 use Rattle.protocol.specs.declared.tables.Tables.{Tables}
-use Rattle.protocol.specs.Gate.{uses_client}
 use Rattle.protocol.specs.Decide.{answered, ask_decided, restart_decided, performed}
 use Rattle.protocol.proofs.Soundness.StepCases.{ask_performed, client_performed}
 
@@ -26,7 +23,3 @@ module _ (s : Setup) (c : Copy) (r : Request) (x : Step) (t u : Tables) where
       → g ≡ record { copy = copy.Keep; request = request.End; sweep = sweep.Erase } → answered g u Done ≡ performed s t c r x
   unfolding restart_decided
   by_restart_client g k e f = rw (f, client_performed s t c r x k, e)
-
--- the only kind left once the others are ruled out
-pub last_of_client : (x : Step) → uses_client x ≡ true → (x.kind ≡ 2 → ⊥) → (x.kind ≡ 3 → ⊥) → x.kind ≡ 9
-last_of_client x h read ask = eqb-true x.kind 9 (rw (ne_eqb x.kind 2 read, ne_eqb x.kind 3 ask) at h)

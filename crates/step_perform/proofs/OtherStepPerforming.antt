@@ -1,8 +1,7 @@
 -- An accepted step x that is not a client's, by its kind: a function that turns the tables t into u does what the decision says.
-use Prim.Native.Nat.{ℕ}
-use mathlib.Core.Bool.{true, false}
-use mathlib.Core.Path.{◌≡◌}
-use Rattle.laws.specs.Choice.{not_both}
+use Rattle.std.proofs.Common.{◌≡◌, ℕ, ◌≤◌, true, leb}
+use borrow.Author.Tests.{leb-true}
+use Rattle.laws.specs.Choice.{and-true}
 use Rattle.protocol.specs.declared.records.Copy.{Copy}
 use Rattle.protocol.specs.declared.records.Request.{Request}
 use Rattle.protocol.specs.declared.setup.Setup.{Setup}
@@ -12,9 +11,9 @@ use Rattle.protocol.specs.Messages.{doubled}
 use Rattle.protocol.specs.Tables.{with_queue}
 use Rattle.protocol.specs.Writes.{settled, write_staged, clock_staged}
 use Rattle.protocol.specs.Server.{server_restarted}
-use Rattle.protocol.specs.Gate.{uses_client, known}
+use Rattle.protocol.specs.Gate.{known}
 use Rattle.protocol.specs.Decide.{uncounted, counting, taken, performed}
-use Rattle.protocol.proofs.Soundness.StepCases.{by_kind, clock_performed, write_performed, lose_performed, double_performed, server_performed}
+use Rattle.protocol.proofs.Soundness.StepCases.{clock_performed, write_performed, lose_performed, double_performed, server_performed}
 
 module _ (s : Setup) (c : Copy) (r : Request) (x : Step) (t u : Tables) where
   pub by_clock : (n : ℕ) → x.kind ≡ 1 → record { count = n; tables = u } ≡ settled s (clock_staged s t x.clock)
@@ -34,15 +33,7 @@ module _ (s : Setup) (c : Copy) (r : Request) (x : Step) (t u : Tables) where
   pub by_restart_server : x.kind ≡ 8 → u ≡ server_restarted s t → counting (uncounted u) ≡ performed s t c r x
   by_restart_server k e = rw (server_performed s t c r x k, e)
 
--- the only kind left once the others are ruled out
-module _ (x : Step) (p : uses_client x ≡ false) where
-  abbrev Not : ℕ → Type 0
-  Not k = x.kind ≡ k → ⊥
-
-  no_client : {A : Type 0} → uses_client x ≡ true → A
-  no_client h = not_both h p
-
-  pub last_of_no_client : known x ≡ true → Not 5 → (((Unit {0} × Not 1) × Not 4) × Not 6) × Not 7 → x.kind ≡ 8
-  last_of_no_client e d n =
-      by_kind (x.kind ≡ 8) x e (λ k. absurd (n.0.0.0.1 k)) (λ k. no_client (rw k)) (λ k. no_client (rw k)) (λ k. absurd (n.0.0.1 k))
-      (λ k. absurd (d k)) (λ k. absurd (n.0.1 k)) (λ k. absurd (n.1 k)) (λ k. k) (λ k. no_client (rw k))
+-- a kind of 01 is 1 to 9
+pub known_bounds : (x : Step) → known x ≡ true → (1 ≤ x.kind) × (x.kind ≤ 9)
+unfolding known
+known_bounds x e = let b = and-true (leb 1 x.kind) (leb x.kind 9) e in (leb-true 1 x.kind b.0, leb-true x.kind 9 b.1)

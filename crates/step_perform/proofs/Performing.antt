@@ -9,14 +9,12 @@ use Rattle.protocol.specs.declared.records.Copy.{Copy}
 use Rattle.protocol.specs.declared.records.Request.{Request}
 use Rattle.protocol.specs.declared.setup.Setup.{Setup}
 use Rattle.protocol.specs.declared.step.Answer.{Answer}
-use Rattle.protocol.specs.declared.step.Answer.TheVariants.{Done, Shown, AskFirst}
-use Rattle.protocol.specs.declared.step.Change.{Change}
+use Rattle.protocol.specs.declared.step.Answer.TheVariants.{Shown, AskFirst}
 use Rattle.protocol.specs.declared.step.Step.{Step}
 use Rattle.protocol.specs.declared.tables.Tables.{Tables}
 use Rattle.protocol.specs.Client.{showable}
-use Rattle.protocol.specs.Answers.{completed_answer}
 use Rattle.protocol.specs.Gate.{is_ask, uses_client, growable, refusal_of_step}
-use Rattle.protocol.specs.Decide.{kept, answered, counting, read_decided, deliver_decided, performed}
+use Rattle.protocol.specs.Decide.{kept, answered, read_decided, deliver_decided, performed}
 use Rattle.protocol.proofs.Soundness.StepCases.{read_performed, deliver_performed}
 use Rattle.step_verdict.specs.declared.Verdict.{Verdict}
 use Rattle.state_words.specs.View.{tables_of, numbers_of}
@@ -42,23 +40,11 @@ module _ (s : Setup) (c : Copy) (r : Request) (x : Step) where
   by_read v w y k f = rw (f, read_performed s (tables_of w y) c r x k) (reads s w y c x.client x.object)
 
   module _ (t u : Tables) where
-    -- ---- a client's step
-
-    pub by_client_law : (v : Verdict) (g : Change) → v ≡ record { change = g; answer = Done } → answered g u Done ≡ performed s t c r x
-        → answered v.change u v.answer ≡ performed s t c r x
-    by_client_law v g f e = rw f e
-
     -- ---- a delivery, which concerns server and client
 
     pub by_deliver : (v : Verdict) → x.kind ≡ 5 → answered v.change u v.answer ≡ deliver_decided s t c r x.place
         → answered v.change u v.answer ≡ performed s t c r x
     by_deliver v k e = rw (deliver_performed s t c r x k) e
-
-    -- ---- a step that is not a client's
-
-    pub by_count : (v : Verdict) (n : ℕ) → v ≡ record { change = kept; answer = completed_answer n } → counting (record { count = n; tables = u }) ≡ performed s t c r x
-        → answered v.change u v.answer ≡ performed s t c r x
-    by_count v n f e = rw f e
 
 module _ (x : Step) (p : uses_client x ≡ false) where
   not_asked : is_ask x ≡ false

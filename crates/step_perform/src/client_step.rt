@@ -6,6 +6,7 @@ ghost use Rattle.protocol.specs.Gate.{uses_client, refusal_of_step};
 ghost use Rattle.protocol.specs.Decide.{answered, performed};
 ghost use Rattle.state_words.specs.View.{tables_of, records_of};
 
+use known_kinds::StepKind;
 use protocol::records::{Copy, Request};
 use protocol::setup::Setup;
 use protocol::step::{Change, CopyChange, Step, Sweep, Turn};
@@ -49,10 +50,15 @@ pub fn of_client(
     ensures values_after { answered result (tables_of words.new values.new) Done ≡ performed setup (tables_of words.old values.old) c r step }
     ensures values_unchanged { records_of words.new values.new ≡ records_of words.old values.old }
 {
-    if step.kind == known_kinds::ASK {
-        client_steps::ask(setup, words, values, c, r, step.client, step.object);
-        return asking(step.object);
+    match StepKind::try_from(step.kind) {
+        Ok(StepKind::Ask) => {
+            client_steps::ask(setup, words, values, c, r, step.client, step.object);
+            asking(step.object)
+        }
+        Ok(StepKind::RestartClient) => {
+            client_steps::restart(setup, words, &*values, step.client);
+            restarting()
+        }
+        _ => unreachable!(),
     }
-    client_steps::restart(setup, words, &*values, step.client);
-    restarting()
 }

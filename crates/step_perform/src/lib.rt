@@ -11,6 +11,9 @@ ghost use Rattle.protocol.specs.Gate.{refusal_of_step};
 ghost use Rattle.protocol.specs.Decide.{kept, answered, read_decided, performed};
 ghost use Rattle.state_words.specs.View.{tables_of, numbers_of, records_of};
 
+use crate::client_step::of_client;
+use crate::other_step::of_no_client;
+use known_kinds::StepKind;
 use protocol::records::{Copy, Request};
 use protocol::setup::Setup;
 use protocol::step::Step;
@@ -42,16 +45,14 @@ pub fn perform(
     ensures answer_after { answered result.change (tables_of words.new values.new) result.answer ≡ performed setup (tables_of words.old values.old) c r step }
     ensures values_unchanged { records_of words.new values.new ≡ records_of words.old values.old }
 {
-    if step.kind == known_kinds::READ {
-        return read(setup, &*words, c, step);
+    match StepKind::try_from(step.kind) {
+        Ok(StepKind::Read) => read(setup, &*words, c, step),
+        Ok(StepKind::Ask | StepKind::RestartClient) => {
+            step_verdict::changing(of_client(setup, words, values, c, r, step))
+        }
+        Ok(StepKind::Deliver) => {
+            step_deliver::deliver(setup, words, values, c, r, step.place as usize)
+        }
+        _ => step_verdict::counting(of_no_client(setup, words, values, step)),
     }
-    if known_kinds::uses_client(step) {
-        return step_verdict::changing(crate::client_step::of_client(
-            setup, words, values, c, r, step,
-        ));
-    }
-    if step.kind == known_kinds::DELIVER {
-        return step_deliver::deliver(setup, words, values, c, r, step.place as usize);
-    }
-    step_verdict::counting(crate::other_step::of_no_client(setup, words, values, step))
 }

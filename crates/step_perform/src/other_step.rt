@@ -8,6 +8,7 @@ ghost use Rattle.protocol.specs.Gate.{uses_client, refusal_of_step};
 ghost use Rattle.protocol.specs.Decide.{counting, performed};
 ghost use Rattle.state_words.specs.View.{tables_of, records_of};
 
+use known_kinds::StepKind;
 use network_queue::doubling::double;
 use network_queue::removal::remove;
 use protocol::setup::Setup;
@@ -26,27 +27,24 @@ pub fn of_no_client(setup: Setup, words: &mut Words, values: &mut Values, step: 
     ensures values_after { (c : Copy) (r : Request) → counting (record { count = result; tables = tables_of words.new values.new }) ≡ performed setup (tables_of words.old values.old) c r step }
     ensures values_unchanged { records_of words.new values.new ≡ records_of words.old values.old }
 {
-    let kind = step.kind;
-    match kind {
-        known_kinds::CLOCK => settle::pass_time(setup, words, values, step.clock),
-        known_kinds::WRITE => server_write::accept::accept_write(
-            setup,
-            words,
-            values,
-            step.object as usize,
-            step.value,
-        ),
-        known_kinds::LOSE => {
+    match StepKind::try_from(step.kind) {
+        Ok(StepKind::Clock) => settle::pass_time(setup, words, values, step.clock),
+        Ok(StepKind::Write) => {
+            let o = step.object as usize;
+            server_write::accept::accept_write(setup, words, values, o, step.value)
+        }
+        Ok(StepKind::Lose) => {
             remove(words, values, step.place as usize);
             0
         }
-        known_kinds::DOUBLE => {
+        Ok(StepKind::Double) => {
             double(words, values, step.place as usize);
             0
         }
-        _ => {
+        Ok(StepKind::RestartServer) => {
             server_restart::restart(setup, words, values);
             0
         }
+        _ => unreachable!(),
     }
 }

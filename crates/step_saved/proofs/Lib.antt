@@ -1,3 +1,2 @@
 pub mod Planning
 pub mod Sounding
-pub mod Applying

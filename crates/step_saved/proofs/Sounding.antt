@@ -1,6 +1,7 @@
 -- Question 1 of one saved state.
 -- Letters: s setup, w words, x values, a, b and c what the tests of copies, requests and tables returned.
-use Prim.Native.Nat.{ℕ, ◌+◌, ◌-◌, ◌*◌, ◌≤◌, ◌<◌}
+use Rattle.std.specs.List.{list_all, range_with_len}
+use Prim.Native.Nat.{ℕ, zero, suc, ◌+◌, ◌*◌, ◌≤◌}
 use native.Mathlib.Omega.{arith}
 use mathlib.Core.Bool.{Bool, true, false, ◌&&◌}
 use mathlib.Core.List.{List}
@@ -9,10 +10,9 @@ use lib.Dec.{eqb}
 use lib.ListN.{length, get_or, take, length-take}
 use lib.Seq.{get_or-take}
 use borrow.Author.Tests.{eq-eqb, ne_eqb}
-use Rattle.laws.specs.Loop.{all_from, all_by, all_same}
+use Rattle.laws.specs.Loop.{all_from, all_same}
 use Rattle.laws.specs.Tabulate.{length_tabulate}
 use Rattle.protocol.specs.declared.records.Copy.{Copy}
-use Rattle.protocol.specs.declared.records.Request.{Request}
 use Rattle.protocol.specs.declared.setup.Setup.{Setup}
 use Rattle.protocol.proofs.Ranges.{ranges}
 use Rattle.protocol.specs.Setup.{in_range}
@@ -29,16 +29,11 @@ and_assoc : (a b c : Bool) → (a && b && c) ≡ ((a && b) && c)
 and_assoc true b c = refl
 and_assoc false b c = refl
 
--- one more copy, and one more request
-pub copy_again : (l : List Copy) (N j : ℕ) (ok r A : Bool) (c : Copy) → j < N → c ≡ get_or l j no_copy → r ≡ time_fits c.expiry
-    → (ok && all_from (λ (k : ℕ). time_fits (get_or l k no_copy).expiry) j (N - j)) ≡ A
-    → (ok && r && all_from (λ (k : ℕ). time_fits (get_or l k no_copy).expiry) (j + 1) (N - (j + 1))) ≡ A
-copy_again l N j ok r A c h e f = all_by _ N j ok r A h (f ∙ ap (λ (c : Copy). time_fits c.expiry) e)
-
-pub request_again : (s : Setup) (l : List Request) (N j : ℕ) (ok b A : Bool) (r : Request) → j < N → r ≡ get_or l j no_request → b ≡ request_sound s r
-    → (ok && all_from (λ (d : ℕ). request_sound s (get_or l d no_request)) j (N - j)) ≡ A
-    → (ok && b && all_from (λ (d : ℕ). request_sound s (get_or l d no_request)) (j + 1) (N - (j + 1))) ≡ A
-request_again s l N j ok b A r h e f = all_by _ N j ok b A h (f ∙ ap (request_sound s) e)
+-- a test of all numbers of a range
+pub all_listed : (p : ℕ → Bool) (j n : ℕ) → list_all p (range_with_len j n) ≡ all_from p j n
+unfolding all_from
+all_listed p j zero = refl
+all_listed p j (suc n) = ap (λ (b : Bool). p j && b) (all_listed p (j + 1) n)
 
 -- a test of the first n of a list is the test of them in the whole list
 first_ones : {A : Type 0} (p : A → Bool) (d : A) (l : List A) (n : ℕ) → n ≤ length l

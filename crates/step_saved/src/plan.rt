@@ -1,16 +1,17 @@
 // Plans a save or a return, once the step of 01 was asked: 01's kinds are done then, and a save or a return was refused for its kind, or with 1.
 ghost use Rattle.std.specs.Prelude.{◌*◌, ◌≡◌};
-ghost use Rattle.step_saved.specs.Plan.{by_one, passed, staying, saving, returning, name_plan, plan_of};
+ghost use Rattle.step_saved.specs.Plan.{by_one, act_by_name, staying, saving, returning, name_plan, plan_of};
 
+use known_kinds::StepKind;
+use protocol::refusal::Refusal;
 use protocol::setup::Setup;
 use protocol::step::{Answer, Step};
 use saved_states::is_saved;
 use state_words::saved::{NAMES, SavedWords};
 
-// What is to be done to the states: nothing, to save the present one under a name, or to return to the one under a name.
+// What is to be done to the states: to save the present one under a name, or to return to the one under a name.
 #[derive(Clone, Copy)]
 pub enum Act {
-    Keep,
     Save(usize),
     Return(usize),
 }
@@ -18,7 +19,7 @@ pub enum Act {
 // What is left to do of a step: how many of the lent records go into the words before the act, how many come from there after it, and the answer.
 #[derive(Clone, Copy)]
 pub struct Plan {
-    pub act: Act,
+    pub act: Option<Act>,
     pub copies_saved: usize,
     pub requests_saved: usize,
     pub copies_restored: usize,
@@ -26,35 +27,11 @@ pub struct Plan {
     pub answer: Answer,
 }
 
-// Returns the step to ask the rules of 01, or one of no kind if a saved state is unsound: that one changes nothing.
-pub fn inner(kept: bool, step: Step) -> Step
-    ensures { result ≡ passed kept step }
-{
-    if kept {
-        return step;
-    }
-    Step {
-        kind: 0,
-        client: 0,
-        object: 0,
-        place: 0,
-        clock: 0,
-        value: 0,
-    }
-}
-
 // Returns whether the answer is a refusal with 1.
 fn by_one(answer: Answer) -> bool
     ensures { result ≡ by_one answer }
 {
-    match answer {
-        Answer::Refused(number) => number == 1,
-        Answer::Done => false,
-        Answer::Shown(_) => false,
-        Answer::AskFirst => false,
-        Answer::Completed(_) => false,
-        Answer::Delivered(_, _) => false,
-    }
+    matches!(answer, Answer::Refused(1))
 }
 
 // Returns the plan of a step that saves nothing and returns to nothing.
@@ -62,7 +39,7 @@ fn staying(answer: Answer) -> Plan
     ensures { result ≡ staying answer }
 {
     Plan {
-        act: Act::Keep,
+        act: None,
         copies_saved: 0,
         requests_saved: 0,
         copies_restored: 0,
@@ -85,7 +62,7 @@ fn saving(setup: Setup, name: usize) -> Plan
     ensures { result ≡ saving setup name }
 {
     Plan {
-        act: Act::Save(name),
+        act: Some(Act::Save(name)),
         copies_saved: all_copies(setup),
         requests_saved: setup.clients as usize,
         copies_restored: 0,
@@ -99,7 +76,7 @@ fn returning(setup: Setup, name: usize) -> Plan
     ensures { result ≡ returning setup name }
 {
     Plan {
-        act: Act::Return(name),
+        act: Some(Act::Return(name)),
         copies_saved: 0,
         requests_saved: 0,
         copies_restored: all_copies(setup),
@@ -108,35 +85,39 @@ fn returning(setup: Setup, name: usize) -> Plan
     }
 }
 
-// Returns the plan of a save or a return on sound states: "11 when the name is above 3 or, for a return, was never saved".
-fn by_name(setup: Setup, saved: &SavedWords, step: Step) -> Plan
-    ensures { result ≡ name_plan setup saved.now step }
+// Returns what a save or a return on sound states does: "11 when the name is above 3 or, for a return, was never saved".
+pub fn act_by_name(saved: &SavedWords, step: Step) -> Result<Act, Refusal>
+    ensures { result ≡ act_by_name saved.now step }
 {
     let name = step.place as usize;
     if name < NAMES {
-        if step.kind == known_kinds::SAVE {
-            return saving(setup, name);
+        if StepKind::try_from(step.kind) == Ok(StepKind::Save) {
+            return Ok(Act::Save(name));
         }
         if is_saved(saved, name) {
-            return returning(setup, name);
+            return Ok(Act::Return(name));
         }
-        return staying(Answer::Refused(11));
     }
-    staying(Answer::Refused(11))
+    Err(Refusal::Name)
 }
 
-// Returns the plan of a step whose answer by the rules of 01 is `answer`; `kept` says whether all saved states are sound.
-pub fn planned(setup: Setup, kept: bool, answer: Answer, saved: &SavedWords, step: Step) -> Plan
-    ensures { result ≡ plan_of setup kept answer saved.now step }
+// Returns the plan of a save or a return on sound states.
+fn by_name(setup: Setup, saved: &SavedWords, step: Step) -> Plan
+    ensures { result ≡ name_plan setup saved.now step }
 {
-    if kept {
-        if known_kinds::uses_name(step) {
-            if by_one(answer) {
-                return staying(answer);
-            }
-            return by_name(setup, saved, step);
-        }
-        return staying(answer);
+    match act_by_name(saved, step) {
+        Ok(Act::Save(name)) => saving(setup, name),
+        Ok(Act::Return(name)) => returning(setup, name),
+        Err(why) => staying(Answer::Refused(u8::from(why))),
     }
-    staying(Answer::Refused(1))
+}
+
+// Returns the plan of a step whose answer by the rules of 01 is `answer`; all saved states are sound.
+pub fn planned(setup: Setup, answer: Answer, saved: &SavedWords, step: Step) -> Plan
+    ensures { result ≡ plan_of setup answer saved.now step }
+{
+    if known_kinds::uses_name(step) & !by_one(answer) {
+        return by_name(setup, saved, step);
+    }
+    staying(answer)
 }

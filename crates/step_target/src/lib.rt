@@ -6,6 +6,7 @@ ghost use Rattle.protocol.specs.Messages.{object_of};
 ghost use Rattle.protocol.specs.World.{target_at, target};
 ghost use Rattle.state_words.specs.View.{tables_of};
 
+use known_kinds::StepKind;
 use network_queue::list;
 use protocol::message::Kind;
 use protocol::setup::Setup;
@@ -17,32 +18,11 @@ fn object_of(k: Kind) -> u8
     ensures { result ≡ object_of k }
 {
     match k {
-        Kind::Renew {
-            object,
-            number: _,
-            epoch: _,
-            version: _,
-        } => object,
-        Kind::Grant {
-            object,
-            number: _,
-            volume_expiry: _,
-            epoch: _,
-            version: _,
-            object_expiry: _,
-            payload: _,
-        } => object,
-        Kind::Invalidate {
-            object,
-            epoch: _,
-            version: _,
-        } => object,
-        Kind::Ack {
-            object,
-            epoch: _,
-            version: _,
-        } => object,
-        _ => 0,
+        Kind::Renew { object, .. }
+        | Kind::Grant { object, .. }
+        | Kind::Invalidate { object, .. }
+        | Kind::Ack { object, .. } => object,
+        Kind::Offer { .. } | Kind::Dropped { .. } | Kind::Batch { .. } | Kind::Cleared { .. } => 0,
     }
 }
 
@@ -54,7 +34,7 @@ pub fn target_at(setup: Setup, client: u8, object: u8) -> Target
     Target {
         client: client as usize,
         copy: first + object as usize,
-        first: first,
+        first,
     }
 }
 
@@ -62,10 +42,11 @@ pub fn target_at(setup: Setup, client: u8, object: u8) -> Target
 pub fn target<'a>(setup: Setup, words: &'a Words, values: &'a Values, step: Step) -> Target
     ensures { result ≡ target setup (tables_of words.now values.now) step }
 {
-    if step.kind == known_kinds::DELIVER {
-        let m = list::message_at(words, values, step.place as usize);
-        let k = m.kind;
-        return target_at(setup, m.client, object_of(k));
+    match StepKind::try_from(step.kind) {
+        Ok(StepKind::Deliver) => {
+            let m = list::message_at(words, values, step.place as usize);
+            target_at(setup, m.client, object_of(m.kind))
+        }
+        _ => target_at(setup, step.client, step.object),
     }
-    target_at(setup, step.client, step.object)
 }

@@ -1,26 +1,23 @@
+use Rattle.std.proofs.Common.{◌≡◌}
 use Rattle.protocol.proofs.Soundness.StepCases.{passed, client_exists, object_exists}
-use Rattle.step_perform.proofs.ClientStepPerforming.{by_ask, by_restart_client, last_of_client}
+use Rattle.step_perform.proofs.ClientStepPerforming.{by_ask, by_restart_client}
 use Rattle.step_perform.proofs.client_step.of_client.Goals as goal
 
-pub ask-requires : goal.ask-requires
-ask-requires c =
-    let q = passed _ _ _ _ c.requires.step_value in
-    record {
-      setup_value = c.requires.setup_value;
-      client_lt_clients = client_exists q c.requires.step_value_2;
-      object_lt_objects = object_exists q (rw c.if-step-eq-ASK.true);
-    }
+pub ask-requires-clause-client_lt_clients : goal.ask-requires-clause-client_lt_clients
+ask-requires-clause-client_lt_clients c = client_exists (passed _ _ _ _ c.requires.step_value) c.requires.step_value_2
 
-pub returns-then-step-eq-ASK : goal.returns-then-step-eq-ASK
-returns-then-step-eq-ASK c = record { values_after = by_ask _ _ _ _ _ _ _ c.if-step-eq-ASK.true c.ask.ensures.values_after c.asking.ensures; values_unchanged = c.ask.ensures.values_unchanged }
+pub ask-requires-clause-object_lt_objects : goal.ask-requires-clause-object_lt_objects
+ask-requires-clause-object_lt_objects c =
+    let k : c.args.step.kind ≡ 3 = rw c.in-Ok-Ask.field-0-is at c.in-Ok-Ask.ensures in object_exists (passed _ _ _ _ c.requires.step_value) (rw k)
 
-pub restart-requires : goal.restart-requires
-restart-requires c = record { setup_value = c.requires.setup_value; client_lt_clients = client_exists (passed _ _ _ _ c.requires.step_value) c.requires.step_value_2 }
+pub restart-requires-clause-client_lt_clients : goal.restart-requires-clause-client_lt_clients
+restart-requires-clause-client_lt_clients c = client_exists (passed _ _ _ _ c.requires.step_value) c.requires.step_value_2
 
-pub returns : goal.returns
-returns c = record {
-  values_after = by_restart_client _
-      _ _ _ _ _ _ (last_of_client c.args.step c.requires.step_value_2 c.requires.fact c.if-step-eq-ASK.false)
-      c.restart.ensures.values_after c.restarting.ensures;
-  values_unchanged = c.restart.ensures.values_unchanged;
-}
+pub returns-in-Ok-Ask-clause-values_after : goal.returns-in-Ok-Ask-clause-values_after
+returns-in-Ok-Ask-clause-values_after c =
+    by_ask _ _ _ _ _ _ _ (rw c.in-Ok-Ask.field-0-is at c.in-Ok-Ask.ensures) c.ask.ensures.values_after c.asking.ensures
+
+pub returns-in-Ok-RestartClient-clause-values_after : goal.returns-in-Ok-RestartClient-clause-values_after
+returns-in-Ok-RestartClient-clause-values_after c =
+    by_restart_client _ _ _ _ _ _ _ (rw c.in-Ok-RestartClient.field-0-is at c.in-Ok-RestartClient.ensures) c.restart.ensures.values_after
+    c.restarting.ensures

@@ -1,18 +1,26 @@
-use Rattle.step_saved.proofs.Applying.{save_fits, return_fits, kept, saved, returned}
-use borrow.Author.Rules.{rules}
+use Rattle.std.proofs.Common.{◌≡◌, refl, Some, rules}
+use Rattle.step_saved.specs.declared.plan.Act.TheVariants.{Save, Return}
+use Rattle.step_saved.specs.Applied.{Fits, Applied}
 use Rattle.step_saved.proofs.apply.apply.Goals as goal
 
 pub save-requires : goal.save-requires
-save-requires c = search (save_fits, rules)
+unfolding Fits
+save-requires c = let e : c.args.act ≡ Some (Save c.in-Some-Save.name) = search rules in rw e at c.requires
 
 pub restore-requires : goal.restore-requires
-restore-requires c = search (return_fits, rules)
+unfolding Fits
+restore-requires c = let e : c.args.act ≡ Some (Return c.in-Some-Return.name) = search rules in rw e at c.requires
 
-pub returns-in-Keep : goal.returns-in-Keep
-returns-in-Keep c = search kept
+pub returns-in-None : goal.returns-in-None
+unfolding Applied
+returns-in-None c = rw c.in-None.is (record { words = refl; values = refl }, record { words = refl; values = refl })
 
-pub returns-in-Save : goal.returns-in-Save
-returns-in-Save c = search saved
+pub returns-in-Some-Save : goal.returns-in-Some-Save
+unfolding Applied
+returns-in-Some-Save c =
+    let e : c.args.act ≡ Some (Save c.in-Some-Save.name) = search rules in rw e (record { words = refl; values = refl }, c.save.ensures)
 
-pub returns-in-Return : goal.returns-in-Return
-returns-in-Return c = search returned
+pub returns-in-Some-Return : goal.returns-in-Some-Return
+unfolding Applied
+returns-in-Some-Return c =
+    let e : c.args.act ≡ Some (Return c.in-Some-Return.name) = search rules in rw e (c.restore.ensures, record { words = refl; values = refl })

@@ -1,14 +1,11 @@
-use Rattle.step_saved.proofs.Planning.{name_saves, name_returns, name_never, name_above}
+use Rattle.step_saved.proofs.Planning.{plan_by_name}
 use Rattle.step_saved.proofs.plan.by_name.Goals as goal
 
-pub returns-then-step-eq-SAVE : goal.returns-then-step-eq-SAVE
-returns-then-step-eq-SAVE c = search name_saves
+pub returns-in-Ok-Save : goal.returns-in-Ok-Save
+returns-in-Ok-Save c = plan_by_name _ _ _ _ _ (rw c.in-Ok-Save.field-0-is at c.in-Ok-Save.ensures) c.saving.ensures
 
-pub returns-then-is_saved : goal.returns-then-is_saved
-returns-then-is_saved c = search name_returns
+pub returns-in-Ok-Return : goal.returns-in-Ok-Return
+returns-in-Ok-Return c = plan_by_name _ _ _ _ _ (rw c.in-Ok-Return.field-0-is at c.in-Ok-Return.ensures) c.returning.ensures
 
-pub returns-then-name-lt-NAMES : goal.returns-then-name-lt-NAMES
-returns-then-name-lt-NAMES c = search name_never
-
-pub returns : goal.returns
-returns c = search name_above
+pub returns-in-Err : goal.returns-in-Err
+returns-in-Err c = plan_by_name _ _ _ _ _ c.in-Err.ensures (rw c.from.ensures at c.staying.ensures)

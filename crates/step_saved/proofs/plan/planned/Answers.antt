@@ -1,14 +1,12 @@
-use Rattle.step_saved.proofs.Planning.{plan_refused, plan_named, plan_ordinary, plan_unsound}
+use Rattle.std.proofs.Common.{arith}
+use Rattle.std.proofs.lemmas.Grind.{common_steps}
+use Rattle.step_saved.specs.Plan.{plan_of}
 use Rattle.step_saved.proofs.plan.planned.Goals as goal
 
-pub returns-then-by_one : goal.returns-then-by_one
-returns-then-by_one c = search plan_refused
-
-pub returns-then-uses_name : goal.returns-then-uses_name
-returns-then-uses_name c = search plan_named
-
-pub returns-then-kept : goal.returns-then-kept
-returns-then-kept c = search plan_ordinary
+pub returns-then-uses_name-by_one : goal.returns-then-uses_name-by_one
+unfolding plan_of
+returns-then-uses_name-by_one c = grind (arith, common_steps)
 
 pub returns : goal.returns
-returns c = search plan_unsound
+unfolding plan_of
+returns c = grind (arith, common_steps)

@@ -1,4 +1,4 @@
-use Prim.Native.Nat.{ℕ, ◌-◌}
+use Prim.Native.Nat.{ℕ}
 use lib.ListN.{get_or}
 use Rattle.laws.specs.Loop.{Scanning}
 use Rattle.protocol.specs.Sound.{time_fits}
@@ -8,6 +8,3 @@ use Rattle.step_saved.proofs.sound.copies_fit.Given as goal
 
 abbrev pub invariant-loop-k : goal.invariant-loop-k
 invariant-loop-k l = Scanning (λ (k : ℕ). time_fits (get_or (records_of l.words l.values).copies k no_copy).expiry) l.n l.ok l.k
-
-abbrev pub decreases-loop-k : goal.decreases-loop-k
-decreases-loop-k l = l.n - l.k

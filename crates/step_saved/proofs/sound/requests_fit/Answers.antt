@@ -1,21 +1,14 @@
-use Rattle.step_saved.proofs.Sounding.{request_again}
-use native.Mathlib.Nat.{sub-zero}
-use Rattle.laws.specs.Loop.{all_end}
+use Rattle.std.proofs.Common.{◌∙◌, ℕ, Bool, get_or, refl, arith, rules, tests}
+use Rattle.std.proofs.lemmas.Iterator.{YieldsList-from_range}
+use Rattle.std.proofs.lemmas.Iterator.Search.{all_from_yields_List}
+use Rattle.protocol.specs.Sound.{request_sound}
+use Rattle.protocol.specs.Tables.{no_request}
 use Rattle.state_words.specs.View.{requests_of}
-use borrow.Author.Rules.{rules}
+use Rattle.step_saved.proofs.Sounding.{all_listed}
 use Rattle.step_saved.proofs.sound.requests_fit.Goals as goal
 
-pub loop-client-init : goal.loop-client-init
-loop-client-init c = (search rules, rw sub-zero)
-
-pub loop-client-preserved : goal.loop-client-preserved
-loop-client-preserved c =
-    let a = c.args in
-    let taken = c.loop-client-test.true in (
-      search rules,
-      request_again a.setup (requests_of a.words.now) _ _ c.loop-client.ok _ _ _ taken c.request_at.ensures
-          c.request_sound-ok.ensures c.loop-client.invariant.1,
-    )
-
 pub returns : goal.returns
-returns c = search all_end
+returns c =
+    let test : ℕ → Bool = λ (d : ℕ). request_sound c.args.setup (get_or (requests_of c.args.words.now) d no_request) in
+    all_from_yields_List test _ _ _ c.all.ensures.ran (YieldsList-from_range 0 _ c.args.n refl (omega arith)) (λ k b q h. search (rules, tests))
+    ∙ all_listed test 0 c.args.n
