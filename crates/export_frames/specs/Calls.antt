@@ -1,9 +1,9 @@
 -- What a caller from another language gets: 0 or the refusal's number in 01, and the bytes or numbers in what it lent.
-use Rattle.std.specs.Prelude.{ℕ, Bool, cond, ◌&&◌, List, ◌≡◌, leb, length}
+use Rattle.std.specs.Prelude.{ℕ, Bool, cond, ◌&&◌, List, ◌≡◌, Result, Ok, Err, leb, length}
 use Rattle.std.proofs.lemmas.List.Edits.{sets}
+use Rattle.protocol.specs.declared.message.Message.{Message}
+use Rattle.protocol.specs.declared.refusal.Refusal.{Refusal}
 use Rattle.message_fields.specs.declared.Fields.{Fields}
-use Rattle.frame.specs.declared.Decoded.{Decoded}
-use Rattle.frame.specs.declared.Decoded.TheVariants.{Accepted, Refused}
 use Rattle.message_fields.specs.Fields.{fields_of, message_in, sound}
 use Rattle.frame.specs.Frame.{is_frame, message_of, fits, framed, refusal}
 use Rattle.export_frames.specs.Numbers.{numbers_of}
@@ -13,9 +13,9 @@ pub record EncodesFields (f : Fields) (before after : List ℕ) (r : ℕ) : Type
   pub number : r ≡ refusal (sound f && fits before)
   pub bytes : after ≡ cond (sound f) (framed (message_in f) before) before
 
-abbrev pub fields_stored : List ℕ → Decoded → List ℕ
-fields_stored l (Accepted m) = sets l 0 (numbers_of (fields_of m))
-fields_stored l Refused = l
+abbrev pub fields_stored : List ℕ → Result Message Refusal → List ℕ
+fields_stored l (Ok m) = sets l 0 (numbers_of (fields_of m))
+fields_stored l (Err r) = l
 
 -- "a lent output long enough?": for ten numbers.
 abbrev pub has_ten : List ℕ → Bool

@@ -5,21 +5,31 @@ ghost use Rattle.export_frames.specs.Numbers.{numbers_of, fields_from};
 
 use message_fields::Fields;
 
+// Returns the ten fields, in the frame's order.
+// Kept: a function, since Rust takes no `From` between two types of other crates.
+fn numbers_of(f: Fields) -> [u64; 10]
+    ensures { result ≡ numbers_of f }
+{
+    [
+        u64::from(f.kind),
+        u64::from(f.client),
+        u64::from(f.object),
+        u64::from(f.present),
+        u64::from(f.number),
+        u64::from(f.volume_expiry),
+        u64::from(f.epoch),
+        u64::from(f.version),
+        u64::from(f.object_expiry),
+        f.value,
+    ]
+}
+
 // Stores the ten fields in the first ten numbers of the output.
 pub fn store(out: &mut [u64], f: Fields)
     requires { 10 ≤ length out.old }
     ensures { out.new ≡ sets out.old 0 (numbers_of f) }
 {
-    out[0] = f.kind as u64;
-    out[1] = f.client as u64;
-    out[2] = f.object as u64;
-    out[3] = f.present as u64;
-    out[4] = f.number as u64;
-    out[5] = f.volume_expiry as u64;
-    out[6] = f.epoch as u64;
-    out[7] = f.version as u64;
-    out[8] = f.object_expiry as u64;
-    out[9] = f.value;
+    out[..10].copy_from_slice(&numbers_of(f));
 }
 
 // Returns the fields given by a frame's head, its five numbers and its value.

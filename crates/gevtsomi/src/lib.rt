@@ -2,28 +2,55 @@
 // a refused call changes nothing. A slice is two arguments, its address and its length.
 #![tactic(auto)]
 
-ghost use Rattle.std.specs.Prelude.{◌≡◌};
-ghost use Rattle.bytes_layout.specs.Report.{report_number};
-ghost use Rattle.export_parts.specs.Lent.{setup_lent, steps_lent};
-ghost use Rattle.gevtsomi.specs.Calls.{length_after, Lists, WritesFile, WritesWorkload, explained_number, reason_after, event_after, TellsWhy};
+ghost use Rattle.std.specs.Prelude.{◌≡◌, length};
+ghost use Rattle.bytes_layout.specs.Report.{report_number, Reports};
+ghost use Rattle.protocol.specs.Refusals.{refused_by};
+ghost use Rattle.export_parts.specs.Lent.{setup_lent, steps_lent, lent_refusal, lent_file};
+ghost use Rattle.gevtsomi.specs.Calls.{length_after, Lists, WritesFile, workload_refusal, workload_file, WritesWorkload, reason_after, event_after, TellsWhy};
 ghost use Rattle.export_frames.specs.Calls.{EncodesFields, DecodesFields};
 ghost use Rattle.export_frames.specs.Numbers.{fields_from};
 
-use bytes_layout::output::Report;
-use reason::Explanation;
+use promises::reasons::Reason;
+use protocol::refusal::Refusal;
 
 // Returns 0 or the refusal's number; if bytes were written, stores how many.
-fn status_of(report: Report, written: &mut usize) -> u8
+fn status_of(report: Result<usize, Refusal>, written: &mut usize) -> u8
     ensures number { result ≡ report_number report }
     ensures length { written.new ≡ length_after report written.old }
 {
     match report {
-        Report::Written(n) => {
+        Ok(n) => {
             *written = n;
             0
         }
-        Report::Refused(k) => k,
+        Err(refusal) => u8::from(refusal),
     }
+}
+
+// Writes the run file of lent parts. The setup and its range are asked first, then the records, then what the writer asks.
+fn write_lent(note: &[u8], setup: &[u8], records: &[u8], out: &mut [u8]) -> Result<usize, Refusal>
+    ensures { Reports (lent_refusal (length note.now) (setup_lent setup.now) (steps_lent records.now) (length out.old)) (lent_file note.now (setup_lent setup.now) (steps_lent records.now)) out.old out.new result }
+{
+    let setup = export_parts::setup_lent(setup)?;
+    if !setup::in_range(setup) {
+        return Err(Refusal::Setup);
+    }
+    let steps = export_parts::steps_lent(records)?;
+    file_writer::write(note, setup, steps.as_slice(), out)
+}
+
+// Writes the run file of a workload with a lent setup, which is asked first.
+fn workload_lent(
+    seed: u32,
+    note: &[u8],
+    setup: &[u8],
+    count: u32,
+    out: &mut [u8],
+) -> Result<usize, Refusal>
+    ensures { Reports (workload_refusal (length note.now) (setup_lent setup.now) count (length out.old)) (workload_file seed note.now (setup_lent setup.now) count) out.old out.new result }
+{
+    let setup = export_parts::setup_lent(setup)?;
+    workload::write(seed, note, setup, count, out)
 }
 
 // Writes the listing of a run file at the start of the output, and stores its length. Returns 9 for bytes that are not a run file, 8 for an output
@@ -48,11 +75,7 @@ pub extern "C" fn gevtsomi_write(
 ) -> u8
     ensures { WritesFile note.now (setup_lent setup.now) (steps_lent records.now) out.old out.new written.old written.new result }
 {
-    let steps = export_parts::steps_lent(records);
-    status_of(
-        file_writer::write(note, export_parts::setup_lent(setup), steps, out),
-        written,
-    )
+    status_of(write_lent(note, setup, records, out), written)
 }
 
 // Writes the run file of the first `count` steps of a seed at the start of the output, and stores its length. Returns 7 for bytes that are not a setup
@@ -68,10 +91,7 @@ pub extern "C" fn gevtsomi_workload(
 ) -> u8
     ensures { WritesWorkload seed note.now (setup_lent setup.now) count out.old out.new written.old written.new result }
 {
-    status_of(
-        workload::write(seed, note, export_parts::setup_lent(setup), count, out),
-        written,
-    )
+    status_of(workload_lent(seed, note, setup, count, out), written)
 }
 
 // Writes the frame of the message with these fields, which are in the frame's order; those that its kind lacks must be 0. Returns 8 for fields that no
@@ -96,19 +116,24 @@ pub extern "C" fn gevtsomi_decode(frame: &[u8], fields: &mut [u64]) -> u8
     export_frames::decode(frame, fields)
 }
 
-// Returns 0 or the refusal's number; if a reason was given, stores it and the step of its event.
-fn tell(explanation: Explanation, reason: &mut u8, event: &mut u32) -> u8
-    ensures number { result ≡ explained_number explanation }
+// Returns 0 or the refusal's number. If the run was read, stores the reason and the step of its event, which are both 0 where there is none.
+fn tell(explanation: Result<Option<Reason>, Refusal>, reason: &mut u8, event: &mut u32) -> u8
+    ensures number { result ≡ refused_by explanation }
     ensures reason { reason.new ≡ reason_after explanation reason.old }
     ensures event { event.new ≡ event_after explanation event.old }
 {
     match explanation {
-        Explanation::Given(r) => {
-            *reason = r.why;
+        Ok(Some(r)) => {
+            *reason = u8::from(r.why);
             *event = r.step;
             0
         }
-        Explanation::Refused(k) => k,
+        Ok(None) => {
+            *reason = 0;
+            *event = 0;
+            0
+        }
+        Err(no) => u8::from(no),
     }
 }
 

@@ -23,9 +23,9 @@ pub fn write_numbers(out: &mut [u8], at: usize, step: u64, number: u64, value: u
     requires { at + 63 ≤ length out.old }
     ensures { Written out.old out.new at (line step number value) result }
 {
-    let second = listing_decimal::write_field(out, at, step, 32);
-    let third = listing_decimal::write_field(out, second, number, 32);
-    listing_decimal::write_field(out, third, value, 10)
+    let second = listing_decimal::write_field(out, at, step, b' ');
+    let third = listing_decimal::write_field(out, second, number, b' ');
+    listing_decimal::write_field(out, third, value, b'\n')
 }
 
 // Writes the line of a step and its answer: "then a line a step".

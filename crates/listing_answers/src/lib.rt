@@ -10,10 +10,7 @@ use protocol::step::Answer;
 fn done_or_completed(n: u32) -> u64
     ensures { result ≡ done_or_completed n }
 {
-    if n == 0 {
-        return 0;
-    }
-    3
+    if n == 0 { 0 } else { 3 }
 }
 
 // Returns the answer's number: "0 done, 1 shown, 2 ask first, 3 at least one write completed, .. 4 refused".
@@ -24,8 +21,7 @@ pub fn number_of(answer: Answer) -> u64
         Answer::Done => 0,
         Answer::Shown(_) => 1,
         Answer::AskFirst => 2,
-        Answer::Completed(n) => done_or_completed(n),
-        Answer::Delivered(_, n) => done_or_completed(n),
+        Answer::Completed(n) | Answer::Delivered(_, n) => done_or_completed(n),
         Answer::Refused(_) => 4,
     }
 }
@@ -35,11 +31,9 @@ pub fn value_of(answer: Answer) -> u64
     ensures { result ≡ answer_value answer }
 {
     match answer {
-        Answer::Done => 0,
+        Answer::Done | Answer::AskFirst => 0,
         Answer::Shown(value) => value,
-        Answer::AskFirst => 0,
-        Answer::Completed(n) => n as u64,
-        Answer::Delivered(_, n) => n as u64,
-        Answer::Refused(k) => k as u64,
+        Answer::Completed(n) | Answer::Delivered(_, n) => u64::from(n),
+        Answer::Refused(k) => u64::from(k),
     }
 }

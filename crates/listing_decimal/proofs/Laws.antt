@@ -1,30 +1,34 @@
 -- Lemmas cited by the function proofs: each derives a postcondition or a loop invariant from the facts of one path or iteration.
-use Prim.Native.Nat.{ℕ, suc, ◌+◌, ◌-◌, ◌/◌, ◌<◌, ◌≤◌}
+use Prim.Native.Nat.{ℕ, zero, suc, ◌+◌, ◌-◌, ◌*◌, ◌/◌, ◌^◌, ◌<◌, ◌≤◌}
+use Rattle.std.specs.Prelude.{Option, None, Some, IfNone, IfSome, unwrap_or}
+use Rattle.std.proofs.Common.{ap}
+use Rattle.std.proofs.Math.Nat.{pow-succ', one-le-pow}
 use native.Mathlib.Omega.{arith}
 use mathlib.Core.List.{List, [], ◌∷◌}
 use mathlib.Core.Path.{◌≡◌, refl, ◌∙◌}
 use lib.ListN.{length, set, length-set}
 use lib.Seq.{sets}
 use borrow.Author.Tests.{lt-ltb, le-ltb}
-use Rattle.laws.specs.Loop.{left_more, left_none}
 use Rattle.bytes_layout.proofs.Number.{sets_then}
 use Rattle.listing_decimal.specs.Decimal.{digit, digits, further, width, decimal, field, length_digits, length_decimal, decimal_short}
 use Rattle.bytes_layout.specs.Written.{Written}
 use Rattle.bytes_layout.proofs.Written.{written_then, sets_past}
 
--- ---- the loop that counts digits
-module _ (y w A : ℕ) where
-  pub digits_end : 20 ≤ w → w + further (20 - w) y ≡ A → w ≡ A
-  unfolding further
-  digits_end h e = omega (arith, rw (left_none 20 w h) at e)
+-- ---- the number of digits
+pub further_is : (most k n : ℕ) → k ≤ most → 10 ^ k ≤ n → n < 10 * 10 ^ k → further most n ≡ k
+unfolding further
+further_is zero k n h a b = omega arith
+further_is (suc most) zero n h a b = rw (lt-ltb n 10 (omega (arith, b)))
+further_is (suc most) (suc k) n h a b =
+    let e : 10 ^ suc k ≡ 10 * 10 ^ k = pow-succ' 10 k in
+    let p : 1 ≤ 10 ^ k = one-le-pow k 10 (omega arith) in
+    rw (le-ltb n 10 (omega arith)) (ap suc (further_is most k (n / 10) (omega arith) (omega arith) (omega arith)))
 
-  pub digits_stop : w < 20 → y < 10 → w + further (20 - w) y ≡ A → w ≡ A
-  unfolding further
-  digits_stop h k e = omega (arith, rw (left_more 20 w h, lt-ltb y 10 k) at e)
-
-  pub digits_again : w < 20 → 10 ≤ y → w + further (20 - w) y ≡ A → w + 1 + further (20 - (w + 1)) (y / 10) ≡ A
-  unfolding further
-  digits_again h k e = omega (arith, rw (left_more 20 w h, le-ltb y 10 k) at e)
+pub width_is : (n : ℕ) (k : Option ℕ) → IfNone k (n ≡ 0) → IfSome k (λ j. 10 ^ j ≤ n) → IfSome k (λ j. n < 10 * 10 ^ j) → IfSome k (λ j. j < 20)
+    → unwrap_or k 0 + 1 ≡ width n
+unfolding further
+width_is n None z a b c = rw z refl
+width_is n (Some j) z a b c = rw (further_is 19 j n (omega (arith, c)) a b) (omega arith)
 
 -- ---- the loop that writes digits, the last one first
 module _ (l : List ℕ) (p y : ℕ) where

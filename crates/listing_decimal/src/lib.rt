@@ -9,23 +9,14 @@ ghost use Rattle.bytes_layout.specs.Written.{Written};
 fn width(number: u64) -> usize
     ensures { result ≡ width number }
 {
-    let mut left = number;
-    let mut digits = 1;
-    while digits < 20 {
-        if left < 10 {
-            return digits;
-        }
-        left = left / 10;
-        digits += 1;
-    }
-    digits
+    number.checked_ilog10().unwrap_or(0) as usize + 1
 }
 
 // Returns the last digit as an ASCII byte.
 fn digit(number: u64) -> u8
     ensures { result ≡ digit number }
 {
-    48 + (number % 10) as u8
+    b'0' + (number % 10) as u8
 }
 
 // Writes the digits, the last one first: "Numbers are decimal".
@@ -34,10 +25,8 @@ fn write_number(out: &mut [u8], at: usize, number: u64) -> usize
     ensures { Written out.old out.new at (decimal number) result }
 {
     let n = width(number);
-    let mut left = n;
     let mut higher = number;
-    while 0 < left {
-        left -= 1;
+    for left in (0..n).rev() {
         out[at + left] = digit(higher);
         higher = higher / 10;
     }

@@ -1,6 +1,6 @@
 -- A run that is followed up to a read: after k steps, the machine is the one that they leave, and the last events are those of its lines.
 -- Letters: s setup, xs the steps of the run, x the next one, q the machine, r the next one, a the answer, d client, o object, ls the last events, n a number of a step.
-use Rattle.std.specs.Prelude.{ℕ, ◌+◌, ◌-◌, ◌<◌, true, false, List, [], ◌∷◌, ◌++◌, ◌≡◌, refl, ltb, leb, length, get_or, take}
+use Rattle.std.specs.Prelude.{ℕ, ◌+◌, ◌-◌, ◌<◌, true, false, List, [], ◌∷◌, ◌++◌, ◌≡◌, refl, ltb, leb, length, get_or, take, Option, None, Some}
 use Rattle.std.proofs.Common.{arith, add-one, sym, ap, ◌∙◌, length-take-le, take-suc}
 use Rattle.std.proofs.Math.Bool.{cond}
 use Rattle.std.proofs.Math.Logic.{⊎_elim}
@@ -26,7 +26,7 @@ use Rattle.promises.specs.Reasons.Events.{latest, last_of}
 use Rattle.promises.specs.Reasons.ByAnswer.{event_by}
 use Rattle.promises.specs.Reasons.Lasts.{no_events, NameKnown, followed, Follows}
 use Rattle.promises.proofs.ReasonsLaws.Lasts.{moved_snoc, name_known, follows_on, follows_start}
-use Rattle.promises.specs.Reasons.Reason.{no_step, chosen, met_by, line_before, asks_first, is_ask_first, no_reason, reason_by, reason_of}
+use Rattle.promises.specs.Reasons.Reason.{no_step, chosen, met_by, line_before, asks_first, is_ask_first, reason_by, reason_of}
 use Rattle.promises.proofs.ReasonsLaws.Explains.{reading}
 use Rattle.reason.specs.Explained.{reads_in, if_asked}
 
@@ -38,12 +38,12 @@ module _ (s : Setup) (i : in_range s ≡ true) (xs : List Step) (n : ℕ) where
       let r = reading s i xs n a in
       both_true (and-true (is_read (chosen xs n)) _ (and-true (leb 1 n) _ a).1).0 (both_true (lt-ltb _ _ r.client) (lt-ltb _ _ r.object))
 
-  pub none_unread : reads_in s (chosen xs n) ≡ false → no_reason ≡ reason_of s xs n
+  pub none_unread : reads_in s (chosen xs n) ≡ false → None ≡ reason_of s xs n
   unfolding reason_of
   none_unread h = ⊎_elim (λ a. not_both (reads a) h) (λ a. rw a) (true_or_false (asks_first s xs n))
 
 -- steps count from 1
-pub none_first : (s : Setup) (xs : List Step) → no_reason ≡ reason_of s xs 0
+pub none_first : (s : Setup) (xs : List Step) → None ≡ reason_of s xs 0
 unfolding reason_of asks_first
 none_first s xs = refl
 
@@ -101,7 +101,7 @@ module _ (s : Setup) (xs : List Step) (read : Step) where
 
           pub follow_ends : (a : Answer) → a ≡ answer_to s q read → (r : Reason) → r ≡ reason_by s q.now d o ls.now → if_asked a r ≡ reason_of s xs (k + 1)
           unfolding reason_of
-          follow_ends a p r w = rw (p, w) (sym ((λ j. cond (asked j) (told j) no_reason)))
+          follow_ends a p r w = rw (p, w) (sym ((λ j. cond (asked j) (Some (told j)) None)))
 
         -- the next step
         module _ (x : Step) (e : x ≡ get_or xs k no_step) where
@@ -117,7 +117,7 @@ module _ (s : Setup) (xs : List Step) (read : Step) where
 
           module _ (a : Answer) (r : Machine) (f : Called s q x a r) where
             pub follow_again : (t : Request) → t ≡ request_at q.now.requests d → (c c' : Copy) → c ≡ copy_at s q.now.copies d o → c' ≡ copy_at s r.now.copies d o
-                → (v : Event) → v ≡ event_by d o t c c' x a → (m : Last) → m ≡ latest ls.now (k + 1) v → (ls' : Lasts) → ls' ≡ followed ls (act_of m x a)
+                → (v : Option Event) → v ≡ event_by d o t c c' x a → (m : Option Last) → m ≡ latest ls.now (k + 1) v → (ls' : Lasts) → ls' ≡ followed ls (act_of m x a)
                 → Following r ls' (k + 1)
             follow_again t te c c' ce ce' v ve m me ls' lse = record {
               ran = rw (grown, moved_snoc s (fresh_machine s) (take k xs) x, ← g.ran) f.moves;

@@ -2,34 +2,22 @@
 ghost use Rattle.std.specs.Prelude.{◌<◌, true, ◌≡◌};
 ghost use Rattle.protocol.specs.Setup.{in_range};
 ghost use Rattle.state_words.specs.View.{world_of};
-ghost use Rattle.promises.specs.Reasons.Reason.{no_reason, view_until, why_by, reason_by};
+ghost use Rattle.promises.specs.Reasons.Reason.{view_until, why_by, reason_by};
 
 use lease_tests::place;
-use promises::reasons::{Event, Last, Reason};
+use promises::reasons::{Event, Last, Reason, Why};
 use protocol::setup::Setup;
-use protocol::step::{Step, Target};
+use protocol::step::Step;
 use setup::limits::VOLUMES;
 use state_words::{Values, Words, client};
 
-// Returns the reason of a step that is not a read answered "ask first".
-pub fn no_reason() -> Reason
-    ensures { result ≡ no_reason }
-{
-    Reason { why: 0, step: 0 }
-}
-
-// Returns the number of the reason: "After a grant, the earlier of the dash's two expiries at the read decides, the volume on a tie."
-fn why_by(view: u32, copy: u32, event: Event) -> u8
+// Returns why, after an event: "After a grant, the earlier of the dash's two expiries at the read decides, the volume on a tie."
+fn why_by(view: u32, copy: u32, event: Event) -> Why
     ensures { result ≡ why_by view copy event }
 {
     match event {
-        Event::Nothing => 1,
-        Event::Granted => {
-            if view <= copy {
-                return 5;
-            }
-            6
-        }
+        Event::Granted if view <= copy => Why::VolumeLeaseRanOut,
+        Event::Granted => Why::ObjectLeaseRanOut,
         Event::Erased(why) => why,
     }
 }
@@ -51,19 +39,26 @@ pub fn reason_by<'a>(
     words: &'a Words,
     values: &'a Values,
     read: Step,
-    last: Last,
+    last: Option<Last>,
 ) -> Reason
     requires setup_value { in_range setup ≡ true }
     requires client_lt_clients { read.client < setup.clients }
     requires object_lt_objects { read.object < setup.objects }
     ensures { result ≡ reason_by setup (world_of setup words.now values.now) read.client read.object last }
 {
-    let at = step_target::target_at(setup, read.client, read.object);
-    let copy = client_apply::copy_of(setup, words, values, at);
-    let view = view_until(setup, words, values, read);
-    let event = last.event;
-    Reason {
-        why: why_by(view, copy.expiry, event),
-        step: last.step,
+    match last {
+        None => Reason {
+            why: Why::NeverGranted,
+            step: 0,
+        },
+        Some(Last { event, step }) => {
+            let at = step_target::target_at(setup, read.client, read.object);
+            let copy = client_apply::copy_of(setup, words, values, at);
+            let view = view_until(setup, words, values, read);
+            Reason {
+                why: why_by(view, copy.expiry, event),
+                step,
+            }
+        }
     }
 }

@@ -4,7 +4,7 @@ ghost use Rattle.file_reader.specs.Steps.{steps_of};
 ghost use Rattle.promises.specs.Reasons.Reason.{reason_of};
 ghost use Rattle.reason.specs.Explained.{Chosen, if_asked};
 
-use crate::given::{no_reason, reason_by};
+use crate::given::reason_by;
 use client_apply::{copy_of, request_of};
 use file_reader::Contents;
 use file_records::sizes;
@@ -14,22 +14,19 @@ use reason_events::{event, follow, latest};
 use state_words::saved::NAMES;
 use state_words::{VALUES, WORDS};
 
-// what `listing_answers::number_of` returns for "ask first"
-const ASK_FIRST: u64 = 2;
-
 // Returns the reason if the read was answered "ask first".
-fn if_asked(answer: Answer, reason: Reason) -> Reason
+fn if_asked(answer: Answer, reason: Reason) -> Option<Reason>
     ensures { result ≡ if_asked answer reason }
 {
-    if listing_answers::number_of(answer) == ASK_FIRST {
-        return reason;
+    match answer {
+        Answer::AskFirst => Some(reason),
+        _ => None,
     }
-    no_reason()
 }
 
 // Runs the first `count` steps of an accepted file, then the read, which is the step after them. The place in the file runs along: "keep a running place
 // and add 16 after each". Returns the read's reason.
-pub fn run_until(file: &[u8], c: Contents, count: u32, read: Step) -> Reason
+pub fn run_until(file: &[u8], c: Contents, count: u32, read: Step) -> Option<Reason>
     requires { Chosen file.now c count read }
     ensures { result ≡ reason_of c.setup (steps_of file.now) (count + 1) }
 {
@@ -42,8 +39,7 @@ pub fn run_until(file: &[u8], c: Contents, count: u32, read: Step) -> Reason
     let at = step_target::target_at(s, read.client, read.object);
     let mut lasts = reason_events::no_events();
     let mut place = c.first;
-    let mut k = 0;
-    while k < count {
+    for k in 0..count {
         let step = file_reader::step_at(file, place);
         let request = request_of(s, &words, &values, at);
         let before = copy_of(s, &words, &values, at);
@@ -59,7 +55,6 @@ pub fn run_until(file: &[u8], c: Contents, count: u32, read: Step) -> Reason
         let e = event(read, request, before, after, step, answer);
         lasts = follow(lasts, latest(lasts.now, k + 1, e), step, answer);
         place += sizes::STEP;
-        k += 1;
     }
     let reason = reason_by(s, &words, &values, read, lasts.now);
     let answer = run_saved::advance(

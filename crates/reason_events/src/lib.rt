@@ -6,19 +6,17 @@ ghost use Rattle.std.specs.Prelude.{◌<◌, ◌≡◌};
 ghost use Rattle.laws.specs.Line as line;
 ghost use Rattle.protocol.specs.Saved.{names};
 ghost use Rattle.protocol.specs.Line.{act_of};
-ghost use Rattle.promises.specs.Reasons.Events.{is_grant, went_to_zero, vanished, receipt_cause, no_event, latest};
+ghost use Rattle.promises.specs.Reasons.Events.{is_grant, went_to_zero, vanished, receipt_cause, latest};
 ghost use Rattle.promises.specs.Reasons.ByAnswer.{granted_by, cause_by, event_by};
 ghost use Rattle.promises.specs.Reasons.Lasts.{no_events, NameKnown, followed};
 
 use client_cache::request;
-use promises::reasons::{Event, Last, Lasts};
+use known_kinds::StepKind;
+use promises::reasons::{Event, Last, Lasts, Why};
 use protocol::message::Kind;
 use protocol::records::{Copy, Request};
 use protocol::step::{Answer, Step};
 use state_words::saved::NAMES;
-
-// what `listing_answers::number_of` returns for a refusal
-const REFUSED: u64 = 4;
 
 // Returns whether the message is a GRANT for the object that the client stores: one that has the standing number.
 fn is_grant(r: Request, object: u8, k: Kind) -> bool
@@ -28,11 +26,7 @@ fn is_grant(r: Request, object: u8, k: Kind) -> bool
         Kind::Grant {
             object: granted,
             number,
-            volume_expiry: _,
-            epoch: _,
-            version: _,
-            object_expiry: _,
-            payload: _,
+            ..
         } => (granted == object) & request::stands(r, number),
         _ => false,
     }
@@ -43,10 +37,7 @@ fn granted(r: Request, client: u8, object: u8, answer: Answer) -> bool
     ensures { result ≡ granted_by r client object answer }
 {
     match answer {
-        Answer::Delivered(m, _) => {
-            let k = m.kind;
-            (m.client == client) & is_grant(r, object, k)
-        }
+        Answer::Delivered(m, _) => (m.client == client) & is_grant(r, object, m.kind),
         _ => false,
     }
 }
@@ -59,6 +50,7 @@ fn went_to_zero(before: u32, after: u32) -> bool
 }
 
 // Returns whether the copy was erased: "the copy's version or expiry went from nonzero to 0".
+#[tactic(auto, unfolding(promises::specs::Reasons::Events::vanished))]
 fn vanished(before: Copy, after: Copy) -> bool
     ensures { result ≡ vanished before after }
 {
@@ -66,83 +58,60 @@ fn vanished(before: Copy, after: Copy) -> bool
 }
 
 // Returns the reason that a message is for an erased copy: 2 for an INVALIDATE, 3 for an OFFER or a BATCH. No other message erases one.
-fn receipt_cause(k: Kind) -> u8
+fn receipt_cause(k: Kind) -> Why
     ensures { result ≡ receipt_cause k }
 {
     match k {
-        Kind::Invalidate {
-            object: _,
-            epoch: _,
-            version: _,
-        } => 2,
-        Kind::Offer {
-            volume: _,
-            number: _,
-            epoch: _,
-        } => 3,
-        Kind::Batch {
-            volume: _,
-            number: _,
-            epoch: _,
-            set: _,
-        } => 3,
-        _ => 0,
+        Kind::Invalidate { .. } => Why::CopyInvalidated,
+        Kind::Offer { .. } | Kind::Batch { .. } => Why::LeasesDropped,
+        _ => Why::NoCause,
     }
 }
 
 // Returns the reason that a step is for an erased copy: "copy invalidated, leases dropped on an offer or batch, dash restarted", 2 to 4.
-fn cause(step: Step, answer: Answer) -> u8
+fn cause(step: Step, answer: Answer) -> Why
     ensures { result ≡ cause_by step answer }
 {
-    if step.kind == known_kinds::RESTART_CLIENT {
-        return 4;
+    if step.kind == u8::from(StepKind::RestartClient) {
+        return Why::ClientRestarted;
     }
     match answer {
-        Answer::Delivered(m, _) => {
-            let k = m.kind;
-            receipt_cause(k)
-        }
-        _ => 0,
+        Answer::Delivered(m, _) => receipt_cause(m.kind),
+        _ => Why::NoCause,
     }
 }
 
-// Returns what the step did to the copy that `read` is about.
-pub fn event(read: Step, r: Request, before: Copy, after: Copy, step: Step, answer: Answer) -> Event
+// Returns what the step did to the copy that `read` is about, if anything.
+#[tactic(auto, unfolding(promises::specs::Reasons::ByAnswer::event_by))]
+pub fn event(
+    read: Step,
+    r: Request,
+    before: Copy,
+    after: Copy,
+    step: Step,
+    answer: Answer,
+) -> Option<Event>
     ensures { result ≡ event_by read.client read.object r before after step answer }
 {
     if granted(r, read.client, read.object, answer) {
-        return Event::Granted;
+        return Some(Event::Granted);
     }
     if vanished(before, after) {
-        return Event::Erased(cause(step, answer));
+        return Some(Event::Erased(cause(step, answer)));
     }
-    Event::Nothing
+    None
 }
 
 // Returns the last event after a step: that step's, if it has one.
-pub fn latest(last: Last, number: u32, event: Event) -> Last
+pub fn latest(last: Option<Last>, number: u32, event: Option<Event>) -> Option<Last>
     ensures { result ≡ latest last number event }
 {
     match event {
-        Event::Nothing => last,
-        Event::Granted => Last {
-            event: Event::Granted,
+        Some(event) => Some(Last {
+            event,
             step: number,
-        },
-        Event::Erased(why) => Last {
-            event: Event::Erased(why),
-            step: number,
-        },
-    }
-}
-
-// Returns the last event where there was none yet.
-fn none() -> Last
-    ensures { result ≡ no_event }
-{
-    Last {
-        event: Event::Nothing,
-        step: 0,
+        }),
+        None => last,
     }
 }
 
@@ -151,8 +120,8 @@ pub fn no_events() -> Lasts
     ensures { result ≡ no_events }
 {
     Lasts {
-        now: none(),
-        saved: [none(); NAMES],
+        now: None,
+        saved: [None; NAMES],
     }
 }
 
@@ -161,8 +130,7 @@ fn save(k: Lasts, name: usize) -> Lasts
     requires { name < names }
     ensures { result ≡ followed k (line.save name) }
 {
-    let now = k.now;
-    let mut saved = k.saved;
+    let Lasts { now, mut saved } = k;
     saved[name] = now;
     Lasts { now, saved }
 }
@@ -172,27 +140,26 @@ fn restore(k: Lasts, name: usize) -> Lasts
     requires { name < names }
     ensures { result ≡ followed k (line.back name) }
 {
-    let saved = k.saved;
     Lasts {
-        now: saved[name],
-        saved,
+        now: k.saved[name],
+        ..k
     }
 }
 
 // Returns the last events after a step: `next` for the present state, or what a save or a return makes of them. One that was accepted has a name below 4.
-pub fn follow(k: Lasts, next: Last, step: Step, answer: Answer) -> Lasts
+pub fn follow(k: Lasts, next: Option<Last>, step: Step, answer: Answer) -> Lasts
     requires { NameKnown step answer }
     ensures { result ≡ followed k (act_of next step answer) }
 {
-    if known_kinds::uses_name(step) {
-        if listing_answers::number_of(answer) == REFUSED {
-            return k;
-        }
-        if step.kind == known_kinds::SAVE {
-            return save(k, step.place as usize);
-        }
-        return restore(k, step.place as usize);
+    if !known_kinds::uses_name(step) {
+        return Lasts { now: next, ..k };
     }
-    let saved = k.saved;
-    Lasts { now: next, saved }
+    if matches!(answer, Answer::Refused(_)) {
+        return k;
+    }
+    let name = usize::from(step.place);
+    if step.kind == u8::from(StepKind::Save) {
+        return save(k, name);
+    }
+    restore(k, name)
 }

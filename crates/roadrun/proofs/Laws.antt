@@ -1,5 +1,5 @@
 -- Lemmas cited by the function proofs: each derives a postcondition from the facts of one path.
-use Rattle.std.specs.Prelude.{ℕ, Option, Bool, ◌+◌, ◌<◌, ◌≤◌, true, false, List, ◌++◌, ◌≡◌, None, Some, IfSome, eqb, leb, length, take, drop}
+use Rattle.std.specs.Prelude.{ℕ, Option, ◌+◌, ◌<◌, ◌≤◌, true, false, List, ◌++◌, ◌≡◌, None, Some, IfSome, eqb, leb, length, take, drop}
 use Rattle.std.proofs.Common.{arith, ⊎_elim, sym, ap, ◌∙◌, subst, leb-true, leb-false, length-append, length-take-le}
 use Rattle.std.proofs.KnownBytes.{Consumes-whole}
 use Rattle.std.proofs.lemmas.List.Edits.{sets-eq}
@@ -10,23 +10,23 @@ use Rattle.file_shape.specs.Shape.{well_formed}
 use Rattle.file_shape.specs.Parts.{formed_parts}
 use Rattle.listing.specs.Listing.{refused_listing}
 use Rattle.bytes_layout.specs.Written.{Written}
-use Rattle.bytes_layout.specs.declared.output.Report.{Report}
-use Rattle.bytes_layout.specs.declared.output.Report.TheVariants as report
+use Rattle.std.specs.Prelude.{Result, Ok, Err}
+use Rattle.protocol.specs.declared.refusal.Refusal.{Refusal}
 use Rattle.bytes_layout.specs.Report.{Reports}
 use Rattle.bytes_layout.proofs.Report.{written_all, refused_none}
 use Rattle.run.specs.Listed.{file_listing, list_refusal, listing_fits, listed_all, listed_formed}
 use Rattle.roadrun.specs.Printed.{printed, printed_short}
 
 -- ---- the result of `list` with an output that holds any listing
-module _ (file before after : List ℕ) (r : Report) (room : 112640 ≤ length before) (d : Reports (list_refusal file (length before)) (file_listing file) before after r) where
-  pub print_listed : (n : ℕ) → r ≡ report.Written n → Written before after 0 (printed file) n
+module _ (file before after : List ℕ) (r : Result ℕ Refusal) (room : 112640 ≤ length before) (d : Reports (list_refusal file (length before)) (file_listing file) before after r) where
+  pub print_listed : (n : ℕ) → r ≡ Ok n → Written before after 0 (printed file) n
   unfolding printed
   print_listed n h =
       let w = written_all _ _ _ _ _ d n h in
       let t = listed_formed file (length before) w.0 in
       rw t (record { next = omega (arith, w.1.0); bytes = record { stored = w.1.1; long = ap length w.1.1 ∙ length-sets before 0 (file_listing file) } })
 
-  pub print_refused : (k n : ℕ) (last : List ℕ) → r ≡ report.Refused k → Written after last 0 refused_listing n → Written before last 0 (printed file) n
+  pub print_refused : (k : Refusal) (n : ℕ) (last : List ℕ) → r ≡ Err k → Written after last 0 refused_listing n → Written before last 0 (printed file) n
   unfolding printed
   print_refused k n last h w = ⊎_elim yes no (true_or_false (well_formed file))
     where

@@ -11,6 +11,7 @@ pub fn read<R: Read>(reader: &mut R, file: &mut [u8]) -> io::Result<usize>
     ensures bytes { IfOk result (λ n. Consumes (R.remaining reader.old) (R.remaining reader.new) (take n file.new)) }
     ensures end { IfOk result (λ n. n < length file.new → IsAtEnd (R.remaining reader.new)) }
 {
+    // Kept: each read moves the index by as many bytes as it gives, so no iterator counts it.
     let mut n = 0;
     while n < file.len() {
         let more = reader.read(&mut file[n..])?;

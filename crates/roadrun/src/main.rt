@@ -12,7 +12,6 @@ ghost use Rattle.listing.specs.Listing.{LONGEST};
 ghost use Rattle.roadrun.specs.Failed.{IfUnread};
 ghost use Rattle.roadrun.specs.Printed.{printed};
 
-use bytes_layout::output::Report;
 use failure::Failure;
 use std::io::{Read, Write};
 use std::process::ExitCode;
@@ -24,8 +23,8 @@ fn print(file: &[u8], out: &mut [u8]) -> usize
     ensures { Written out.old out.new 0 (printed file.now) result }
 {
     match run::list(file, out) {
-        Report::Written(n) => n,
-        Report::Refused(_) => listing::write_refused(out, 0),
+        Ok(n) => n,
+        Err(_) => listing::write_refused(out, 0),
     }
 }
 

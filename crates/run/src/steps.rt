@@ -13,13 +13,11 @@ use state_words::{VALUES, WORDS};
 // one left them". Nothing is saved to begin with. Writes one line per step to the output from `at` on, which has room for them. The place in the file runs
 // along, whether or not a step is refused: "keep a running place and add 16 after each". Returns the output offset after the last line.
 pub fn run_steps(file: &[u8], c: Contents, out: &mut [u8], at: usize) -> usize
-    requires c_value { c ≡ contents_of file.now }
-    requires refusal_value { c.refusal ≡ 0 }
+    requires c_value { Ok c ≡ contents_of file.now }
     requires count_in_bounds { at + 28 * c.count + 63 ≤ length out.old }
     ensures { Written out.old out.new at (lines_of c.setup file.now) result }
 {
     let s = c.setup;
-    let count = c.count;
     let mut words = [0; WORDS];
     let mut values = [0; VALUES];
     let mut saved = [[0; WORDS]; NAMES];
@@ -27,8 +25,7 @@ pub fn run_steps(file: &[u8], c: Contents, out: &mut [u8], at: usize) -> usize
     state_words::fresh::fresh(&mut words, &mut values);
     let mut place = c.first;
     let mut next = at;
-    let mut k = 0;
-    while k < count {
+    for k in 0..c.count {
         let step = file_reader::step_at(file, place);
         let answer = run_saved::advance(
             s,
@@ -38,9 +35,8 @@ pub fn run_steps(file: &[u8], c: Contents, out: &mut [u8], at: usize) -> usize
             &mut saved_values,
             step,
         );
-        next = listing::write_line(out, next, (k + 1) as u64, answer);
+        next = listing::write_line(out, next, u64::from(k + 1), answer);
         place += sizes::STEP;
-        k += 1;
     }
     next
 }

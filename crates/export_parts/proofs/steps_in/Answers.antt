@@ -1,11 +1,13 @@
-use Rattle.export_parts.proofs.Laws.{reading_none, record_there, reading_again, reading_end}
+use Rattle.laws.specs.Tabulate.{tabulate}
+use Rattle.export_parts.proofs.Laws.{room_there, reading_again, reading_end}
 use Rattle.export_parts.proofs.steps_in.Goals as goal
 
 pub loop-k-init : goal.loop-k-init
-loop-k-init c = search reading_none
+unfolding tabulate
+loop-k-init c = c.new-steps.ensures
 
-pub step_in-step-requires : goal.step_in-step-requires
-step_in-step-requires c = search record_there
+pub push-requires : goal.push-requires
+push-requires c = search room_there
 
 pub loop-k-preserved : goal.loop-k-preserved
 loop-k-preserved c = search reading_again

@@ -1,9 +1,7 @@
-use Prim.Native.Nat.{◌-◌}
-use Rattle.export_parts.proofs.Laws.{Reading}
+use Rattle.std.proofs.Common.{◌≡◌}
+use Rattle.laws.specs.Tabulate.{tabulate}
+use Rattle.export_parts.specs.Lent.{step_lent}
 use Rattle.export_parts.proofs.steps_in.Given as goal
 
 abbrev pub invariant-loop-k : goal.invariant-loop-k
-invariant-loop-k l = Reading l.records l.count l.steps l.place l.k
-
-abbrev pub decreases-loop-k : goal.decreases-loop-k
-decreases-loop-k l = l.count - l.k
+invariant-loop-k l = l.steps ≡ tabulate (step_lent l.records) 0 l.k

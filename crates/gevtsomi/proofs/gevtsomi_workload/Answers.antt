@@ -1,5 +1,5 @@
-use Rattle.gevtsomi.proofs.Laws.{workload_told}
+use Rattle.gevtsomi.proofs.Laws.{told_all}
 use Rattle.gevtsomi.proofs.gevtsomi_workload.Goals as goal
 
 pub returns : goal.returns
-returns c = search workload_told
+returns c = search told_all

@@ -1,5 +1,5 @@
-use Rattle.gevtsomi.proofs.Laws.{file_told}
+use Rattle.gevtsomi.proofs.Laws.{told_all}
 use Rattle.gevtsomi.proofs.gevtsomi_write.Goals as goal
 
 pub returns : goal.returns
-returns c = search file_told
+returns c = search told_all

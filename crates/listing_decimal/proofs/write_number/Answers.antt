@@ -7,13 +7,10 @@ use Rattle.listing_decimal.proofs.Laws.{digit_again, digits_written}
 use Rattle.listing_decimal.proofs.write_number.Goals as goal
 
 pub loop-left-init : goal.loop-left-init
-loop-left-init c = (search rules, (omega (arith, further_most 19 c.args.number), (refl, refl)))
-
-pub bounds-out-at : goal.bounds-out-at
-bounds-out-at c = omega arith
+loop-left-init c = (omega (arith, further_most 19 c.args.number), (refl, refl))
 
 pub loop-left-preserved : goal.loop-left-preserved
-loop-left-preserved c = (search rules, (search rules, (simp length-set (search rules), search (digit_again, rules))))
+loop-left-preserved c = (search rules, (simp length-set (search rules), search (digit_again, rules)))
 
 pub returns : goal.returns
 returns c = search digits_written

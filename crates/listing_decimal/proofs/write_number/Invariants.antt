@@ -6,7 +6,4 @@ use Rattle.listing_decimal.specs.Decimal.{digits}
 use Rattle.listing_decimal.proofs.write_number.Given as goal
 
 abbrev pub invariant-loop-left : goal.invariant-loop-left
-invariant-loop-left l = (l.left ≤ l.n) × ((l.n ≤ 20) × ((length l.out ≡ length l.initial.out) × (sets l.out l.at (digits l.left l.higher) ≡ sets l.initial.out l.at (digits l.n l.number))))
-
-abbrev pub decreases-loop-left : goal.decreases-loop-left
-decreases-loop-left l = l.left
+invariant-loop-left l = (l.n ≤ 20) × ((length l.out ≡ length l.initial.out) × (sets l.out l.at (digits l.left l.higher) ≡ sets l.initial.out l.at (digits l.n l.number)))

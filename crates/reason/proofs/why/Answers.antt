@@ -1,8 +1,10 @@
+use Rattle.std.proofs.Common.{arith}
+use Rattle.std.proofs.lemmas.Grind.{common_steps}
 use Rattle.reason.proofs.Laws.{given, refused}
 use Rattle.reason.proofs.why.Goals as goal
 
-pub returns-then-c-eq0 : goal.returns-then-c-eq0
-returns-then-c-eq0 c = search given
+pub returns-in_err-c : goal.returns-in_err-c
+returns-in_err-c c = grind (arith, common_steps, refused)
 
 pub returns : goal.returns
-returns c = search refused
+returns c = grind (arith, common_steps, given)

@@ -4,8 +4,7 @@ use Rattle.run.proofs.print.Goals as goal
 pub run_steps-requires : goal.run_steps-requires
 run_steps-requires c = record {
   c_value = c.requires.c_value;
-  refusal_value = c.requires.refusal_value;
-  count_in_bounds = print_fits _ _ c.requires.c_value c.requires.refusal_value _ _ _ c.write_header-at.ensures c.requires.in_bounds;
+  count_in_bounds = print_fits _ _ c.requires.c_value _ _ _ c.write_header-at.ensures c.requires.in_bounds;
 }
 
 pub returns : goal.returns

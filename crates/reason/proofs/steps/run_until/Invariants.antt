@@ -1,4 +1,3 @@
-use Prim.Native.Nat.{◌-◌, ◌≤◌}
 use mathlib.Core.Path.{◌≡◌}
 use Rattle.state_words.specs.Saved.{machine_of}
 use Rattle.file_shape.specs.Places.{place_before}
@@ -8,9 +7,5 @@ use Rattle.reason.proofs.steps.run_until.Given as goal
 
 abbrev pub invariant-loop-k : goal.invariant-loop-k
 invariant-loop-k l =
-    (l.k ≤ l.count)
-    × ((l.place ≡ place_before l.file l.k)
-    × Following l.s (steps_of l.file) l.read (machine_of l.s l.words l.values l.saved l.saved_values) l.lasts l.k)
-
-abbrev pub decreases-loop-k : goal.decreases-loop-k
-decreases-loop-k l = l.count - l.k
+    (l.place ≡ place_before l.file l.k)
+    × Following l.s (steps_of l.file) l.read (machine_of l.s l.words l.values l.saved l.saved_values) l.lasts l.k

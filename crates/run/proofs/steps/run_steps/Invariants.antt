@@ -1,4 +1,3 @@
-use Prim.Native.Nat.{◌-◌, ◌≤◌}
 use mathlib.Core.Path.{◌≡◌}
 use lib.ListN.{length}
 use Rattle.state_words.specs.Saved.{machine_of}
@@ -8,10 +7,6 @@ use Rattle.run.proofs.steps.run_steps.Given as goal
 
 abbrev pub invariant-loop-k : goal.invariant-loop-k
 invariant-loop-k l =
-    (l.k ≤ l.count)
-    × ((l.place ≡ place_before l.file l.k)
+    (l.place ≡ place_before l.file l.k)
     × ((length l.out ≡ length l.initial.out)
-    × Running l.s l.file l.initial.out l.at (machine_of l.s l.words l.values l.saved l.saved_values) l.out l.next l.k))
-
-abbrev pub decreases-loop-k : goal.decreases-loop-k
-decreases-loop-k l = l.count - l.k
+    × Running l.s l.file l.initial.out l.at (machine_of l.s l.words l.values l.saved l.saved_values) l.out l.next l.k)
