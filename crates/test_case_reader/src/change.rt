@@ -4,15 +4,15 @@ ghost use Rattle.std.specs.Prelude.{◌<◌};
 ghost use Rattle.protocol.specs.Saved.{names};
 
 use crate::Case;
+use crate::states::States;
 use crate::text::{byte, word};
 use protocol::setup::Setup;
 use setup::limits;
-use state_words::saved::{NAMES, SAVED, SavedValues, SavedWords};
-use state_words::{CLIENT_OBJECTS, VALUES, Values, WORDS, Words, client, network, pass, server};
+use state_words::saved::{NAMES, SAVED};
+use state_words::{CLIENT_OBJECTS, Values, Words, client, network, server};
 
 // Returns the case that changes start from: a setup of zeros, and no records lent.
 pub fn none() -> Case {
-    let volume = [0u8; limits::OBJECTS];
     let setup = Setup {
         clients: 0,
         volumes: 0,
@@ -20,7 +20,7 @@ pub fn none() -> Case {
         tv: 0,
         t: 0,
         m: 0,
-        volume,
+        volume: [0; limits::OBJECTS],
         delay: 0,
     };
     Case {
@@ -31,8 +31,7 @@ pub fn none() -> Case {
 }
 
 // Returns the setup with one field changed.
-fn with(setup: Setup, field: u64, place: usize, number: u64) -> Setup {
-    let mut setup = setup;
+fn with(mut setup: Setup, field: u64, place: usize, number: u64) -> Setup {
     match field {
         1 => setup.clients = word(number),
         2 => setup.volumes = word(number),
@@ -57,53 +56,53 @@ fn lending(setup: Setup) -> Case {
     }
 }
 
-// Returns where a field begins in the words, or their length if it is not there.
-fn in_words(field: u64) -> usize {
+// Returns where a field begins in the words, if it is there.
+fn in_words(field: u64) -> Option<usize> {
     match field {
-        10 => network::CLOCK,
-        11 => server::VOLUME_EPOCH,
-        12 => server::VOLUME_EXPIRY,
-        13 => server::GUARD,
-        14 => server::SEEN,
-        15 => server::SESSION_EXPIRY,
-        16 => server::UNREACHABLE,
-        17 => server::OFFER,
-        18 => server::NOTES,
-        19 => server::BATCH,
-        21 => server::VERSION,
-        22 => server::OBJECT_EXPIRY,
-        23 => server::STANDING,
-        25 => server::END,
-        26 => server::LEASE,
-        30 => client::VIEW_EPOCH,
-        31 => client::VIEW_EXPIRY,
-        40 => network::LENGTH,
-        60 => client::COPY_VERSION,
-        62 => client::COPY_EXPIRY,
-        70 => client::REQUEST_NEXT,
-        71 => client::REQUEST_STANDING,
-        72 => client::REQUEST_NUMBER,
-        73 => client::REQUEST_OBJECT,
-        _ => WORDS,
+        10 => Some(network::CLOCK),
+        11 => Some(server::VOLUME_EPOCH),
+        12 => Some(server::VOLUME_EXPIRY),
+        13 => Some(server::GUARD),
+        14 => Some(server::SEEN),
+        15 => Some(server::SESSION_EXPIRY),
+        16 => Some(server::UNREACHABLE),
+        17 => Some(server::OFFER),
+        18 => Some(server::NOTES),
+        19 => Some(server::BATCH),
+        21 => Some(server::VERSION),
+        22 => Some(server::OBJECT_EXPIRY),
+        23 => Some(server::STANDING),
+        25 => Some(server::END),
+        26 => Some(server::LEASE),
+        30 => Some(client::VIEW_EPOCH),
+        31 => Some(client::VIEW_EXPIRY),
+        40 => Some(network::LENGTH),
+        60 => Some(client::COPY_VERSION),
+        62 => Some(client::COPY_EXPIRY),
+        70 => Some(client::REQUEST_NEXT),
+        71 => Some(client::REQUEST_STANDING),
+        72 => Some(client::REQUEST_NUMBER),
+        73 => Some(client::REQUEST_OBJECT),
+        _ => None,
     }
 }
 
-// Returns where a field begins in the values, or their length if it is not there.
-fn in_values(field: u64) -> usize {
+// Returns where a field begins in the values, if it is there.
+fn in_values(field: u64) -> Option<usize> {
     match field {
-        20 => server::VALUE,
-        24 => server::PENDING,
-        50 => network::MESSAGE_VALUE,
-        61 => client::COPY_VALUE,
-        _ => VALUES,
+        20 => Some(server::VALUE),
+        24 => Some(server::PENDING),
+        50 => Some(network::MESSAGE_VALUE),
+        61 => Some(client::COPY_VALUE),
+        _ => None,
     }
 }
 
-// Stores a word, unless its index is past the end.
-fn put(words: &mut Words, from: usize, place: usize, number: u64) {
-    if from < WORDS {
-        if place < WORDS - from {
-            words[from + place] = word(number);
+// Stores an item of the field that begins at `from`, unless its index is past the end.
+fn put<T: Copy>(items: &mut [T], from: usize, place: usize, item: T) {
+    if let Some(i) = from.checked_add(place) {
+        if let Some(slot) = items.get_mut(i) {
+            *slot = item;
         }
     }
 }
@@ -118,123 +117,83 @@ fn put_waiting(words: &mut Words, place: usize, number: u64) {
     }
 }
 
-// Stores a value, unless its index is past the end.
-fn put_value(values: &mut Values, from: usize, place: usize, number: u64) {
-    if from < VALUES {
-        if place < VALUES - from {
-            values[from + place] = number;
-        }
-    }
-}
-
 // Stores a word of a message; fields 41 to 49 are its words in the frame's order.
 fn put_message(words: &mut Words, field: u64, place: usize, number: u64) {
-    if place < limits::PLACES {
-        if 41 <= field {
-            let offset = (field - 41) as usize;
-            if offset < network::ROW {
-                put(
-                    words,
-                    network::MESSAGES,
-                    place * network::ROW + offset,
-                    number,
-                );
-            }
+    if let Some(offset) = field.checked_sub(41) {
+        let offset = offset as usize;
+        if (place < limits::PLACES) & (offset < network::ROW) {
+            words[network::MESSAGES + place * network::ROW + offset] = word(number);
         }
     }
 }
 
 // Applies a change to a state.
 fn change_state(words: &mut Words, values: &mut Values, field: u64, place: usize, number: u64) {
-    if field == 27 {
-        put_waiting(words, place, number);
-        return;
+    match field {
+        27 => put_waiting(words, place, number),
+        41..=49 => put_message(words, field, place, number),
+        _ => {
+            if let Some(from) = in_words(field) {
+                put(words, from, place, word(number));
+            }
+            if let Some(from) = in_values(field) {
+                put(values, from, place, number);
+            }
+        }
     }
-    put(&mut *words, in_words(field), place, number);
-    put_value(&mut *values, in_values(field), place, number);
-    put_message(&mut *words, field, place, number);
 }
 
 // Applies a change to the saved state of a name.
-fn change_saved(
-    saved: &mut SavedWords,
-    saved_values: &mut SavedValues,
-    name: usize,
-    field: u64,
-    place: usize,
-    number: u64,
-)
+fn change_saved(states: &mut States, name: usize, field: u64, place: usize, number: u64)
     requires { name < names }
 {
     if field == 80 {
-        saved[name][SAVED] = pass::word(number != 0);
-        return;
+        states.saved[name][SAVED] = u32::from(number != 0);
+    } else {
+        let mut words = states.saved[name];
+        let mut values = states.saved_values[name];
+        change_state(&mut words, &mut values, field, place, number);
+        states.saved[name] = words;
+        states.saved_values[name] = values;
     }
-    let mut words = saved[name];
-    let mut values = saved_values[name];
-    change_state(&mut words, &mut values, field, place, number);
-    saved[name] = words;
-    saved_values[name] = values;
+}
+
+// Copies the present state to a name.
+fn save(states: &mut States, name: usize)
+    requires { name < names }
+{
+    let words = states.words;
+    let values = states.values;
+    saved_states::save(
+        &words,
+        &values,
+        &mut states.saved,
+        &mut states.saved_values,
+        name,
+    );
 }
 
 // Applies a change to a saved state, unless there is no such name.
-fn change_named(
-    words: &Words,
-    values: &Values,
-    saved: &mut SavedWords,
-    saved_values: &mut SavedValues,
-    field: u64,
-    place: usize,
-    number: u64,
-) {
-    if 100 <= field {
-        let name = (field / 100 - 1) as usize;
+fn change_named(states: &mut States, field: u64, place: usize, number: u64) {
+    if let Some(name) = (field / 100).checked_sub(1) {
+        let name = name as usize;
         if name < NAMES {
-            if field % 100 == 81 {
-                saved_states::save(words, values, saved, saved_values, name);
-                return;
+            match field % 100 {
+                81 => save(states, name),
+                field => change_saved(states, name, field, place, number),
             }
-            change_saved(saved, saved_values, name, field % 100, place, number);
         }
     }
 }
 
 // Applies a change to the setup, to the number of records lent, to the present state, or to a saved one.
-pub fn change(
-    case: Case,
-    words: &mut Words,
-    values: &mut Values,
-    saved: &mut SavedWords,
-    saved_values: &mut SavedValues,
-    field: u64,
-    place: usize,
-    number: u64,
-) -> Case {
-    let mut case = case;
-    if field < 10 {
-        let setup = case.setup;
-        return lending(with(setup, field, place, number));
+pub fn change(mut case: Case, states: &mut States, field: u64, place: usize, number: u64) -> Case {
+    match field {
+        0..=9 => return lending(with(case.setup, field, place, number)),
+        63 => case.copies = number as usize,
+        74 => case.requests = number as usize,
+        10..=99 => change_state(&mut states.words, &mut states.values, field, place, number),
+        _ => change_named(states, field, place, number),
     }
-    if field == 63 {
-        case.copies = number as usize;
-        return case;
-    }
-    if field == 74 {
-        case.requests = number as usize;
-        return case;
-    }
-    if field < 100 {
-        change_state(words, values, field, place, number);
-        return case;
-    }
-    change_named(
-        &*words,
-        &*values,
-        &mut *saved,
-        &mut *saved_values,
-        field,
-        place,
-        number,
-    );
     case
 }

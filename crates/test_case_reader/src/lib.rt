@@ -1,7 +1,9 @@
-// A test case: its setup and the number of records it lends, the text it is read from (`text`), and the changes that make it (`change`).
+// A test case: its setup and the number of records it lends, the text it is read from (`text`), the states it is performed on (`states`), and the changes
+// that make it (`change`).
 #![tactic(auto)]
 
 pub mod change;
+pub mod states;
 pub mod text;
 
 ghost use Rattle.std.specs.Prelude.{◌≤◌};
@@ -20,25 +22,16 @@ pub struct Case {
     pub requests: usize,
 }
 
-fn at_most(most: usize, number: usize) -> usize
-    ensures { result ≤ most }
-{
-    if number < most {
-        return number;
-    }
-    most
-}
-
 // Returns the number of copies that the case lends, at most all that the words hold.
 pub fn copies_lent(case: Case) -> usize
     ensures { result ≤ CLIENT_OBJECTS }
 {
-    at_most(CLIENT_OBJECTS, case.copies)
+    case.copies.min(CLIENT_OBJECTS)
 }
 
 // Returns the number of requests that the case lends, at most one for each client.
 pub fn requests_lent(case: Case) -> usize
     ensures { result ≤ CLIENTS }
 {
-    at_most(CLIENTS, case.requests)
+    case.requests.min(CLIENTS)
 }

@@ -1,6 +1,6 @@
-use frame::{Decoded, Encoded};
 use message_fields::Fields;
 use protocol::message::{Kind, Message};
+use protocol::refusal::Refusal;
 use std::io;
 use test_printing::{bytes, end, last, number};
 
@@ -20,27 +20,27 @@ fn fields(rt: &impl Print, f: Fields) -> io::Result<()> {
     )
 }
 
-fn encoded(rt: &impl Print, r: Encoded) -> io::Result<()> {
+fn encoded(rt: &impl Print, r: Result<(), Refusal>) -> io::Result<()> {
     match r {
-        Encoded::Written => number(rt, 0),
-        Encoded::Refused => number(rt, 8),
+        Ok(()) => number(rt, 0),
+        Err(refusal) => number(rt, u64::from(u8::from(refusal))),
     }
 }
 
 // Prints a message's fields and its frame, encoded in an output of 36 bytes.
 fn again(rt: &impl Print, m: Message) -> io::Result<()> {
-    fields(rt, message_fields::fields_of(m))?;
+    fields(rt, Fields::from(m))?;
     let mut out = [238u8; 36];
     encoded(rt, frame::encode(m, &mut out))?;
     bytes(rt, &out)?;
     end(rt)
 }
 
-// Prints the message that the bytes decode to, or 8.
+// Prints the message that the bytes decode to, or the refusal's number, 8.
 pub fn frame(rt: &impl Print, s: &[u8]) -> io::Result<()> {
     match frame::decode(s) {
-        Decoded::Accepted(m) => again(rt, m),
-        Decoded::Refused => last(rt, 8),
+        Ok(m) => again(rt, m),
+        Err(refusal) => last(rt, u64::from(u8::from(refusal))),
     }
 }
 

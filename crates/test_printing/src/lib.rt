@@ -16,13 +16,9 @@ pub fn last(rt: &impl Print, n: u64) -> io::Result<()> {
     println!(rt; "{n}")
 }
 
-fn byte(rt: &impl Print, b: u8) -> io::Result<()> {
-    print!(rt; "{b:02x}")
-}
-
 pub fn bytes(rt: &impl Print, s: &[u8]) -> io::Result<()> {
     for b in s {
-        byte(rt, *b)?;
+        print!(rt; "{b:02x}")?;
     }
     Ok(())
 }

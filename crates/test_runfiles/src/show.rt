@@ -38,14 +38,24 @@ fn note(rt: &impl Print, s: &[u8]) -> io::Result<()> {
     print!(rt; "] ")
 }
 
-// Prints the refusal, the note, and what else was read.
+// Prints what is read of a file: 0 and its contents, or the refusal's number and zeros.
 pub fn file(rt: &impl Print, f: &[u8]) -> io::Result<()> {
-    let r = file_reader::read(f);
-    number(rt, r.refusal as u64)?;
-    note(rt, file_reader::note(f))?;
-    setup(rt, r.setup)?;
-    number(rt, r.count as u64)?;
-    last(rt, r.first as u64)
+    match file_reader::read(f) {
+        Ok(r) => {
+            number(rt, 0)?;
+            note(rt, file_reader::note(f))?;
+            setup(rt, r.setup)?;
+            number(rt, u64::from(r.count))?;
+            last(rt, r.first as u64)
+        }
+        Err(refusal) => {
+            number(rt, u64::from(u8::from(refusal)))?;
+            note(rt, file_reader::note(f))?;
+            print!(rt; "0 0 0 0 0 0 0 0 0 ")?;
+            number(rt, 0)?;
+            last(rt, 0)
+        }
+    }
 }
 
 // Prints what is read at the trailer's place, where no record fits.
@@ -57,10 +67,9 @@ fn after_last(rt: &impl Print, f: &[u8], place: usize) -> io::Result<()>
 
 // Goes through all records of a file. Prints the first and the last step, and what is read after them, where the trailer begins.
 pub fn steps(rt: &impl Print, f: &[u8]) -> io::Result<()> {
-    let r = file_reader::read(f);
-    if r.refusal != 0 {
+    let Ok(r) = file_reader::read(f) else {
         return Ok(());
-    }
+    };
     let mut place = r.first;
     for k in 0..r.count {
         let x = file_reader::step_at(f, place);

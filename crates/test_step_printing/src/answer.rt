@@ -1,26 +1,24 @@
 // Prints the answer to a step.
-use crate::lines::fields;
+use crate::lines::Row;
+use message_fields::Fields;
 use protocol::message::Message;
 use protocol::step::Answer;
 use std::io;
 
-fn line(rt: &impl Print, answer: u64, value: u64) -> io::Result<()> {
+// Prints the answer's number and value in 01.
+fn line(rt: &impl Print, answer: u8, value: u64) -> io::Result<()> {
     println!(rt; " {answer} {value}")
 }
 
 // Prints done if no write completed, else completed and how many.
 fn completed(rt: &impl Print, writes: u32) -> io::Result<()> {
-    if writes == 0 {
-        line(rt, 0, 0)
-    } else {
-        line(rt, 3, writes as u64)
-    }
+    let answer = if writes == 0 { 0 } else { 3 };
+    line(rt, answer, u64::from(writes))
 }
 
 fn delivered(rt: &impl Print, message: Message, writes: u32) -> io::Result<()> {
     completed(rt, writes)?;
-    print!(rt; "  delivered:")?;
-    fields(rt, message_fields::fields_of(message))
+    println!(rt; "  delivered:{}", Row(Fields::from(message)))
 }
 
 // Prints the case, the answer's number and value in 01, and the message in it.
@@ -32,6 +30,6 @@ pub fn show(rt: &impl Print, id: u64, answer: Answer) -> io::Result<()> {
         Answer::AskFirst => line(rt, 2, 0),
         Answer::Completed(writes) => completed(rt, writes),
         Answer::Delivered(message, writes) => delivered(rt, message, writes),
-        Answer::Refused(question) => line(rt, 4, question as u64),
+        Answer::Refused(question) => line(rt, 4, u64::from(question)),
     }
 }

@@ -2,81 +2,80 @@
 // object, is two numbers.
 ghost use Rattle.std.specs.Prelude.{◌+◌, ◌≤◌, ◌<◌};
 ghost use Rattle.setup.specs.Limits.{SLOTS};
-ghost use Rattle.state_words.specs.Fields.{WORDS, VALUES};
+ghost use Rattle.state_words.specs.Fields.{WORDS};
 
-use crate::lines::{end, number, spaced, text};
-use setup::limits;
-use state_words::{CLIENT_OBJECTS, Values, Words, pass};
-use std::io;
+use crate::lines::Prefix;
+use setup::limits::{SLOTS, VOLUMES};
+use state_words::{CLIENT_OBJECTS, Words};
+use std::{fmt, io};
 
 // How the elements of a field are counted: by one number, by client and volume, or by client and object.
 #[derive(Clone, Copy)]
-pub enum Row {
+pub enum Count {
     One,
     Volumes,
     Objects,
 }
 
-fn place(rt: &impl Print, row: Row, i: usize) -> io::Result<()> {
-    match row {
-        Row::One => spaced(rt, i as u64),
-        Row::Volumes => {
-            spaced(rt, (i / limits::VOLUMES) as u64)?;
-            spaced(rt, (i % limits::VOLUMES) as u64)
-        }
-        Row::Objects => {
-            spaced(rt, (i / limits::SLOTS) as u64)?;
-            spaced(rt, (i % limits::SLOTS) as u64)
+// A field of the tables: its name, how its elements are counted, where it begins and how many there are.
+#[derive(Clone, Copy)]
+pub struct Field {
+    pub name: &'static str,
+    pub by: Count,
+    pub from: usize,
+    pub count: usize,
+}
+
+// A line's subject: an element of a field, as `name place`.
+#[derive(Clone, Copy)]
+struct Element {
+    name: &'static str,
+    by: Count,
+    i: usize,
+}
+
+impl fmt::Display for Element {
+    fn fmt<W: fmt::Write>(&self, f: &mut fmt::Formatter<W>) -> fmt::Result {
+        let i = self.i;
+        f.write_str(self.name)?;
+        match self.by {
+            Count::One => write!(f, " {i}"),
+            Count::Volumes => write!(f, " {} {}", i / VOLUMES, i % VOLUMES),
+            Count::Objects => write!(f, " {} {}", i / SLOTS, i % SLOTS),
         }
     }
 }
 
-fn element(
+// Prints a line if an element changed.
+fn line<T: PartialEq + fmt::Display>(
     rt: &impl Print,
-    prefix: &[u8],
-    name: &[u8],
-    row: Row,
-    i: usize,
-    before: u64,
-    after: u64,
+    prefix: Prefix,
+    element: Element,
+    before: &T,
+    after: &T,
 ) -> io::Result<()> {
     if before == after {
         return Ok(());
     }
-    text(rt, prefix)?;
-    text(rt, name)?;
-    place(rt, row, i)?;
-    number(rt, b": ", after)?;
-    end(rt)
+    println!(rt; "{prefix}{element}: {after}")
 }
 
-fn word(
+// Prints the changes among the elements of a field, in the words or in the values.
+pub fn changes<T: PartialEq + fmt::Display>(
     rt: &impl Print,
-    prefix: &[u8],
-    name: &[u8],
-    row: Row,
-    i: usize,
-    before: u32,
-    after: u32,
+    prefix: Prefix,
+    field: &Field,
+    before: &[T],
+    after: &[T],
 ) -> io::Result<()> {
-    element(rt, prefix, name, row, i, before as u64, after as u64)
-}
-
-// Prints the changes among `count` words from `from` on.
-pub fn words(
-    rt: &impl Print,
-    prefix: &[u8],
-    name: &[u8],
-    row: Row,
-    from: usize,
-    count: usize,
-    before: &Words,
-    after: &Words,
-) -> io::Result<()>
-    requires { from + count ≤ WORDS }
-{
-    for i in 0..count {
-        word(rt, prefix, name, row, i, before[from + i], after[from + i])?;
+    let pairs = before.iter().zip(after).skip(field.from).take(field.count);
+    for (i, (old, new)) in pairs.enumerate() {
+        let place = Element {
+            name: field.name,
+            by: field.by,
+            i,
+        };
+        line(rt, prefix, place, old, new)?;
     }
     Ok(())
 }
@@ -84,14 +83,14 @@ pub fn words(
 fn member(set: u32, client: usize) -> u32
     requires { client < 32 }
 {
-    pass::word(sets::has(set, client))
+    u32::from(sets::has(set, client))
 }
 
 // Prints the changes among the clients in the sets from `from` on, one per object.
 pub fn members(
     rt: &impl Print,
-    prefix: &[u8],
-    name: &[u8],
+    prefix: Prefix,
+    name: &'static str,
     from: usize,
     before: &Words,
     after: &Words,
@@ -99,42 +98,16 @@ pub fn members(
     requires { from + SLOTS ≤ WORDS }
 {
     for i in 0..CLIENT_OBJECTS {
-        let object = from + i % limits::SLOTS;
-        let client = i / limits::SLOTS;
-        word(
-            rt,
-            prefix,
+        let object = from + i % SLOTS;
+        let client = i / SLOTS;
+        let old = member(before[object], client);
+        let new = member(after[object], client);
+        let place = Element {
             name,
-            Row::Objects,
+            by: Count::Objects,
             i,
-            member(before[object], client),
-            member(after[object], client),
-        )?;
-    }
-    Ok(())
-}
-
-// Prints the changes among the values from `from` on, one per object.
-pub fn values(
-    rt: &impl Print,
-    prefix: &[u8],
-    name: &[u8],
-    from: usize,
-    before: &Values,
-    after: &Values,
-) -> io::Result<()>
-    requires { from + SLOTS ≤ VALUES }
-{
-    for i in 0..limits::SLOTS {
-        element(
-            rt,
-            prefix,
-            name,
-            Row::One,
-            i,
-            before[from + i],
-            after[from + i],
-        )?;
+        };
+        line(rt, prefix, place, &old, &new)?;
     }
     Ok(())
 }

@@ -1,36 +1,40 @@
-// Prints the pieces of lines.
+// The pieces of lines.
 use message_fields::Fields;
-use std::io;
+use std::fmt;
 
-pub fn text(rt: &impl Print, bytes: &[u8]) -> io::Result<()> {
-    rt.write_all(bytes)
+// What a line about a state begins with.
+#[derive(Clone, Copy)]
+pub enum Prefix {
+    Present,
+    // the state under this name
+    Saved(usize),
 }
 
-// Prints a number with words before it.
-pub fn number(rt: &impl Print, words: &[u8], value: u64) -> io::Result<()> {
-    text(rt, words)?;
-    print!(rt; "{value}")
+impl fmt::Display for Prefix {
+    fn fmt<W: fmt::Write>(&self, f: &mut fmt::Formatter<W>) -> fmt::Result {
+        match self {
+            Prefix::Present => f.write_str("  "),
+            Prefix::Saved(name) => write!(f, "  saved {name} "),
+        }
+    }
 }
 
-pub fn spaced(rt: &impl Print, value: u64) -> io::Result<()> {
-    number(rt, b" ", value)
-}
+// A message's ten fields, in the frame's order, each after a space.
+#[derive(Clone, Copy)]
+pub struct Row(pub Fields);
 
-pub fn end(rt: &impl Print) -> io::Result<()> {
-    println!(rt)
-}
-
-// Prints a message's ten fields, in the frame's order.
-pub fn fields(rt: &impl Print, message: Fields) -> io::Result<()> {
-    spaced(rt, message.kind as u64)?;
-    spaced(rt, message.client as u64)?;
-    spaced(rt, message.object as u64)?;
-    spaced(rt, message.present as u64)?;
-    spaced(rt, message.number as u64)?;
-    spaced(rt, message.volume_expiry as u64)?;
-    spaced(rt, message.epoch as u64)?;
-    spaced(rt, message.version as u64)?;
-    spaced(rt, message.object_expiry as u64)?;
-    spaced(rt, message.value)?;
-    end(rt)
+impl fmt::Display for Row {
+    fn fmt<W: fmt::Write>(&self, f: &mut fmt::Formatter<W>) -> fmt::Result {
+        let m = self.0;
+        write!(
+            f,
+            " {} {} {} {} {}",
+            m.kind, m.client, m.object, m.present, m.number
+        )?;
+        write!(
+            f,
+            " {} {} {} {} {}",
+            m.volume_expiry, m.epoch, m.version, m.object_expiry, m.value
+        )
+    }
 }

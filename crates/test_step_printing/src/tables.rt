@@ -1,209 +1,118 @@
 // Prints a line for each element of the tables that a step changed.
-use crate::elements::{Row, members, values, words};
-use crate::lines::{end, number, text};
+ghost use Rattle.std.specs.Prelude.{◌<◌};
+ghost use Rattle.state_words.specs.Fields.{WORDS};
+
+use crate::elements::{Count, Field, changes, members};
+use crate::lines::Prefix;
 use setup::limits::{CLIENTS, SLOTS, VOLUMES};
-use state_words::{CLIENT_OBJECTS, CLIENT_VOLUMES, Values, Words, client, server};
+use state_words::{CLIENT_OBJECTS, CLIENT_VOLUMES, client, server};
 use std::io;
+use test_case_reader::states::State;
 
 // Prints a single number if it changed.
-pub fn one(rt: &impl Print, prefix: &[u8], name: &[u8], before: u32, after: u32) -> io::Result<()> {
-    if before == after {
+pub fn one(
+    rt: &impl Print,
+    prefix: Prefix,
+    name: &str,
+    at: usize,
+    before: State,
+    after: State,
+) -> io::Result<()>
+    requires { at < WORDS }
+{
+    let number = after.words[at];
+    if before.words[at] == number {
         return Ok(());
     }
-    text(rt, prefix)?;
-    number(rt, name, after as u64)?;
-    end(rt)
+    println!(rt; "{prefix}{name}: {number}")
 }
 
-pub fn volumes(rt: &impl Print, prefix: &[u8], before: &Words, after: &Words) -> io::Result<()> {
-    words(
-        rt,
-        prefix,
-        b"epoch",
-        Row::One,
-        server::VOLUME_EPOCH,
-        VOLUMES,
-        before,
-        after,
-    )?;
-    words(
-        rt,
-        prefix,
-        b"VE",
-        Row::One,
-        server::VOLUME_EXPIRY,
-        VOLUMES,
-        before,
-        after,
-    )?;
-    words(
-        rt,
-        prefix,
-        b"guard",
-        Row::One,
-        server::GUARD,
-        VOLUMES,
-        before,
-        after,
-    )?;
-    words(
-        rt,
-        prefix,
-        b"seen",
-        Row::One,
-        server::SEEN,
-        CLIENTS,
-        before,
-        after,
-    )?;
-    words(
-        rt,
-        prefix,
-        b"volume lease",
-        Row::Volumes,
-        server::SESSION_EXPIRY,
-        CLIENT_VOLUMES,
-        before,
-        after,
-    )?;
-    words(
-        rt,
-        prefix,
-        b"unreachable",
-        Row::Volumes,
-        server::UNREACHABLE,
-        CLIENT_VOLUMES,
-        before,
-        after,
-    )?;
-    words(
-        rt,
-        prefix,
-        b"offer",
-        Row::Volumes,
-        server::OFFER,
-        CLIENT_VOLUMES,
-        before,
-        after,
-    )?;
-    words(
-        rt,
-        prefix,
-        b"notes",
-        Row::Volumes,
-        server::NOTES,
-        CLIENT_VOLUMES,
-        before,
-        after,
-    )?;
-    words(
-        rt,
-        prefix,
-        b"batch",
-        Row::Volumes,
-        server::BATCH,
-        CLIENT_VOLUMES,
-        before,
-        after,
-    )
+// A field with one element for each place of a kind.
+fn each(name: &'static str, from: usize, count: usize) -> Field {
+    Field {
+        name,
+        by: Count::One,
+        from,
+        count,
+    }
 }
 
-pub fn objects(
+// A field with an element for each client and volume.
+fn per_volume(name: &'static str, from: usize) -> Field {
+    Field {
+        name,
+        by: Count::Volumes,
+        from,
+        count: CLIENT_VOLUMES,
+    }
+}
+
+// Prints the changes in fields of the words.
+fn words(
     rt: &impl Print,
-    prefix: &[u8],
-    before: &Words,
-    values_before: &Values,
-    after: &Words,
-    values_after: &Values,
+    prefix: Prefix,
+    fields: &[Field],
+    before: State,
+    after: State,
 ) -> io::Result<()> {
-    values(
-        rt,
-        prefix,
-        b"value",
-        server::VALUE,
-        values_before,
-        values_after,
-    )?;
-    words(
-        rt,
-        prefix,
-        b"version",
-        Row::One,
-        server::VERSION,
-        SLOTS,
-        before,
-        after,
-    )?;
-    words(
-        rt,
-        prefix,
-        b"OE",
-        Row::One,
-        server::OBJECT_EXPIRY,
-        SLOTS,
-        before,
-        after,
-    )?;
-    words(
-        rt,
-        prefix,
-        b"standing",
-        Row::One,
-        server::STANDING,
-        SLOTS,
-        before,
-        after,
-    )?;
-    values(
-        rt,
-        prefix,
-        b"pending",
-        server::PENDING,
-        values_before,
-        values_after,
-    )?;
-    words(
-        rt,
-        prefix,
-        b"end",
-        Row::One,
-        server::END,
-        SLOTS,
-        before,
-        after,
-    )?;
-    words(
-        rt,
-        prefix,
-        b"object lease",
-        Row::Objects,
-        server::LEASE,
-        CLIENT_OBJECTS,
-        before,
-        after,
-    )?;
-    members(rt, prefix, b"waiting", server::WAITING, before, after)
+    let (old, new) = (before.words, after.words);
+    for field in fields {
+        changes(rt, prefix, field, old, new)?;
+    }
+    Ok(())
 }
 
-pub fn views(rt: &impl Print, prefix: &[u8], before: &Words, after: &Words) -> io::Result<()> {
-    words(
+pub fn volumes(rt: &impl Print, prefix: Prefix, before: State, after: State) -> io::Result<()> {
+    let fields = [
+        each("epoch", server::VOLUME_EPOCH, VOLUMES),
+        each("VE", server::VOLUME_EXPIRY, VOLUMES),
+        each("guard", server::GUARD, VOLUMES),
+        each("seen", server::SEEN, CLIENTS),
+        per_volume("volume lease", server::SESSION_EXPIRY),
+        per_volume("unreachable", server::UNREACHABLE),
+        per_volume("offer", server::OFFER),
+        per_volume("notes", server::NOTES),
+        per_volume("batch", server::BATCH),
+    ];
+    words(rt, prefix, &fields, before, after)
+}
+
+pub fn objects(rt: &impl Print, prefix: Prefix, before: State, after: State) -> io::Result<()> {
+    let value = each("value", server::VALUE, SLOTS);
+    let fields = [
+        each("version", server::VERSION, SLOTS),
+        each("OE", server::OBJECT_EXPIRY, SLOTS),
+        each("standing", server::STANDING, SLOTS),
+    ];
+    let pending = each("pending", server::PENDING, SLOTS);
+    let ends = [
+        each("end", server::END, SLOTS),
+        Field {
+            name: "object lease",
+            by: Count::Objects,
+            from: server::LEASE,
+            count: CLIENT_OBJECTS,
+        },
+    ];
+    let (old, new) = (before.values, after.values);
+    changes(rt, prefix, &value, old, new)?;
+    words(rt, prefix, &fields, before, after)?;
+    changes(rt, prefix, &pending, old, new)?;
+    words(rt, prefix, &ends, before, after)?;
+    members(
         rt,
         prefix,
-        b"known epoch",
-        Row::Volumes,
-        client::VIEW_EPOCH,
-        CLIENT_VOLUMES,
-        before,
-        after,
-    )?;
-    words(
-        rt,
-        prefix,
-        b"known expiry",
-        Row::Volumes,
-        client::VIEW_EXPIRY,
-        CLIENT_VOLUMES,
-        before,
-        after,
+        "waiting",
+        server::WAITING,
+        before.words,
+        after.words,
     )
+}
+
+pub fn views(rt: &impl Print, prefix: Prefix, before: State, after: State) -> io::Result<()> {
+    let fields = [
+        per_volume("known epoch", client::VIEW_EPOCH),
+        per_volume("known expiry", client::VIEW_EXPIRY),
+    ];
+    words(rt, prefix, &fields, before, after)
 }

@@ -1,7 +1,9 @@
 // 02, A5: prints the draws and the steps of three seeds, a small run file, and refusals. The expected output was worked out apart from the code.
 #![tactic(auto)]
 
-use bytes_layout::output::Report;
+ghost use Rattle.std.specs.Prelude.{◌≤◌};
+
+use protocol::refusal::Refusal;
 use protocol::setup::Setup;
 use protocol::step::Step;
 use std::io;
@@ -36,18 +38,21 @@ fn twenty_draws(rt: &impl Print, seed: u32) -> io::Result<()> {
 
 // Prints the first 10 steps of a seed: kind, client, object, place, clock, value.
 fn ten_steps(rt: &impl Print, seed: u32) -> io::Result<()> {
-    let steps = workload::steps(seed, setup(), 10).steps;
-    for k in 0..10 {
-        test_printing::step(rt, steps.items[k])?;
+    let steps = match workload::steps(seed, setup(), 10) {
+        Ok(steps) => steps,
+        Err(refusal) => return last(rt, u64::from(u8::from(refusal))),
+    };
+    for step in steps.as_slice() {
+        test_printing::step(rt, *step)?;
     }
     Ok(())
 }
 
 // Prints the refusal's number, or 0 and the number of bytes written.
-fn report(rt: &impl Print, r: Report) -> io::Result<()> {
+fn report(rt: &impl Print, r: Result<usize, Refusal>) -> io::Result<()> {
     match r {
-        Report::Written(n) => println!(rt; "0 {n}"),
-        Report::Refused(k) => last(rt, k as u64),
+        Ok(n) => println!(rt; "0 {n}"),
+        Err(refusal) => last(rt, u64::from(u8::from(refusal))),
     }
 }
 
@@ -83,12 +88,17 @@ fn sizes(rt: &impl Print) -> io::Result<()> {
     report(rt, workload::write(1, b"", s, 4001, &mut out))
 }
 
-// Writes a list of one step, whose file has 72 bytes, or of a length that may be more than a run file can have.
-fn one_step(rt: &impl Print, step: Step, len: u32) -> io::Result<()> {
-    let mut steps = file_records::list::blank(len);
-    steps.items[0] = step;
+// Writes `len` steps, of which the first is `step` and the others are zero. The file of one step has 72 bytes; more than 4,000 are refused.
+fn one_step(rt: &impl Print, step: Step, len: usize) -> io::Result<()>
+    requires { len ≤ 4002 }
+{
+    let mut steps = [file_records::no_step(); 4002];
+    steps[0] = step;
     let mut out = [0u8; 72];
-    report(rt, file_writer::write(b"", setup(), steps, &mut out))?;
+    report(
+        rt,
+        file_writer::write(b"", setup(), &steps[..len], &mut out),
+    )?;
     bytes(rt, &out)?;
     end(rt)
 }
@@ -104,7 +114,7 @@ fn given_steps(rt: &impl Print) -> io::Result<()> {
     };
     one_step(rt, read, 1)?;
     one_step(rt, read, 4001)?;
-    one_step(rt, read, 4294967295)?;
+    one_step(rt, read, 4002)?;
     // a field that a read does not use, then the same in a step of an unknown kind
     let mut odd = read;
     odd.clock = 258;
