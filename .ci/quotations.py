@@ -13,7 +13,9 @@ from collections import defaultdict
 ELSEWHERE = {"every copy shown is the value of the last write to that notice completed before it, or zero"}
 DEFINITION = re.compile(r"(?:(?:abbrev|unfoldable) (?:pub )?|(?:pub )?(?:record|data) )([^\s:({]+)")
 FIELD = re.compile(r"  (?:pub )?([^\s:({]+) :")
-CODE = re.compile(r'(?:pub )?(?:extern "C" )?(?:fn|struct|enum|const|type) (\w+)')
+CODE = re.compile(r'(?:pub )?(?:extern "C" )?(?:fn|struct|enum|const|type|trait) (\w+)')
+IMPL = re.compile(r"(?:impl|pub trait|trait)\b(?:<[^{]*?>)? (?:.* for )?(\w+)")
+METHOD = re.compile(r"    (?:pub )?(?:const )?fn (\w+)")
 
 
 def words(text):
@@ -44,7 +46,7 @@ def comments(path):
                 heading = line
             elif re.match(r"\s*(--|//)", line):
                 comment.append(line.strip()[2:].strip())
-            elif not line.startswith("#"):
+            elif not line.strip().startswith("#"):
                 record = re.findall(r"^(?:pub )?record (\S+)", line) if line[:1].strip() else record
                 yield heading, " ".join(comment), line, "".join(record)
                 comment = []
@@ -66,12 +68,15 @@ def in_code(path):
     """Yields the comments of a file of code, each with the function or type that it is about, or ""."""
     _, crate, _, file = path.removesuffix(".rt").split("/", 3)
     modules = [crate] + [part for part in file.split("/") if part not in ("lib", "main")]
-    above = ""
+    above = owner = ""
     for _, comment, line, _ in comments(path):
-        item = CODE.match(line)
+        item, method = CODE.match(line), owner and METHOD.match(line)
+        if line[:1].strip():
+            owner = IMPL.match(line)[1] if IMPL.match(line) else "" if line != "}" else owner
         if line:
             above = comment or above if line.startswith("pub const") else comment
-            yield above, "::".join(modules + [item[1]]) if item else ""
+            name = [item[1]] if item else [owner, method[1]] if method and owner[0].isupper() else []
+            yield above, "::".join(modules + name) if name else ""
 
 
 def in_edit(path):
