@@ -2,3 +2,4 @@ pub mod Records
 pub mod Bytes
 pub mod Round
 pub mod Sizes
+pub mod Room
