@@ -52,10 +52,3 @@ pub sends_batch : (w : List ℕ) (d v n : ℕ) → d < 16 → v < 8
     → message d (Batch v n (get_or w (at VOLUME_EPOCH + v) 0) (get_or w (at NOTES + by_volume d v) 0)) ≡ batching (numbers_of w) d v n
 unfolding tables_of
 sends_batch w d v n g h = rw (part_at word_lengths w VOLUME_EPOCH v h, part_at word_lengths w NOTES (by_volume d v) (omega arith))
-
--- the first number below n that passes, as a search over a range gives it
-pub first_or_end : (p : ℕ → Bool) (n : ℕ) (r : Option ℕ)
-    → MatchOption r ((k : ℕ) → 0 ≤ k → k < n → p k ≡ false) (λ i. (0 ≤ i) × (i < n) × (p i ≡ true) × ((k : ℕ) → 0 ≤ k → k < i → p k ≡ false))
-    → unwrap_or r n ≡ first_from p 0 n
-first_or_end p n None h = sym (first_nothing p 0 n (λ k a b. h k a (omega arith)) ∙ zero-add n)
-first_or_end p n (Some i) (a, b, e, h) = sym (first_known p 0 n i a (omega arith) e h)

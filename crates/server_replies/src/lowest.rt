@@ -20,6 +20,7 @@ fn waited_in(setup: Setup, words: &Words, client: usize, volume: usize, object: 
     (own == volume) & ((words[server::STANDING + object] != 0) & waited)
 }
 
+// Kept: 01 names the form, "A loop over the objects yields by break the first one of the volume whose standing write waits for this dash."
 // Returns the first object of the volume whose standing write waits for the client, "its lowest such object", or none.
 pub fn lowest_waited(setup: Setup, words: &Words, client: usize, volume: usize) -> Option<usize>
     requires setup_value { in_range setup ≡ true }
@@ -27,5 +28,15 @@ pub fn lowest_waited(setup: Setup, words: &Words, client: usize, volume: usize) 
     ensures lowest { unwrap_or result setup.objects ≡ lowest_waited setup (numbers_of words.now) client volume }
     ensures object_lt_objects { IfSome result (λ o. o < setup.objects) }
 {
-    (0..setup.objects as usize).find(|object| waited_in(setup, words, client, volume, *object))
+    let n = setup.objects as usize;
+    let mut object = 0;
+    loop {
+        if n <= object {
+            break None;
+        }
+        if waited_in(setup, words, client, volume, object) {
+            break Some(object);
+        }
+        object += 1;
+    }
 }
