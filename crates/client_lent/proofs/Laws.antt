@@ -60,7 +60,7 @@ module _ {A : Type 0} (p : A → Bool) (d : A) where
       let f : list_all p l ≡ all_from q (j + 1) (length l) = all_shifted l q (j + 1) (λ k i. ap q (omega arith) ∙ h (suc k) (omega arith)) in
       rw (e, f)
 
-  all_listed : (l : List A) → list_all p l ≡ all_from (λ k. p (get_or l k d)) 0 (length l)
+  pub all_listed : (l : List A) → list_all p l ≡ all_from (λ k. p (get_or l k d)) 0 (length l)
   all_listed l = all_shifted l (λ k. p (get_or l k d)) 0 (λ k i. ap (λ n. p (get_or l n d)) (omega arith))
 
   module _ (l : List A) (n : ℕ) (b : Bool) (e : b ≡ eqb (length l) n) where

@@ -36,10 +36,15 @@ pub fn end_request(r: &mut Request)
 }
 
 // Returns whether every request is sound.
+// Kept: a `for` with `&=`, as for the copies.
 fn all_sound(requests: &[Request], setup: Setup) -> bool
     ensures { result ≡ list_all (request_sound setup) requests.now }
 {
-    requests.iter().all(|r| request_sound(setup, *r))
+    let mut ok = true;
+    for request in requests {
+        ok &= request_sound(setup, *request);
+    }
+    ok
 }
 
 // Answers question 1 for the requests: there is one per client ("another length is unsound"), next numbers are at least 1, and the object of a standing

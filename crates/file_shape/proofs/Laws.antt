@@ -1,5 +1,5 @@
 -- Lemmas cited by the function proofs: each derives a postcondition or a loop invariant from the facts of one path or iteration.
-use Prim.Native.Nat.{ℕ, ◌+◌, ◌-◌, ◌≤◌, ◌<◌}
+use Prim.Native.Nat.{ℕ, ◌+◌, ◌≤◌, ◌<◌}
 use native.Mathlib.Omega.{arith}
 use mathlib.Core.Bool.{Bool, true, false, not, ◌&&◌, ◌||◌}
 use mathlib.Core.List.{List}
@@ -7,7 +7,7 @@ use mathlib.Core.Path.{◌≡◌, sym, ap, ◌∙◌}
 use lib.Dec.{eqb}
 use lib.ListN.{length, get_or}
 use borrow.Author.Tests.{le-leb, lt-leb}
-use Rattle.laws.specs.Loop.{all_from, Scanning, all_by, all_end}
+use Rattle.laws.specs.Loop.{Scanning, all_by, all_end}
 use Rattle.protocol.specs.declared.setup.Setup.{Setup}
 use Rattle.protocol.specs.declared.step.Step.{Step}
 use Rattle.protocol.specs.Setup.{in_range}
@@ -30,26 +30,19 @@ pub fits_by : (x : Step) (client object place name clock value k : Bool) → cli
 unfolding step_fits
 fits_by x client object place name clock value k e f g h i j l = rw (e, f, g, h, i, j, l)
 
--- ---- the loop over the records, which goes on while they fit
--- All records before k fit.
-abbrev pub Asked : List ℕ → ℕ → Type 0
-Asked l k = Scanning (step_fits_at l (first_place l)) (count_of l) true k
+-- ---- the loop over the records
+-- `ok` says whether all records before k fit.
+abbrev pub Asked : List ℕ → Bool → ℕ → Type 0
+Asked l ok k = Scanning (step_fits_at l (first_place l)) (count_of l) ok k
 
-module _ (l : List ℕ) (count k : ℕ) (n : count ≡ count_of l) (a : Asked l k) where
-  module _ (place : ℕ) (x : Step) (r : Bool) (e : place ≡ place_before l k) (h : k < count) (f : x ≡ step_in l place) (g : r ≡ step_fits x) where
-    asked_next : (r && all_from (step_fits_at l (first_place l)) (k + 1) (count_of l - (k + 1))) ≡ steps_fit l (first_place l) (count_of l)
-    asked_next =
-        let i : r ≡ step_fits_at l (first_place l) k = g ∙ ap step_fits (f ∙ ap (step_in l) (e ∙ place_is l k)) in
-        all_by (step_fits_at l (first_place l)) (count_of l) k true r _ (omega arith) i a.1
+module _ (l : List ℕ) (count k : ℕ) (ok : Bool) (n : count ≡ count_of l) (a : Asked l ok k) where
+  pub steps_again : (place : ℕ) (x : Step) (r : Bool) → place ≡ place_before l k → k < count → x ≡ step_in l place → r ≡ step_fits x → Asked l (ok && r) (k + 1)
+  steps_again place x r e h f g =
+      let i : r ≡ step_fits_at l (first_place l) k = g ∙ ap step_fits (f ∙ ap (step_in l) (e ∙ place_is l k)) in
+      (omega arith, all_by (step_fits_at l (first_place l)) (count_of l) k ok r _ (omega arith) i a.1)
 
-    pub steps_again : r ≡ true → Asked l (k + 1)
-    steps_again t = (omega arith, rw t at asked_next)
-
-    pub steps_stop : r ≡ false → false ≡ steps_fit l (first_place l) (count_of l)
-    steps_stop t = rw t at asked_next
-
-  pub steps_end : count ≤ k → true ≡ steps_fit l (first_place l) (count_of l)
-  steps_end h = all_end (step_fits_at l (first_place l)) (count_of l) k true _ (omega arith) a.1
+  pub steps_end : count ≤ k → ok ≡ steps_fit l (first_place l) (count_of l)
+  steps_end h = all_end (step_fits_at l (first_place l)) (count_of l) k ok _ (omega arith) a.1
 
 module _ (l : List ℕ) where
   pub too_short : length l < 56 → false ≡ measured l
