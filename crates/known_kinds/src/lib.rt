@@ -2,7 +2,7 @@
 // depends on the other, so this is a crate below both.
 #![tactic(auto)]
 
-ghost use Rattle.std.specs.Prelude.{◌≡◌};
+ghost use Rattle.std.specs.Prelude.{◌≡◌, ◌==◌};
 ghost use Rattle.protocol.specs.Gate.{is_clock, is_write, uses_client, uses_object, uses_place, known};
 ghost use Rattle.protocol.specs.Saved.{uses_name, known_kind};
 ghost use Rattle.known_kinds.specs.Kinds.{number_of, Numbers};
@@ -71,6 +71,14 @@ impl From<StepKind> for u8 {
     }
 }
 
+// Returns whether the step is of this kind.
+// Kept: compares numbers. A file's reader asks this of each record many times, and converting the number first costs more.
+fn is(step: Step, kind: StepKind) -> bool
+    ensures { result ≡ (step.kind == number_of kind) }
+{
+    step.kind == u8::from(kind)
+}
+
 // Returns whether the kind is one of 01's: "Is the kind 1 to 9?"
 pub fn known(step: Step) -> bool
     ensures { result ≡ known step }
@@ -82,10 +90,7 @@ pub fn known(step: Step) -> bool
 pub fn uses_name(step: Step) -> bool
     ensures { result ≡ uses_name step }
 {
-    matches!(
-        StepKind::try_from(step.kind),
-        Ok(StepKind::Save | StepKind::Return)
-    )
+    is(step, StepKind::Save) | is(step, StepKind::Return)
 }
 
 // Returns whether the kind is known, saves and returns included: "A step of an unknown kind is a refused one."
@@ -99,42 +104,33 @@ pub fn known_kind(step: Step) -> bool
 pub fn uses_client(step: Step) -> bool
     ensures { result ≡ uses_client step }
 {
-    matches!(
-        StepKind::try_from(step.kind),
-        Ok(StepKind::Read | StepKind::Ask | StepKind::RestartClient)
-    )
+    is(step, StepKind::Read) | is(step, StepKind::Ask) | is(step, StepKind::RestartClient)
 }
 
 // Returns whether the step names an object: "the .. object .. it uses".
 pub fn uses_object(step: Step) -> bool
     ensures { result ≡ uses_object step }
 {
-    matches!(
-        StepKind::try_from(step.kind),
-        Ok(StepKind::Read | StepKind::Ask | StepKind::Write)
-    )
+    is(step, StepKind::Read) | is(step, StepKind::Ask) | is(step, StepKind::Write)
 }
 
 // Returns whether the step names a place: "the .. place it uses".
 pub fn uses_place(step: Step) -> bool
     ensures { result ≡ uses_place step }
 {
-    matches!(
-        StepKind::try_from(step.kind),
-        Ok(StepKind::Deliver | StepKind::Lose | StepKind::Double)
-    )
+    is(step, StepKind::Deliver) | is(step, StepKind::Lose) | is(step, StepKind::Double)
 }
 
 // Returns whether this is a clock step; no other step uses the clock.
 pub fn uses_clock(step: Step) -> bool
     ensures { result ≡ is_clock step }
 {
-    StepKind::try_from(step.kind) == Ok(StepKind::Clock)
+    is(step, StepKind::Clock)
 }
 
 // Returns whether this is a write; no other step uses the value.
 pub fn uses_value(step: Step) -> bool
     ensures { result ≡ is_write step }
 {
-    StepKind::try_from(step.kind) == Ok(StepKind::Write)
+    is(step, StepKind::Write)
 }

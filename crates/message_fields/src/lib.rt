@@ -228,6 +228,8 @@ impl TryFrom<Fields> for Message {
     ghost try_from_gives = { λ f r. r ≡ accepted f };
 
     // Returns the message with these fields; refuses fields that no message has.
+    // Kept: inlined, with `sound`, so that encoding and decoding a frame build no message in memory.
+    #[inline(always)]
     #[tactic(auto, unfolding(crate::specs::Fields::accepted))]
     fn try_from(f: Fields) -> Result<Message, Refusal> {
         if sound(f) {
@@ -259,6 +261,7 @@ fn no_lease(f: Fields) -> bool
 // Returns whether these are the fields of a message: the kind is known, "Fields a kind lacks are 0", and a GRANT's value flag is right. Any version is
 // a set of a BATCH or a CLEARED here.
 // Kept: arms with the same value apart, since an or-pattern of numbers is split by ranges, and its goals then have no stable names.
+#[inline(always)]
 #[tactic(auto, using(crate::proofs::Questions::asked), unfolding(crate::specs::Questions::right))]
 pub fn sound(f: Fields) -> bool
     ensures { result ≡ sound f }

@@ -64,6 +64,7 @@ pub fn write(
 ) -> Result<usize, Refusal>
     ensures { Reports (file_refusal (length note.now) setup count (length out.old)) (file_bytes note.now setup (workload setup seed count)) out.old out.new result }
 {
-    let steps = steps(seed, setup, count)?;
+    refusal(setup, count)?;
+    let steps = drawn_steps(seed, setup, count);
     file_writer::write(note, setup, steps.as_slice(), out)
 }
