@@ -25,7 +25,11 @@ impl<'a> Iterator for Numbers<'a> {
     ghost remaining = { λ s. at_most (length s.rest.now) };
 
     fn next(&mut self) -> Option<u64> {
-        let start = self.rest.iter().position(|b| b.is_ascii_digit())?;
+        let Some(start) = self.rest.iter().position(|b| b.is_ascii_digit()) else {
+            // No number is left, and the text is not searched again for one.
+            self.rest = &self.rest[..0];
+            return None;
+        };
         let (first, after) = self.rest[start..].split_first()?;
         let end = after.iter().position(|b| !b.is_ascii_digit());
         let (digits, rest) = after.split_at(end.unwrap_or(after.len()));

@@ -73,7 +73,7 @@ fn small_files(rt: &impl Print) -> io::Result<()> {
     end(rt)
 }
 
-// Writes the longest file with the most steps, then one byte and one step too many. A setup out of range is refused before too many steps.
+// Writes the longest file with the most steps, then one byte too many, one step too many, and the largest count. A setup out of range is refused before too many steps.
 fn sizes(rt: &impl Print) -> io::Result<()> {
     let mut out = [0u8; 65537];
     let note = [0u8; 1481];
@@ -83,6 +83,7 @@ fn sizes(rt: &impl Print) -> io::Result<()> {
     )?;
     report(rt, workload::write(1, &note, setup(), 4000, &mut out))?;
     report(rt, workload::write(1, b"", setup(), 4001, &mut out))?;
+    report(rt, workload::write(1, b"", setup(), 4294967295, &mut out))?;
     let mut s = setup();
     s.clients = 17;
     report(rt, workload::write(1, b"", s, 4001, &mut out))
